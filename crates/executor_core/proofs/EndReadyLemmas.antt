@@ -1,0 +1,133 @@
+-- What the end of a ready task and a poll of a handle keep and give.
+use Rattle.std.proofs.Common.{◌≡◌, ℕ, ◌+◌, ◌||◌, ◌&&◌, Bool, true, false, not, List, length, set, get_or, Option, Some, None, cond, refl, sym, ap, ◌∙◌, arith}
+use Rattle.executor_core.specs.Table.{Table}
+use Rattle.executor_core.specs.States.{is_idle, is_held, is_scheduled, is_undropped}
+use Rattle.executor_core.specs.TableView.{numbers_of, table_of, IsSound}
+use Rattle.executor_core.specs.Calls.{cell_at, with_cell, without_cell, end_ready_at, ready_answer, held_in, handle_in, poll_handle_at, poll_answer, ended_answer}
+use Rattle.executor_core.specs.CellChanges.{readied, awaited, output_of, wakeup_of}
+use Rattle.executor_core.proofs.TableLemmas.{table_set, cell_at_some}
+use Rattle.executor_core.proofs.WriteLemmas.{kept_sound}
+use Rattle.executor_core.specs.declared.task.cell.Cell.{Cell}
+use Rattle.executor_core.specs.declared.task.cell.Numbered.{Numbered}
+use Rattle.executor_core.specs.declared.task.values.TaskId.{TaskId}
+use Rattle.executor_core.specs.declared.task.cell.State.{State}
+use Rattle.executor_core.specs.declared.task.cell.State.TheVariants.{Idle, Scheduled, Held, Finished, Gone}
+use Rattle.std.proofs.Common.{◌-◌, add-zero}
+use Rattle.executor_core.specs.declared.task.table.EndReady.{EndReady}
+use Rattle.executor_core.specs.declared.task.values.Wakeup.{Wakeup}
+use Rattle.executor_core.specs.declared.task.table.PollHandle.TheVariants.{Cancelled, Pending}
+use Rattle.executor_core.proofs.SlotLemmas.{Changes}
+use Rattle.executor_core.proofs.TableLemmas.{put_sound}
+use Rattle.executor_core.proofs.WriteLemmas.{law_at}
+use Rattle.executor_core.proofs.RemoveLemmas.{remove_sound, counted_one}
+
+module _ {P T : Type 0} where
+  pub held_state : (s : State P T) → is_held s ≡ true → (is_scheduled s ≡ false) × ((is_idle s || is_held s) ≡ true)
+  held_state (Idle p) h = absurd (cc)
+  held_state (Scheduled p) h = absurd (cc)
+  held_state Held h = (refl, refl)
+  held_state (Finished t) h = absurd (cc)
+  held_state Gone h = absurd (cc)
+
+  pub ended_state : (s : State P T) → is_undropped s ≡ false → (is_scheduled s ≡ false) × ((is_idle s || is_held s) ≡ false)
+  ended_state (Idle p) h = absurd (cc)
+  ended_state (Scheduled p) h = absurd (cc)
+  ended_state Held h = absurd (cc)
+  ended_state (Finished t) h = (refl, refl)
+  ended_state Gone h = (refl, refl)
+
+  readied_state : (b : Bool) (s : State P T) (t : T) → s ≡ cond b Gone (Finished t) → (is_scheduled s ≡ false) × ((is_idle s || is_held s) ≡ false)
+  readied_state true s t e = rw e (refl, refl)
+  readied_state false s t e = rw e (refl, refl)
+
+arith_end : (u l : ℕ) {a b : Bool} → (u - 1) + 1 ≡ u → a ≡ true → b ≡ false → (u - 1) + (l + cond a 1 0) ≡ u + (l + cond b 1 0)
+arith_end u l e f g = rw (f, g) (omega arith)
+
+module _ {P T W : Type 0} where
+  pub ready_sound : {next capacity undropped : ℕ} {slots : List (Option (Numbered (Cell P T W)))} {ids : List TaskId}
+      → IsSound next slots ids capacity undropped
+      → (key : ℕ) (e : Numbered (Cell P T W)) (t : T) → get_or slots key None ≡ Some e → is_held e.cell.state ≡ true → e.cell.has_handle ≡ true
+      → IsSound next (set slots key (Some (record { number = e.number; cell = readied e.cell t }))) ids capacity (undropped - 1)
+  ready_sound {undropped = undropped} {ids = ids} sound key e t there held handle =
+      let facts = held_state e.cell.state held in
+      let after = readied_state e.cell.cancelled (readied e.cell t).state t refl in
+      let one = counted_one sound key e there facts.1 in
+      let room = sound.room in
+      put_sound sound key e (readied e.cell t) there ids _ (undropped - 1) (omega arith) (λ dropped. (refl, handle)) sound.placed
+      (law_at sound key e there ∙ ap (λ b. cond b 1 0) (facts.0 ∙ sym after.0))
+      (λ q far. refl)
+      (arith_end undropped (length ids) one facts.1 after.1)
+
+  pub leave_sound : {next capacity undropped : ℕ} {slots : List (Option (Numbered (Cell P T W)))} {ids : List TaskId}
+      → IsSound next slots ids capacity undropped
+      → (key : ℕ) (e : Numbered (Cell P T W)) → get_or slots key None ≡ Some e → is_held e.cell.state ≡ true
+      → (new : List (Option (Numbered (Cell P T W)))) → Changes slots new key None
+      → IsSound next new ids capacity (undropped - 1)
+  leave_sound {undropped = undropped} sound key e there held new changes =
+      let facts = held_state e.cell.state held in
+      remove_sound sound key e there facts.0 new changes (undropped - 1) (ap (λ b. (undropped - 1) + cond b 1 0) facts.1 ∙ counted_one sound key e there facts.1)
+
+  pub ready_nothing : (table : Table P T W) (id : TaskId) (t : T) (o : Option (Cell P T W)) → held_in o ≡ false → end_ready_at table id t o ≡ table
+  ready_nothing table id t None h = refl
+  ready_nothing table id t (Some c) h = ap (λ b. cond b (cond c.has_handle (with_cell table id (readied c t)) (without_cell table id)) table) h
+
+  pub ready_unwanted : (t : T) (o : Option (Cell P T W)) → held_in o ≡ false → ready_answer t o ≡ record { awaiter = None; unwanted = Some t }
+  ready_unwanted t None h = refl
+  ready_unwanted t (Some c) h = rw h refl
+
+  pub readied_some : (table : Table P T W) (id : TaskId) (t : T) (c : Cell P T W) {b : Bool} → is_held c.state ≡ true → c.has_handle ≡ b → end_ready_at table id t (Some c) ≡ cond b (with_cell table id (readied c t)) (without_cell table id)
+  readied_some table id t c held handle = rw (held, handle) refl
+
+  pub answer_some : (t : T) (c : Cell P T W) {b : Bool} → is_held c.state ≡ true → c.has_handle ≡ b → ready_answer t (Some c) ≡ record { awaiter = wakeup_of c.awaiter; unwanted = cond (b && not c.cancelled) None (Some t) }
+  answer_some t c held handle = rw (held, handle) refl
+
+  pub known : {next capacity undropped : ℕ} {slots : List (Option (Numbered (Cell P T W)))} {ids : List TaskId}
+      → IsSound next slots ids capacity undropped
+      → (id : TaskId) (e : Numbered (Cell P T W)) → get_or slots id.slot None ≡ Some e → e.number ≡ id.number → cell_at (table_of next slots ids) id ≡ Some e.cell
+  known {next} {slots = slots} {ids = ids} sound id e there number = cell_at_some next slots ids id e sound.distinct there number
+
+  pub await_sound : {next capacity undropped : ℕ} {slots : List (Option (Numbered (Cell P T W)))} {ids : List TaskId}
+      → IsSound next slots ids capacity undropped
+      → (id : TaskId) (e : Numbered (Cell P T W)) (w : W) → get_or slots id.slot None ≡ Some e → is_undropped e.cell.state ≡ true
+      → IsSound next (set slots id.slot (Some (record { number = e.number; cell = awaited e.cell w }))) ids capacity undropped
+  await_sound sound id e w there undropped =
+      kept_sound sound id e (awaited e.cell w) there refl refl (λ dropped. absurd (cc (undropped, dropped)))
+
+  pub end_handle_sound : {next capacity undropped : ℕ} {slots : List (Option (Numbered (Cell P T W)))} {ids : List TaskId}
+      → IsSound next slots ids capacity undropped
+      → (key : ℕ) (e : Numbered (Cell P T W)) → get_or slots key None ≡ Some e → is_undropped e.cell.state ≡ false
+      → (new : List (Option (Numbered (Cell P T W)))) → Changes slots new key None
+      → IsSound next new ids capacity undropped
+  end_handle_sound {undropped = undropped} sound key e there dropped new changes =
+      let facts = ended_state e.cell.state dropped in
+      remove_sound sound key e there facts.0 new changes undropped (ap (λ b. undropped + cond b 1 0) facts.1 ∙ add-zero undropped)
+
+  pub poll_nothing : (table : Table P T W) (id : TaskId) (w : W) (o : Option (Cell P T W)) → handle_in o ≡ false → poll_handle_at table id w o ≡ table
+  poll_nothing table id w None h = refl
+  poll_nothing table id w (Some c) h = rw h refl
+
+  pub poll_absent : (w : W) (o : Option (Cell P T W)) → handle_in o ≡ false → poll_answer w o ≡ Cancelled w
+  poll_absent w None h = refl
+  poll_absent w (Some c) h = rw h refl
+
+  pub polled_some : (table : Table P T W) (id : TaskId) (w : W) (c : Cell P T W) {b : Bool} → c.has_handle ≡ true → is_undropped c.state ≡ b → poll_handle_at table id w (Some c) ≡ cond b (with_cell table id (awaited c w)) (without_cell table id)
+  polled_some table id w c handle undropped = rw (handle, undropped) refl
+
+  pub poll_some : (w : W) (c : Cell P T W) {b : Bool} → c.has_handle ≡ true → is_undropped c.state ≡ b → poll_answer w (Some c) ≡ cond b (Pending c.awaiter) (ended_answer w (output_of c.state))
+  poll_some w c handle undropped = rw (handle, undropped) refl
+
+  pub set_table : {next capacity undropped : ℕ} {slots : List (Option (Numbered (Cell P T W)))} {ids : List TaskId}
+      → IsSound next slots ids capacity undropped
+      → (id : TaskId) (e : Numbered (Cell P T W)) (c : Cell P T W) → get_or slots id.slot None ≡ Some e → e.number ≡ id.number
+      → table_of next (set slots id.slot (Some (record { number = e.number; cell = c }))) ids ≡ with_cell (table_of next slots ids) id c
+  set_table {next} {slots = slots} {ids = ids} sound id e c there number = table_set next slots ids ids id e c (numbers_of ids) sound.distinct there number refl
+
+  pub answer_kept : (t : T) (c : Cell P T W) → is_held c.state ≡ true → c.has_handle ≡ true → ready_answer t (Some c) ≡ record { awaiter = wakeup_of c.awaiter; unwanted = cond c.cancelled (Some t) None }
+  answer_kept t c held handle = answer_some t c held handle ∙ by c.cancelled
+    where
+      by : (b : Bool) → ◌≡◌ {A = EndReady T W} (record { awaiter = wakeup_of c.awaiter; unwanted = cond (true && not b) None (Some t) }) (record { awaiter = wakeup_of c.awaiter; unwanted = cond b (Some t) None })
+      by true = refl
+      by false = refl
+
+abbrev pub end_ready_of : {T W : Type 0} → Option (Wakeup W) → Option T → EndReady T W
+end_ready_of a u = record { awaiter = a; unwanted = u }

@@ -1,0 +1,10 @@
+pub mod CountLemmas
+pub mod EndPendingLemmas
+pub mod EndReadyLemmas
+pub mod RemoveLemmas
+pub mod SlotLemmas
+pub mod SpawnLemmas
+pub mod TableLemmas
+pub mod TakeLemmas
+pub mod WakeLemmas
+pub mod WriteLemmas

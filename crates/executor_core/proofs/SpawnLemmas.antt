@@ -1,0 +1,223 @@
+-- What a spawn keeps and gives.
+use Rattle.std.proofs.Common.{◌≡◌, ◌≢◌, ℕ, suc, ◌+◌, ◌≤◌, ◌==◌, ◌||◌, Bool, true, false, List, [], ◌∷◌, ◌++◌, length, get_or, Option, Some, None, cond, refl, sym, ap, subst, ◌∙◌, inl, inr, arith, length-append}
+use Rattle.std.specs.FinMap as map
+use Rattle.std.specs.Ordering.{nat_cmp}
+use Rattle.executor_core.specs.Table.{Slotted}
+use Rattle.executor_core.specs.States.{is_idle, is_held, is_scheduled, times, scheduled_in, is_undropped, LockLaw}
+use Rattle.executor_core.specs.TableView.{seen, cells_of, numbers_of, table_of, Placed, IsSound, Settled, is_queueable}
+use Rattle.executor_core.specs.CellChanges.{new_cell}
+use Rattle.executor_core.specs.Calls.{after_spawn, IsFree, empty_table, AllDropped}
+use Rattle.executor_core.proofs.TableLemmas.{same_table}
+use Rattle.executor_core.proofs.SlotLemmas.{sees_get, get_sees}
+use Rattle.executor_core.proofs.WriteLemmas.{front_cell}
+use Rattle.executor_core.specs.declared.task.cell.Cell.{Cell}
+use Rattle.executor_core.specs.declared.task.cell.Numbered.{Numbered}
+use Rattle.executor_core.specs.declared.task.values.TaskId.{TaskId}
+use Rattle.executor_core.specs.declared.task.cell.State.{State}
+use Rattle.executor_core.specs.declared.task.cell.State.TheVariants.{Idle, Scheduled, Held, Finished, Gone}
+use Rattle.std.proofs.lemmas.List.Elements.{All-push, All-weaker, All-nil}
+use Rattle.std.proofs.Common.{count_by}
+use Rattle.std.proofs.lemmas.List.Sums.{count_by-le-length}
+use Rattle.std.proofs.lemmas.Bool.{cases_eq}
+use Rattle.std.specs.List.{All}
+use Rattle.executor_core.proofs.SlotLemmas.{insert_same, insert_other, Fits, Changes, put_distinct, cells_of-put, get-cells_of}
+use Rattle.executor_core.proofs.TableLemmas.{law_put, times-push_same, times-push_other, numbers_of-push}
+use Rattle.executor_core.proofs.CountLemmas.{recounted, at_least, all_zero}
+use Rattle.executor_core.proofs.WriteLemmas.{law_at}
+
+length-numbers_of : (ids : List TaskId) → length (numbers_of ids) ≡ length ids
+length-numbers_of [] = refl
+length-numbers_of (id ∷ ids) = ap suc (length-numbers_of ids)
+
+none_of : {X : Type 0} (o : Option X) → ((x : X) → o ≡ Some x → ⊥) → o ≡ None
+none_of None h = refl
+none_of (Some x) h = absurd (h x refl)
+
+counts : (u a b s t : ℕ) → u ≡ a + s → b ≡ a + 1 → t + 0 ≡ s + 0 → u + 1 ≡ b + t
+counts u a b s t p q r = omega arith
+
+module _ {P T : Type 0} where
+  dropped_by : (s : State P T) → (is_idle s || is_held s) ≡ false → is_scheduled s ≡ false → is_undropped s ≡ false
+  dropped_by (Idle p) h k = absurd (cc)
+  dropped_by (Scheduled p) h k = absurd (cc)
+  dropped_by Held h k = absurd (cc)
+  dropped_by (Finished t) h k = refl
+  dropped_by Gone h k = refl
+
+  by_dropped : (s : State P T) → is_undropped s ≡ false → ((is_idle s || is_held s) ≡ false) × (is_scheduled s ≡ false)
+  by_dropped (Idle p) h = absurd (cc)
+  by_dropped (Scheduled p) h = absurd (cc)
+  by_dropped Held h = absurd (cc)
+  by_dropped (Finished t) h = (refl, refl)
+  by_dropped Gone h = (refl, refl)
+
+no_one : (b : Bool) → cond b 1 0 ≤ 0 → b ≡ false
+no_one true h = absurd (omega arith)
+no_one false h = refl
+
+module _ {P T W : Type 0} where
+  weight : Option (Numbered (Cell P T W)) → ℕ
+  weight o = cond (is_queueable o) 1 0
+
+  -- the same cells, with more room
+  pub roomier : {next capacity undropped : ℕ} {slots : List (Option (Numbered (Cell P T W)))} {ids : List TaskId}
+      → IsSound next slots ids capacity undropped → (room : ℕ) → capacity ≤ room → IsSound next slots ids room undropped
+  roomier sound room more =
+      let was = sound.room in
+      record { below = sound.below; distinct = sound.distinct; placed = sound.placed; law = sound.law; settled = sound.settled; counted = sound.counted; room = omega arith }
+
+  -- the next number has no cell
+  fresh : {next capacity undropped : ℕ} {slots : List (Option (Numbered (Cell P T W)))} {ids : List TaskId}
+      → IsSound next slots ids capacity undropped → map.get (cells_of slots) next ≡ None
+  fresh {next} {slots = slots} sound =
+      none_of _ (λ t found.
+      let sees = get_sees slots next t found in
+      let below = sound.below sees.at sees.cell sees.there in
+      let same = sees.number in
+      omega arith)
+
+  new_fits : {next capacity undropped : ℕ} {slots : List (Option (Numbered (Cell P T W)))} {ids : List TaskId}
+      → IsSound next slots ids capacity undropped → (key : ℕ) → get_or slots key None ≡ None → Fits slots key next
+  new_fits sound key vacant =
+      record {
+        free = λ at d there same. let below = sound.below at d there in absurd (omega arith);
+        own = λ d there. absurd (cc);
+      }
+
+  kept_beside : (m : map.FinMap nat_cmp (Slotted P T W)) (n : ℕ) (slotted : Slotted P T W) → map.get m n ≡ None → (other : TaskId) → Placed m other → Placed (map.insert m n slotted) other
+  kept_beside m n slotted none other placed =
+      let far : other.number ≢ n = λ same. absurd (some_none _ (sym placed.1 ∙ ap (map.get m) same ∙ none)) in
+      (placed.0, insert_other m n slotted other.number far ∙ placed.1, placed.2)
+    where
+      some_none : {X : Type 0} (x : X) → Some x ≡ None → ⊥
+      some_none x e = cc
+
+  -- the slots keep their count where neither old nor new slot may be queued later
+  same_count : (old new : List (Option (Numbered (Cell P T W)))) (key : ℕ) (slot : Option (Numbered (Cell P T W))) → Changes old new key slot
+      → count_by is_queueable new + cond (is_queueable (get_or old key None)) 1 0 ≡ count_by is_queueable old + cond (is_queueable slot) 1 0
+  same_count old new key slot changes =
+      recounted (λ o. cond (is_queueable o) 1 0) refl old new key changes.others
+      ∙ ap (λ o. count_by is_queueable old + cond (is_queueable o) 1 0) changes.changed
+
+  pub spawn_sound : {next capacity undropped : ℕ} {slots : List (Option (Numbered (Cell P T W)))} {ids later : List TaskId}
+      → IsSound next slots ids capacity undropped
+      → (p : P) (new : List (Option (Numbered (Cell P T W)))) (key : ℕ) → get_or slots key None ≡ None
+      → Changes slots new key (Some (record { number = next; cell = new_cell p }))
+      → later ≡ ids ++ record { number = next; slot = key } ∷ []
+      → (room : ℕ) → undropped + 1 ≤ room
+      → IsSound (next + 1) new later room (undropped + 1)
+  spawn_sound {next} {undropped = undropped} {slots = slots} {ids = ids} {later = later} sound p new key vacant changes longer room enough =
+      let f : Numbered (Cell P T W) = record { number = next; cell = new_cell p } in
+      let id : TaskId = record { number = next; slot = key } in
+      let m = cells_of slots in
+      let fits = new_fits sound key vacant in
+      let cells : cells_of new ≡ map.insert m next (seen key (new_cell p)) = cells_of-put slots new key f sound.distinct fits changes in
+      let lists : numbers_of later ≡ numbers_of ids ++ next ∷ [] = ap numbers_of longer ∙ numbers_of-push ids id in
+      let none = fresh sound in
+      let was : times next (numbers_of ids) ≡ 0 = sound.law next ∙ ap (λ o. cond (scheduled_in o) 1 0) none in
+      let more : times next (numbers_of ids ++ next ∷ []) ≡ times next (numbers_of ids) + 1 = times-push_same next (numbers_of ids) in
+      let once : times next (numbers_of ids ++ next ∷ []) ≡ 1 = omega (arith, was, more) in
+      record {
+        below = λ i d found. elim (cases_eq i key) [
+          | inl here ↦
+              let is : d ≡ f = cc (ap (λ k. get_or new k None) here, found, changes.changed) in
+              let number : d.number ≡ next = ap (λ x. x.number) is in
+              omega arith
+          | inr far ↦ let below = sound.below i d (sym (changes.others i far) ∙ found) in omega arith
+        ];
+        distinct = put_distinct slots new key f sound.distinct fits changes;
+        placed = subst (λ n. All (Placed n) later) (sym cells) (subst (All (Placed (map.insert m next (seen key (new_cell p))))) (sym longer)
+            (All-push (Placed (map.insert m next (seen key (new_cell p)))) ids id
+            (All-weaker (Placed m) (Placed (map.insert m next (seen key (new_cell p)))) (kept_beside m next (seen key (new_cell p)) none) ids sound.placed)
+            (seen key (new_cell p), insert_same m next (seen key (new_cell p)) next refl, refl)));
+        law = subst (λ n. LockLaw n (numbers_of later)) (sym cells)
+            (law_put m (numbers_of ids) (numbers_of later) next (seen key (new_cell p)) sound.law (ap (times next) lists ∙ once) (λ q far. ap (times q) lists ∙ times-push_other q next (numbers_of ids) far));
+        counted = counts _ _ _ _ _ sound.counted (ap length longer ∙ length-append ids (id ∷ [])) (ap (λ o. count_by is_queueable new + cond (is_queueable o) 1 0) (sym vacant) ∙ same_count slots new key (Some f) changes);
+        room = enough;
+        settled = λ i d found. elim (cases_eq i key) [
+          | inl here ↦
+              let is : d ≡ f = cc (ap (λ k. get_or new k None) here, found, changes.changed) in
+              subst (λ x. Settled x.cell) (sym is) (λ dropped. absurd (cc (dropped)))
+          | inr far ↦ sound.settled i d (sym (changes.others i far) ∙ found)
+        ];
+      }
+
+  pub spawn_table : {next capacity undropped : ℕ} {slots : List (Option (Numbered (Cell P T W)))} {ids later : List TaskId}
+      → IsSound next slots ids capacity undropped
+      → (p : P) (new : List (Option (Numbered (Cell P T W)))) (key : ℕ) → get_or slots key None ≡ None
+      → Changes slots new key (Some (record { number = next; cell = new_cell p }))
+      → later ≡ ids ++ record { number = next; slot = key } ∷ []
+      → table_of (next + 1) new later ≡ after_spawn (table_of next slots ids) key p
+  spawn_table {next} {slots = slots} {ids = ids} sound p new key vacant changes longer =
+      same_table (next + 1) _ _ _ _
+      (cells_of-put slots new key (record { number = next; cell = new_cell p }) sound.distinct (new_fits sound key vacant) changes)
+      (ap numbers_of longer ∙ numbers_of-push ids (record { number = next; slot = key }))
+
+  pub spawn_free : {next capacity undropped : ℕ} {slots : List (Option (Numbered (Cell P T W)))} {ids : List TaskId}
+      → IsSound next slots ids capacity undropped
+      → (key : ℕ) → get_or slots key None ≡ None → IsFree (table_of next slots ids) key
+  spawn_free {slots = slots} sound key vacant n s found taken =
+      let sees = get_sees slots n s found in
+      let zero_at : 0 + sees.at ≡ sees.at = omega arith in
+      let place : sees.at ≡ key = sym (ap (λ x. x.slot) sees.is ∙ zero_at) ∙ taken in
+      let both : Some sees.cell ≡ None = sym sees.there ∙ ap (λ k. get_or slots k None) place ∙ vacant in
+      cc
+
+  pub empty_sound : (first room : ℕ) → IsSound {P = P} {T = T} {W = W} first [] [] room 0
+  empty_sound first room =
+      record {
+        below = λ i c found. absurd (cc);
+        distinct = λ i j c d found e. absurd (cc);
+        placed = All-nil (Placed (cells_of []));
+        law = λ n. sym (ap (λ o. cond (scheduled_in {P = P} {T = T} {W = W} o) 1 0) (get-cells_of {P = P} {T = T} {W = W} [] n));
+        counted = refl;
+        room = omega arith;
+        settled = λ i c found. absurd (cc);
+      }
+
+  pub empty_is : (first : ℕ) → table_of {P = P} {T = T} {W = W} first [] [] ≡ empty_table first
+  unfolding cells_of
+  empty_is first = refl
+
+  -- nothing is undropped where the count is zero
+  pub all_dropped : {next capacity : ℕ} {slots : List (Option (Numbered (Cell P T W)))} {ids : List TaskId}
+      → IsSound next slots ids capacity 0 → AllDropped (table_of next slots ids)
+  all_dropped {slots = slots} {ids = ids} sound n s found =
+      let sees = get_sees slots n s found in
+      let part : cond (is_queueable (get_or slots sees.at None)) 1 0 ≤ count_by is_queueable slots = at_least (λ o. cond (is_queueable o) 1 0) refl slots sees.at in
+      let counted = sound.counted in
+      let none : cond (is_queueable (get_or slots sees.at None)) 1 0 ≤ 0 = omega arith in
+      let may : is_queueable (Some sees.cell) ≡ false = sym (ap is_queueable sees.there) ∙ no_one _ none in
+      let law : times sees.cell.number (numbers_of ids) ≡ cond (is_scheduled sees.cell.cell.state) 1 0 = law_at sound sees.at sees.cell sees.there in
+      let short : times sees.cell.number (numbers_of ids) ≤ length (numbers_of ids) = count_by-le-length (λ k. k == sees.cell.number) (numbers_of ids) in
+      let same : length (numbers_of ids) ≡ length ids = length-numbers_of ids in
+      let queued : cond (is_scheduled sees.cell.cell.state) 1 0 ≤ 0 = omega arith in
+      ap (λ x. is_undropped x.cell.state) sees.is ∙ dropped_by sees.cell.cell.state may (no_one _ queued)
+
+  pub none_undropped : {next capacity undropped : ℕ} {slots : List (Option (Numbered (Cell P T W)))} {ids : List TaskId}
+      → IsSound next slots ids capacity undropped → AllDropped (table_of next slots ids) → undropped ≡ 0
+  none_undropped {slots = slots} {ids = ids} sound dropped =
+      let empty : length ids ≡ 0 = no_ids ids refl in
+      let none : count_by is_queueable slots ≡ 0 = all_zero (λ o. cond (is_queueable o) 1 0) refl slots (λ k. by_slot k (get_or slots k None) refl) in
+      let counted = sound.counted in
+      omega arith
+    where
+      state_of : (k : ℕ) (e : Numbered (Cell P T W)) → get_or slots k None ≡ Some e → ((is_idle e.cell.state || is_held e.cell.state) ≡ false) × (is_scheduled e.cell.state ≡ false)
+      state_of k e there = by_dropped e.cell.state (dropped e.number (seen k e.cell) (sees_get slots sound.distinct k e there))
+
+      by_slot : (k : ℕ) (o : Option (Numbered (Cell P T W))) → get_or slots k None ≡ o → cond {A = ℕ} (is_queueable o) 1 0 ≡ 0
+      by_slot k None is = refl
+      by_slot k (Some e) is = let facts = state_of k e is in ap (λ b. cond {A = ℕ} b 1 0) facts.0
+
+      no_ids : (l : List TaskId) → ids ≡ l → length l ≡ 0
+      no_ids [] is = refl
+      no_ids (id ∷ rest) is =
+          let at = front_cell sound id is in
+          let facts = state_of id.slot at.0 at.1 in
+          let both : true ≡ false = sym at.3 ∙ facts.1 in
+          absurd (cc)
+
+  -- the slots are the same list by another name
+  pub regrown : {next capacity undropped : ℕ} {slots : List (Option (Numbered (Cell P T W)))} {ids : List TaskId}
+      → IsSound next slots ids capacity undropped → (same : List (Option (Numbered (Cell P T W)))) → same ≡ slots → IsSound next same ids capacity undropped
+  regrown {next} {capacity} {undropped} {slots} {ids} sound same is = subst (λ l. IsSound next l ids capacity undropped) (sym is) sound

@@ -1,0 +1,156 @@
+-- What keeps `IsSound`, and what is then seen.
+use Rattle.std.proofs.Common.{◌≡◌, ◌≢◌, ℕ, ◌+◌, ◌<◌, ◌≤◌, ◌==◌, ◌||◌, Bool, true, false, List, [], ◌∷◌, ◌++◌, length, set, get_or, Option, Some, None, cond, refl, sym, ap, subst, ◌∙◌, inl, inr, arith}
+use Rattle.std.proofs.lemmas.Bool.{cases_eq, eqb-true, eq-eqb, ne_eqb}
+use Rattle.std.proofs.lemmas.List.{get_or-set_same, get_or-set_other, get_or_past}
+use Rattle.std.proofs.lemmas.List.Sums.{sum_by-set, sum_by-append}
+use Rattle.std.proofs.lemmas.List.Elements.{All-weaker}
+use Rattle.std.specs.List.{All}
+use Rattle.std.specs.Ordering.{nat_cmp}
+use Rattle.std.specs.FinMap as map
+use Rattle.executor_core.specs.Table.{Slotted, Table}
+use Rattle.executor_core.specs.TableView.{is_numbered, seen, cells_of, Distinct, is_queueable, numbers_of, table_of, Placed, IsSound, Settled}
+use Rattle.executor_core.specs.States.{is_idle, is_held, is_scheduled, scheduled_in, times, LockLaw}
+use Rattle.executor_core.specs.Calls.{cell_at, with_cell, in_slot}
+use Rattle.executor_core.proofs.SlotLemmas.{insert_same, insert_other, get_sees, sees_get, Changes, fits_itself, put_distinct, cells_of-put}
+use Rattle.executor_core.specs.declared.task.cell.Cell.{Cell}
+use Rattle.executor_core.specs.declared.task.cell.Numbered.{Numbered}
+use Rattle.executor_core.specs.declared.task.values.TaskId.{TaskId}
+
+pub times-push_same : (n : ℕ) (numbers : List ℕ) → times n (numbers ++ n ∷ []) ≡ times n numbers + 1
+times-push_same n numbers = sum_by-append (λ k. cond (k == n) 1 0) numbers (n ∷ []) ∙ rw (eq-eqb n n refl) refl
+
+pub times-push_other : (q n : ℕ) (numbers : List ℕ) → q ≢ n → times q (numbers ++ n ∷ []) ≡ times q numbers
+times-push_other q n numbers far =
+    let other : (n == q) ≡ false = ne_eqb n q (λ e. far (sym e)) in
+    sum_by-append (λ k. cond (k == q) 1 0) numbers (n ∷ []) ∙ rw other (omega arith)
+
+module _ {P T W : Type 0} where
+  -- a law that is kept where one cell changes, and the number is queued where it becomes scheduled
+  pub law_put : (m : map.FinMap nat_cmp (Slotted P T W)) (numbers later : List ℕ) (n : ℕ) (s : Slotted P T W)
+      → LockLaw m numbers
+      → times n later ≡ cond (is_scheduled s.cell.state) 1 0
+      → ((q : ℕ) → q ≢ n → times q later ≡ times q numbers)
+      → LockLaw (map.insert m n s) later
+  law_put m numbers later n s law here others q =
+      elim (cases_eq q n) [
+        | inl same ↦ ap (λ k. times k later) same ∙ here ∙ ap (λ x. cond (scheduled_in x) 1 0) (sym (insert_same m n s q same))
+        | inr far ↦ others q far ∙ law q ∙ ap (λ x. cond (scheduled_in x) 1 0) (sym (insert_other m n s q far))
+      ]
+
+recount : (u v a b s t w y g : ℕ) → u ≡ a + s → t + g ≡ s + y → g ≡ w → v + (a + w) ≡ u + (b + y) → v ≡ b + t
+recount u v a b s t w y g p q r h = omega arith
+
+pub numbered_some : {C : Type 0} (n : ℕ) (o : Option (Numbered C)) → is_numbered n o ≡ true → (e : Numbered C) × (o ≡ Some e) × (e.number ≡ n)
+numbered_some n None h = absurd (cc)
+numbered_some n (Some e) h = (e, refl, eqb-true e.number n h)
+
+pub numbered_is : {C : Type 0} (n : ℕ) (o : Option (Numbered C)) (e : Numbered C) → o ≡ Some e → e.number ≡ n → is_numbered n o ≡ true
+numbered_is n o e is same = ap (is_numbered n) is ∙ eq-eqb e.number n same
+
+pub number_at : {C : Type 0} (n : ℕ) (o : Option (Numbered C)) (e : Numbered C) → o ≡ Some e → is_numbered n o ≡ true → e.number ≡ n
+number_at n o e is h = eqb-true e.number n (sym (ap (is_numbered n) is) ∙ h)
+
+module _ {P T W : Type 0} where
+  in_slot_none : (slot : ℕ) (o : Option (Slotted P T W)) → ((s : Slotted P T W) → o ≡ Some s → s.slot ≢ slot) → in_slot slot o ≡ None
+  in_slot_none slot None h = refl
+  in_slot_none slot (Some s) h = ap (λ b. cond b (Some s.cell) None) (ne_eqb s.slot slot (h s refl))
+
+  pub cell_at_some : (next : ℕ) (slots : List (Option (Numbered (Cell P T W)))) (ids : List TaskId) (id : TaskId) (e : Numbered (Cell P T W))
+      → Distinct slots → get_or slots id.slot None ≡ Some e → e.number ≡ id.number → cell_at (table_of next slots ids) id ≡ Some e.cell
+  cell_at_some next slots ids id e distinct there number =
+      ap (in_slot id.slot) (ap (map.get (cells_of slots)) (sym number) ∙ sees_get slots distinct id.slot e there)
+      ∙ ap (λ b. cond b (Some e.cell) None) (eq-eqb id.slot id.slot refl)
+
+  pub cell_at_none : (next : ℕ) (slots : List (Option (Numbered (Cell P T W)))) (ids : List TaskId) (id : TaskId)
+      → is_numbered id.number (get_or slots id.slot None) ≡ false → cell_at (table_of next slots ids) id ≡ None
+  cell_at_none next slots ids id h =
+      in_slot_none id.slot _ (λ s found slot.
+      let sees = get_sees slots id.number s found in
+      let zero_at : 0 + sees.at ≡ sees.at = omega arith in
+      let place : sees.at ≡ id.slot = sym (ap (λ x. x.slot) sees.is ∙ zero_at) ∙ slot in
+      let yes = numbered_is id.number (get_or slots id.slot None) sees.cell (ap (λ k. get_or slots k None) (sym place) ∙ sees.there) sees.number in
+      absurd (cc (yes, h)))
+
+  pub within : (slots : List (Option (Numbered (Cell P T W)))) (key : ℕ) (e : Numbered (Cell P T W)) → get_or slots key None ≡ Some e → key < length slots
+  within slots key e there = grind (arith, get_or_past)
+
+  pub set_changes : (slots : List (Option (Numbered (Cell P T W)))) (key : ℕ) (e f : Numbered (Cell P T W)) → get_or slots key None ≡ Some e → Changes slots (set slots key (Some f)) key (Some f)
+  set_changes slots key e f there =
+      let inside = within slots key e there in
+      record {
+        changed = get_or-set_same slots key (Some f) None inside;
+        others = λ other far. get_or-set_other slots key other (Some f) None far;
+      }
+
+  pub cells_of-set : (slots : List (Option (Numbered (Cell P T W)))) (key : ℕ) (e : Numbered (Cell P T W)) (c : Cell P T W) → Distinct slots → get_or slots key None ≡ Some e
+      → cells_of (set slots key (Some (record { number = e.number; cell = c }))) ≡ map.insert (cells_of slots) e.number (seen key c)
+  cells_of-set slots key e c distinct there =
+      let f : Numbered (Cell P T W) = record { number = e.number; cell = c } in
+      cells_of-put slots _ key f distinct (fits_itself slots distinct key e there) (set_changes slots key e f there)
+
+  placed_put : (m : map.FinMap nat_cmp (Slotted P T W)) (n key : ℕ) (c d : Cell P T W) → map.get m n ≡ Some (seen key d) → (id : TaskId) → Placed m id → Placed (map.insert m n (seen key c)) id
+  placed_put m n key c d was id placed =
+      elim (cases_eq id.number n) [
+        | inl same ↦
+            let is : Some (placed.0) ≡ Some (seen key d) = sym placed.1 ∙ ap (map.get m) same ∙ was in
+            let slotted : placed.0 ≡ seen key d = cc in
+            (seen key c, insert_same m n (seen key c) id.number same, sym (ap (λ x. x.slot) slotted) ∙ placed.2)
+        | inr far ↦ (placed.0, insert_other m n (seen key c) id.number far ∙ placed.1, placed.2)
+      ]
+
+  pub put_sound : {next capacity undropped : ℕ} {slots : List (Option (Numbered (Cell P T W)))} {ids : List TaskId}
+      → IsSound next slots ids capacity undropped
+      → (key : ℕ) (e : Numbered (Cell P T W)) (c : Cell P T W) → get_or slots key None ≡ Some e
+      → (later : List TaskId) (room left : ℕ) → left ≤ room → Settled c
+      → All (Placed (cells_of slots)) later
+      → times e.number (numbers_of later) ≡ cond (is_scheduled c.state) 1 0
+      → ((q : ℕ) → q ≢ e.number → times q (numbers_of later) ≡ times q (numbers_of ids))
+      → left + (length ids + cond (is_idle e.cell.state || is_held e.cell.state) 1 0) ≡ undropped + (length later + cond (is_idle c.state || is_held c.state) 1 0)
+      → IsSound next (set slots key (Some (record { number = e.number; cell = c }))) later room left
+  put_sound {next} {capacity} {undropped} {slots} {ids} sound key e c there later room left enough settled placed here others balance =
+      let f : Numbered (Cell P T W) = record { number = e.number; cell = c } in
+      let new = set slots key (Some f) in
+      let fits = fits_itself slots sound.distinct key e there in
+      let changes = set_changes slots key e f there in
+      let cells = cells_of-set slots key e c sound.distinct there in
+      let inside = within slots key e there in
+      let sums = sum_by-set (λ x. cond (is_queueable x) 1 0) slots key (Some f) None inside in
+      let was : cond (is_queueable (get_or slots key None)) 1 0 ≡ cond (is_queueable (Some e)) 1 0 = ap (λ x. cond (is_queueable x) 1 0) there in
+      record {
+        below = λ i d found. elim (cases_eq i key) [
+          | inl here_i ↦
+              let is : d ≡ f = cc (ap (λ k. get_or new k None) here_i, found, changes.changed) in
+              subst (λ n. n < next) (sym (ap (λ x. x.number) is)) (sound.below key e there)
+          | inr far ↦ sound.below i d (sym (changes.others i far) ∙ found)
+        ];
+        distinct = put_distinct slots new key f sound.distinct fits changes;
+        placed = subst (λ m. All (Placed m) later) (sym cells)
+            (All-weaker (Placed (cells_of slots)) (Placed (map.insert (cells_of slots) e.number (seen key c))) (λ id. placed_put (cells_of slots) e.number key c e.cell (sees_get slots sound.distinct key e there) id) later placed);
+        law = subst (λ m. LockLaw m (numbers_of later)) (sym cells) (law_put (cells_of slots) (numbers_of ids) (numbers_of later) e.number (seen key c) sound.law here others);
+        counted = recount _ _ _ _ _ _ _ _ _ sound.counted sums was balance;
+        room = enough;
+        settled = λ i d found. elim (cases_eq i key) [
+          | inl here_i ↦
+              let is : d ≡ f = cc (ap (λ k. get_or new k None) here_i, found, changes.changed) in
+              subst (λ x. Settled x.cell) (sym is) settled
+          | inr far ↦ sound.settled i d (sym (changes.others i far) ∙ found)
+        ];
+      }
+
+  pub same_table : (next : ℕ) (m n : map.FinMap nat_cmp (Slotted P T W)) (xs ys : List ℕ) → m ≡ n → xs ≡ ys
+      → ◌≡◌ {A = Table P T W} (record { next = next; cells = m; global = xs }) (record { next = next; cells = n; global = ys })
+  same_table next m n xs ys p q = λ i. record { next = next; cells = p i; global = q i }
+
+  -- what is seen after a write of one cell
+  pub table_set : (next : ℕ) (slots : List (Option (Numbered (Cell P T W)))) (ids later : List TaskId) (id : TaskId) (e : Numbered (Cell P T W)) (c : Cell P T W) (xs : List ℕ)
+      → Distinct slots → get_or slots id.slot None ≡ Some e → e.number ≡ id.number → numbers_of later ≡ xs
+      → table_of next (set slots id.slot (Some (record { number = e.number; cell = c }))) later ≡ record (with_cell (table_of next slots ids) id c) { global = xs }
+  table_set next slots ids later id e c xs distinct there number lists =
+      same_table next _ _ _ _ (cells_of-set slots id.slot e c distinct there ∙ ap (λ n. map.insert (cells_of slots) n (seen id.slot c)) number) lists
+
+pub numbers_of-push : (ids : List TaskId) (id : TaskId) → numbers_of (ids ++ id ∷ []) ≡ numbers_of ids ++ id.number ∷ []
+numbers_of-push [] id = refl
+numbers_of-push (x ∷ xs) id = ap (λ l. x.number ∷ l) (numbers_of-push xs id)
+
+numbers_of-cons_once : (id : TaskId) (ids : List TaskId) → numbers_of (id ∷ ids) ≡ id.number ∷ numbers_of ids
+numbers_of-cons_once id ids = refl

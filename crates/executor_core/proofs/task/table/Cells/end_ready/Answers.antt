@@ -1,0 +1,70 @@
+use Rattle.std.proofs.Common.{◌≡◌, Some, refl, sym, ap, ◌∙◌}
+use Rattle.executor_core.specs.Calls.{after_end_ready, ready_answer, end_ready_at, held_in, cell_at}
+use Rattle.executor_core.proofs.WriteLemmas.{cell_at_is}
+use Rattle.executor_core.proofs.RemoveLemmas.{facts_at, remove_table}
+use Rattle.executor_core.proofs.EndReadyLemmas.{ready_sound, leave_sound, ready_nothing, ready_unwanted, readied_some, answer_some, answer_kept, set_table, end_ready_of, known}
+use Rattle.executor_core.proofs.task.table.Cells.end_ready.Goals as goal
+
+pub returns-then-not-is_held_at-clause-table : goal.returns-then-not-is_held_at-clause-table
+returns-then-not-is_held_at-clause-table g c =
+    let none = ap held_in (cell_at_is c.self.invariant c.args.held.id) ∙ sym c.is_held_at.ensures ∙ c.if-not-is_held_at.true in
+    sym c.self.view_is ∙ sym (ready_nothing _ c.args.held.id c.args.output _ none) ∙ ap (λ s. after_end_ready s c.args.held.id c.args.output) c.self.view_is
+
+pub returns-then-not-is_held_at-clause-answer : goal.returns-then-not-is_held_at-clause-answer
+returns-then-not-is_held_at-clause-answer g c =
+    let none = ap held_in (cell_at_is c.self.invariant c.args.held.id) ∙ sym c.is_held_at.ensures ∙ c.if-not-is_held_at.true in
+    sym (ready_unwanted c.args.output _ none) ∙ ap (λ s. ready_answer c.args.output (cell_at s c.args.held.id)) c.self.view_is
+
+pub invariant_of-self : goal.invariant_of-self
+invariant_of-self g c =
+    let facts = facts_at held_in refl _ _ _ c.index_mut.ensures.value (sym c.is_held_at.ensures ∙ c.if-not-is_held_at.false) in
+    let cell = ap (λ p. p.0) c.replace_with-awaiter.ensures in
+    let one : Some c.index_mut.result.now ≡ Some c.index.result.now = sym c.index_mut.ensures.value ∙ c.index.ensures in
+    let same : c.index_mut.result.now ≡ c.index.result.now = cc in
+    rw cell (ready_sound c.self.invariant c.args.held.id.slot c.index_mut.result.now c.args.output c.index_mut.ensures.value facts.1 (ap (λ e. e.cell.has_handle) same ∙ c.if-index.true))
+
+pub returns-then-index-clause-table : goal.returns-then-index-clause-table
+returns-then-index-clause-table g c =
+    let facts = facts_at held_in refl _ _ _ c.index_mut.ensures.value (sym c.is_held_at.ensures ∙ c.if-not-is_held_at.false) in
+    let cell = ap (λ p. p.0) c.replace_with-awaiter.ensures in
+    let one : Some c.index_mut.result.now ≡ Some c.index.result.now = sym c.index_mut.ensures.value ∙ c.index.ensures in
+    let same : c.index_mut.result.now ≡ c.index.result.now = cc in
+    rw cell (set_table c.self.invariant c.args.held.id c.index_mut.result.now _ c.index_mut.ensures.value facts.0
+    ∙ sym (ap (end_ready_at _ c.args.held.id c.args.output) (known c.self.invariant c.args.held.id c.index_mut.result.now c.index_mut.ensures.value facts.0)
+    ∙ readied_some _ c.args.held.id c.args.output c.index_mut.result.now.cell facts.1 (ap (λ e. e.cell.has_handle) same ∙ c.if-index.true))
+    ∙ ap (λ s. after_end_ready s c.args.held.id c.args.output) c.self.view_is)
+
+pub returns-then-index-clause-answer : goal.returns-then-index-clause-answer
+returns-then-index-clause-answer g c =
+    let facts = facts_at held_in refl _ _ _ c.index_mut.ensures.value (sym c.is_held_at.ensures ∙ c.if-not-is_held_at.false) in
+    let one : Some c.index_mut.result.now ≡ Some c.index.result.now = sym c.index_mut.ensures.value ∙ c.index.ensures in
+    let same : c.index_mut.result.now ≡ c.index.result.now = cc in
+    ap (λ p. end_ready_of p.1.0 p.1.1) c.replace_with-awaiter.ensures
+    ∙ sym (ap (ready_answer c.args.output) (known c.self.invariant c.args.held.id c.index_mut.result.now c.index_mut.ensures.value facts.0)
+    ∙ answer_kept c.args.output c.index_mut.result.now.cell facts.1 (ap (λ e. e.cell.has_handle) same ∙ c.if-index.true))
+    ∙ ap (λ s. ready_answer c.args.output (cell_at s c.args.held.id)) c.self.view_is
+
+pub invariant_of-self-2 : goal.invariant_of-self-2
+invariant_of-self-2 g c =
+    let facts = facts_at held_in refl _ _ _ c.remove-cell.ensures.value (sym c.is_held_at.ensures ∙ c.if-not-is_held_at.false) in
+    leave_sound c.self.invariant c.args.held.id.slot c.remove-cell.result c.remove-cell.ensures.value facts.1 _ (record { changed = c.remove-cell.ensures.updates.changed; others = c.remove-cell.ensures.updates.others })
+
+pub returns-clause-table : goal.returns-clause-table
+returns-clause-table g c =
+    let facts = facts_at held_in refl _ _ _ c.remove-cell.ensures.value (sym c.is_held_at.ensures ∙ c.if-not-is_held_at.false) in
+    let one : Some c.remove-cell.result ≡ Some c.index.result.now = sym c.remove-cell.ensures.value ∙ c.index.ensures in
+    let same : c.remove-cell.result ≡ c.index.result.now = cc in
+    remove_table c.self.invariant c.args.held.id c.remove-cell.result c.remove-cell.ensures.value facts.0 _ (record { changed = c.remove-cell.ensures.updates.changed; others = c.remove-cell.ensures.updates.others })
+    ∙ sym (ap (end_ready_at _ c.args.held.id c.args.output) (known c.self.invariant c.args.held.id c.remove-cell.result c.remove-cell.ensures.value facts.0)
+    ∙ readied_some _ c.args.held.id c.args.output c.remove-cell.result.cell facts.1 (ap (λ e. e.cell.has_handle) same ∙ c.if-index.false))
+    ∙ ap (λ s. after_end_ready s c.args.held.id c.args.output) c.self.view_is
+
+pub returns-clause-answer : goal.returns-clause-answer
+returns-clause-answer g c =
+    let facts = facts_at held_in refl _ _ _ c.remove-cell.ensures.value (sym c.is_held_at.ensures ∙ c.if-not-is_held_at.false) in
+    let one : Some c.remove-cell.result ≡ Some c.index.result.now = sym c.remove-cell.ensures.value ∙ c.index.ensures in
+    let same : c.remove-cell.result ≡ c.index.result.now = cc in
+    ap (λ a. end_ready_of a (Some c.args.output)) c.awaiter_of_held.ensures
+    ∙ sym (ap (ready_answer c.args.output) (known c.self.invariant c.args.held.id c.remove-cell.result c.remove-cell.ensures.value facts.0)
+    ∙ answer_some c.args.output c.remove-cell.result.cell facts.1 (ap (λ e. e.cell.has_handle) same ∙ c.if-index.false))
+    ∙ ap (λ s. ready_answer c.args.output (cell_at s c.args.held.id)) c.self.view_is

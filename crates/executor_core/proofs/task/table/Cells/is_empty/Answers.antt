@@ -1,0 +1,12 @@
+use Rattle.std.proofs.Common.{deque_capacity, sym, subst}
+use Rattle.std.proofs.lemmas.Bool.{eqb-true, eq-eqb}
+use Rattle.executor_core.specs.TableView.{IsSound}
+use Rattle.executor_core.specs.Calls.{AllDropped}
+use Rattle.executor_core.proofs.SpawnLemmas.{all_dropped, none_undropped}
+use Rattle.executor_core.proofs.task.table.Cells.is_empty.Goals as goal
+
+pub returns : goal.returns
+returns g c = (
+  λ zero. subst AllDropped c.self.view_is (all_dropped (subst (λ u. IsSound c.self.inside.next c.self.inside.cells.slots c.self.inside.global.items (deque_capacity c.self.inside.global) u) (eqb-true c.self.inside.undropped 0 zero) c.self.invariant)),
+  λ dropped. eq-eqb c.self.inside.undropped 0 (none_undropped c.self.invariant (subst AllDropped (sym c.self.view_is) dropped)),
+)

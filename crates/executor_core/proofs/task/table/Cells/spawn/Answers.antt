@@ -1,0 +1,35 @@
+use Rattle.std.proofs.Common.{sym, ap, ◌∙◌, ◌≤◌, ◌+◌, ◌++◌, ◌∷◌, [], arith, deque_capacity, get_or, Some, None}
+use Rattle.std.proofs.lemmas.Grind.{common_steps}
+use Rattle.executor_core.specs.Calls.{after_spawn}
+use Rattle.executor_core.specs.TableView.{table_of}
+use Rattle.executor_core.proofs.SpawnLemmas.{roomier, regrown, spawn_sound, spawn_table, spawn_free}
+use Rattle.executor_core.proofs.task.table.Cells.spawn.Goals as goal
+
+pub invariant_of-self-then-is_err-2 : goal.invariant_of-self-then-is_err-2
+invariant_of-self-then-is_err-2 g c = rw c.reserve-2.ensures.items (regrown (roomier c.self.invariant _ c.reserve-2.ensures.capacity) _ (ap (λ s. s.slots) c.reserve.ensures.rest_kept))
+
+pub invariant_of-self-2 : goal.invariant_of-self-2
+invariant_of-self-2 g c =
+    let updates = c.insert_reserved-slot.ensures.updates in
+    let counted = c.self.invariant.counted in
+    let enough : c.self.inside.undropped + 1 ≤ deque_capacity c.push_back_reserved.new.self = grind (arith, common_steps, counted) in
+    spawn_sound (regrown c.self.invariant c.reserve.new.self.slots (ap (λ s. s.slots) c.reserve.ensures.rest_kept)) c.args.future _ c.insert_reserved-slot.result
+    c.insert_reserved-slot.ensures.was_vacant (record { changed = updates.changed ∙ ap (λ k. Some (record { number = c.self.inside.next; cell = k })) c.new_cell-cell.ensures; others = updates.others })
+    (c.push_back_reserved.ensures.items ∙ ap (λ l. l ++ record { number = c.self.inside.next; slot = c.insert_reserved-slot.result } ∷ []) c.reserve-2.ensures.items)
+    _ enough
+
+pub returns-clause-ok : goal.returns-clause-ok
+returns-clause-ok g c =
+    let updates = c.insert_reserved-slot.ensures.updates in
+    let same = ap (λ s. s.slots) c.reserve.ensures.rest_kept in
+    spawn_table (regrown c.self.invariant c.reserve.new.self.slots same) c.args.future _ c.insert_reserved-slot.result
+    c.insert_reserved-slot.ensures.was_vacant (record { changed = updates.changed ∙ ap (λ k. Some (record { number = c.self.inside.next; cell = k })) c.new_cell-cell.ensures; others = updates.others })
+    (c.push_back_reserved.ensures.items ∙ ap (λ l. l ++ record { number = c.self.inside.next; slot = c.insert_reserved-slot.result } ∷ []) c.reserve-2.ensures.items)
+    ∙ ap (λ l. after_spawn (table_of c.self.inside.next l c.self.inside.global.items) c.insert_reserved-slot.result c.args.future) same
+    ∙ ap (λ s. after_spawn s c.insert_reserved-slot.result c.args.future) c.self.view_is
+
+pub returns-clause-free : goal.returns-clause-free
+returns-clause-free g c =
+    let same = ap (λ s. s.slots) c.reserve.ensures.rest_kept in
+    let free = spawn_free c.self.invariant c.insert_reserved-slot.result (ap (λ l. get_or l c.insert_reserved-slot.result None) (sym same) ∙ c.insert_reserved-slot.ensures.was_vacant) in
+    rw (← c.self.view_is) free

@@ -1,0 +1,171 @@
+-- What each call makes of the table, and what it answers.
+use Rattle.std.specs.Prelude.{◌≡◌, ◌≢◌, ℕ, ◌+◌, ◌==◌, Bool, true, false, List, [], ◌∷◌, ◌++◌, Option, Some, None, cond, is_some, ◌&&◌, ◌||◌, not}
+use Rattle.std.specs.FinMap as map
+use Rattle.executor_core.specs.Table.{Slotted, Table}
+use Rattle.executor_core.specs.States.{is_idle, is_held, is_scheduled, is_undropped}
+use Rattle.executor_core.specs.CellChanges.{new_cell, woken, taken, pended, readied, awaited, takes_back, output_of, wakeup_of}
+use Rattle.executor_core.specs.declared.task.cell.Cell.{Cell}
+use Rattle.executor_core.specs.declared.task.cell.State.TheVariants.{Scheduled}
+use Rattle.executor_core.specs.declared.task.values.TaskId.{TaskId}
+use Rattle.executor_core.specs.declared.task.values.Taken.{Taken}
+use Rattle.executor_core.specs.declared.task.values.Held.{Held}
+use Rattle.executor_core.specs.declared.task.table.EndReady.{EndReady}
+use Rattle.executor_core.specs.declared.task.table.PollHandle.{PollHandle}
+use Rattle.executor_core.specs.declared.task.table.PollHandle.TheVariants.{Output, Cancelled, Pending}
+use Rattle.executor_core.specs.declared.task.table.EndPending.{EndPending}
+use Rattle.executor_core.specs.declared.task.table.EndPending.TheVariants.{Back, Drop}
+
+-- no task, the next one getting this number
+abbrev pub empty_table : {P T W : Type 0} → ℕ → Table P T W
+empty_table next = record { next = next; cells = map.empty; global = [] }
+
+-- the cell of an id, and what is read of it
+module _ {P T W : Type 0} where
+  abbrev pub in_slot : ℕ → Option (Slotted P T W) → Option (Cell P T W)
+  in_slot slot None = None
+  in_slot slot (Some s) = cond (s.slot == slot) (Some s.cell) None
+
+  -- the cell of the id's number, if it is in the id's slot
+  abbrev pub cell_at : Table P T W → TaskId → Option (Cell P T W)
+  cell_at table id = in_slot id.slot (map.get table.cells id.number)
+
+  -- there is a cell, and it passes the test
+  abbrev pub passes : (Cell P T W → Bool) → Option (Cell P T W) → Bool
+  passes test None = false
+  passes test (Some c) = test c
+
+  abbrev pub idle_in : Option (Cell P T W) → Bool
+  idle_in = passes (λ c. is_idle c.state)
+
+  abbrev pub held_in : Option (Cell P T W) → Bool
+  held_in = passes (λ c. is_held c.state)
+
+  abbrev pub undropped_in : Option (Cell P T W) → Bool
+  undropped_in = passes (λ c. is_undropped c.state)
+
+  -- the future is in the cell
+  abbrev pub future_in : Option (Cell P T W) → Bool
+  future_in = passes (λ c. is_idle c.state || is_scheduled c.state)
+
+  abbrev pub cancelled_in : Option (Cell P T W) → Bool
+  cancelled_in = passes (λ c. c.cancelled)
+
+  abbrev pub woken_in : Option (Cell P T W) → Bool
+  woken_in = passes (λ c. c.woken)
+
+  abbrev pub handle_in : Option (Cell P T W) → Bool
+  handle_in = passes (λ c. c.has_handle)
+
+  abbrev pub takes_back_in : Option (Cell P T W) → Bool
+  takes_back_in = passes takes_back
+
+  -- every future that was spawned was dropped
+  abbrev pub AllDropped : Table P T W → Type 0
+  AllDropped table = (n : ℕ) (s : Slotted P T W) → map.get table.cells n ≡ Some s → is_undropped s.cell.state ≡ false
+
+-- changes at one id
+module _ {P T W : Type 0} where
+  abbrev pub with_cell : Table P T W → TaskId → Cell P T W → Table P T W
+  with_cell table id c = record table { cells = map.insert table.cells id.number (record { slot = id.slot; cell = c }) }
+
+  abbrev pub without_cell : Table P T W → TaskId → Table P T W
+  without_cell table id = record table { cells = map.remove table.cells id.number }
+
+  -- the number goes to the global end, where it is asked for
+  abbrev pub queued_if : Bool → Table P T W → TaskId → Table P T W
+  queued_if b table id = record table { global = cond b (table.global ++ id.number ∷ []) table.global }
+
+-- spawn
+module _ {P T W : Type 0} where
+  -- no cell has this slot
+  abbrev pub IsFree : Table P T W → ℕ → Type 0
+  IsFree table slot = (n : ℕ) (s : Slotted P T W) → map.get table.cells n ≡ Some s → s.slot ≢ slot
+
+  -- the next number has a new cell in the slot, and stands at the global end
+  abbrev pub after_spawn : Table P T W → ℕ → P → Table P T W
+  after_spawn table slot p =
+      record table {
+        next = table.next + 1;
+        cells = map.insert table.cells table.next (record { slot = slot; cell = new_cell p });
+        global = table.global ++ table.next ∷ [];
+      }
+
+-- wake
+module _ {P T W : Type 0} where
+  abbrev pub wake_at : Table P T W → TaskId → Option (Cell P T W) → Table P T W
+  wake_at table id None = table
+  wake_at table id (Some c) = queued_if (is_idle c.state) (with_cell table id (woken c)) id
+
+  abbrev pub after_wake : Table P T W → TaskId → Table P T W
+  after_wake table id = wake_at table id (cell_at table id)
+
+  -- a wake queues the task
+  abbrev pub wakes : Table P T W → TaskId → Bool
+  wakes table id = idle_in (cell_at table id)
+
+-- take_global
+module _ {P T W : Type 0} where
+  abbrev pub take_at : Table P T W → ℕ → List ℕ → Option (Slotted P T W) → Table P T W
+  take_at table n rest None = table
+  take_at table n rest (Some s) = record table { cells = map.insert table.cells n (record { slot = s.slot; cell = taken s.cell }); global = rest }
+
+  abbrev pub take_first : Table P T W → List ℕ → Table P T W
+  take_first table [] = table
+  take_first table (n ∷ rest) = take_at table n rest (map.get table.cells n)
+
+  abbrev pub after_take : Table P T W → Table P T W
+  after_take table = take_first table table.global
+
+  -- the taken task has the number at the front, and the slot, the future and the cancel mark of its scheduled cell
+  pub record TakesFront (table : Table P T W) (rest : List ℕ) (task : Taken P) : Type 0 where
+    pub cell : Cell P T W
+    pub first : table.global ≡ task.id.number ∷ rest
+    pub found : map.get table.cells task.id.number ≡ Some (record { slot = task.id.slot; cell = cell })
+    pub future : cell.state ≡ Scheduled task.future
+    pub cancelled : task.cancelled ≡ cell.cancelled
+    pub held : task.held ≡ record { id = task.id; to_drop = false }
+
+-- end_pending
+module _ {P T W : Type 0} where
+  abbrev pub end_pending_at : Table P T W → TaskId → P → Option (Cell P T W) → Table P T W
+  end_pending_at table id p None = table
+  end_pending_at table id p (Some c) = cond (takes_back c) (queued_if c.woken (with_cell table id (pended c p)) id) table
+
+  abbrev pub after_end_pending : Table P T W → TaskId → P → Table P T W
+  after_end_pending table id p = end_pending_at table id p (cell_at table id)
+
+  -- the future goes back, with a notice where its task was woken; else it comes back to be dropped
+  abbrev pub EndsPending : Table P T W → Held → P → EndPending P → Type 0
+  EndsPending table held p (Back notice) = (takes_back_in (cell_at table held.id) ≡ true) × (is_some notice ≡ woken_in (cell_at table held.id))
+  EndsPending table held p (Drop q again) = (takes_back_in (cell_at table held.id) ≡ false) × (q ≡ p) × (again ≡ record { id = held.id; to_drop = true })
+
+-- end_ready
+module _ {P T W : Type 0} where
+  abbrev pub end_ready_at : Table P T W → TaskId → T → Option (Cell P T W) → Table P T W
+  end_ready_at table id t None = table
+  end_ready_at table id t (Some c) = cond (is_held c.state) (cond c.has_handle (with_cell table id (readied c t)) (without_cell table id)) table
+
+  abbrev pub after_end_ready : Table P T W → TaskId → T → Table P T W
+  after_end_ready table id t = end_ready_at table id t (cell_at table id)
+
+  -- the awaiter comes out, and so does an output that no handle is to give
+  abbrev pub ready_answer : T → Option (Cell P T W) → EndReady T W
+  ready_answer t None = record { awaiter = None; unwanted = Some t }
+  ready_answer t (Some c) = cond (is_held c.state) (record { awaiter = wakeup_of c.awaiter; unwanted = cond (c.has_handle && not c.cancelled) None (Some t) }) (record { awaiter = None; unwanted = Some t })
+
+-- poll_handle
+abbrev pub ended_answer : {T W : Type 0} → W → Option T → PollHandle T W
+ended_answer w None = Cancelled w
+ended_answer w (Some t) = Output t w
+
+module _ {P T W : Type 0} where
+  abbrev pub poll_handle_at : Table P T W → TaskId → W → Option (Cell P T W) → Table P T W
+  poll_handle_at table id w None = table
+  poll_handle_at table id w (Some c) = cond c.has_handle (cond (is_undropped c.state) (with_cell table id (awaited c w)) (without_cell table id)) table
+
+  abbrev pub after_poll_handle : Table P T W → TaskId → W → Table P T W
+  after_poll_handle table id w = poll_handle_at table id w (cell_at table id)
+
+  abbrev pub poll_answer : W → Option (Cell P T W) → PollHandle T W
+  poll_answer w None = Cancelled w
+  poll_answer w (Some c) = cond c.has_handle (cond (is_undropped c.state) (Pending c.awaiter) (ended_answer w (output_of c.state))) (Cancelled w)

@@ -1,0 +1,65 @@
+-- What a contract sees of `Cells`: a finite map from task numbers to cells, and lists of numbers.
+use Rattle.std.specs.Prelude.{◌≡◌, ℕ, Bool, List, Option, Some, None, refl, true, false, ◌==◌, ◌⊎◌}
+use Rattle.std.specs.Coded.{Coded, code_by, coded×, coded⊎, coded_ℕ, coded_list, coded_option, coded_bool}
+use Rattle.std.proofs.Common.{inl, inr}
+use Rattle.std.specs.Ordering.{nat_cmp}
+use Rattle.std.specs.FinMap as map
+use Rattle.executor_core.specs.declared.task.cell.State.{State}
+use Rattle.executor_core.specs.declared.task.cell.Cell.{Cell}
+use Rattle.executor_core.specs.declared.task.cell.State.TheVariants.{Idle, Scheduled, Held, Finished, Gone}
+
+-- a cell, and the slot that it has
+pub record Slotted (P T W : Type 0) : Type 0 where
+  pub slot : ℕ
+  pub cell : Cell P T W
+
+-- the number that the next task gets, the cells by number, and the global queue
+pub record Table (P T W : Type 0) : Type 0 where
+  pub next : ℕ
+  pub cells : map.FinMap nat_cmp (Slotted P T W)
+  pub global : List ℕ
+
+module _ {P T : Type 0} where
+  pub state_cases : State P T → P ⊎ (P ⊎ (T ⊎ Bool))
+  state_cases (Idle p) = inl p
+  state_cases (Scheduled p) = inr (inl p)
+  state_cases (Finished t) = inr (inr (inl t))
+  state_cases Held = inr (inr (inr true))
+  state_cases Gone = inr (inr (inr false))
+
+  pub case_state : P ⊎ (P ⊎ (T ⊎ Bool)) → State P T
+  case_state (inl p) = Idle p
+  case_state (inr (inl p)) = Scheduled p
+  case_state (inr (inr (inl t))) = Finished t
+  case_state (inr (inr (inr true))) = Held
+  case_state (inr (inr (inr false))) = Gone
+
+  pub case_state-state_cases : (s : State P T) → case_state (state_cases s) ≡ s
+  unfolding case_state state_cases
+  case_state-state_cases (Idle p) = refl
+  case_state-state_cases (Scheduled p) = refl
+  case_state-state_cases (Finished t) = refl
+  case_state-state_cases Held = refl
+  case_state-state_cases Gone = refl
+
+  abbrev pub state_code : Coded P → Coded T → Coded (State P T)
+  state_code p t = code_by (P ⊎ (P ⊎ (T ⊎ Bool))) (coded⊎ p (coded⊎ p (coded⊎ t coded_bool))) state_cases case_state case_state-state_cases
+
+module _ {P T W : Type 0} (p : Coded P) (t : Coded T) (w : Coded W) where
+  abbrev pub slotted_code : Coded (Slotted P T W)
+  slotted_code =
+      code_by
+      (ℕ × (State P T × (Bool × (Bool × (Bool × Option W)))))
+      (coded× coded_ℕ (coded× (state_code p t) (coded× coded_bool (coded× coded_bool (coded× coded_bool (coded_option w))))))
+      (λ s. (s.slot, (s.cell.state, (s.cell.cancelled, (s.cell.woken, (s.cell.has_handle, s.cell.awaiter))))))
+      (λ q. record { slot = q.0; cell = record { state = q.1.0; cancelled = q.1.1.0; woken = q.1.1.1.0; has_handle = q.1.1.1.1.0; awaiter = q.1.1.1.1.1 } })
+      (λ _. refl)
+
+  abbrev pub table_code : Coded (Table P T W)
+  table_code =
+      code_by
+      (ℕ × (map.FinMap nat_cmp (Slotted P T W) × List ℕ))
+      (coded× coded_ℕ (coded× (map.code coded_ℕ slotted_code) (coded_list coded_ℕ)))
+      (λ s. (s.next, (s.cells, s.global)))
+      (λ q. record { next = q.0; cells = q.1.0; global = q.1.1 })
+      (λ _. refl)

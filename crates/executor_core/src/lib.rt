@@ -1,0 +1,5 @@
+//! Tasks, their queue, and a world of all parties in any order: what the executors stand on.
+#![tactic(auto)]
+
+pub mod queue;
+pub mod task;

@@ -1,0 +1,44 @@
+//! Task cells, and the values that a change of them leaves to be spent.
+//!
+//! A task is a future in a cell of a table, `Cells`. The table never polls: it is changed by short
+//! calls, each of which is one atomic step under its owner's lock.
+//!
+//! | state | the future | the number in a queue |
+//! |---|---|---|
+//! | idle | in the cell | no |
+//! | scheduled | in the cell | once |
+//! | held | out, with the one who took it | no |
+//! | finished | dropped, its output in the cell | no |
+//! | gone | dropped | no |
+//!
+//! `spawn` and a wake of an idle task schedule it, and give a `Notice`. A take gives the task out
+//! as `Taken`, which only `run_taken` opens: it polls the future once, or has it dropped where the
+//! task was cancelled, and gives the `Held` that the end of the poll asks for. `end_pending` puts
+//! the future back, `end_ready` keeps its output for the handle. A wake that comes while the future
+//! is out is a mark in the cell, and the end of the poll schedules the task again.
+//!
+//! What a call leaves to do is a value that can neither be copied nor dropped. Each has only the
+//! ends that this table names, so a path that forgets one does not compile.
+//!
+//! | value | says | is spent by |
+//! |---|---|---|
+//! | `Taken` | a task was taken | `run_taken` |
+//! | `Held` | it was polled, or its future was dropped | `end_pending`, `end_ready` |
+//! | `Wakeup` | a waker is to be woken | `Wakeup::wake` |
+//! | `Notice` | a task was queued, and sleepers are to hear of it | the exchange of the flag |
+//! | `Pick` | a sleeper is to be notified | the notification of the sleepers |
+//! | `Again` | the list of sleepers grew, and a search is to be made | the next take |
+//! | `Change` | the list of sleepers changed, and the flag is to be stored | the store of the flag |
+
+pub(crate) mod cell;
+pub mod polling;
+pub mod refusals;
+pub mod table;
+pub mod traits;
+pub mod values;
+
+pub use polling::{Polled, Poller, Ran, run_taken};
+pub use refusals::{OutOfMemory, SpawnError};
+pub use table::{Cells, EndPending, EndReady, PollHandle};
+pub use traits::Wake;
+pub use values::{Again, Change, Held, Notice, Pick, Taken, TaskId, Wakeup};

@@ -1,0 +1,261 @@
+//! The cell of one task, and what each call makes of it.
+//!
+//! Each function here takes a cell apart and gives the next one, with what comes out of it. The
+//! table puts them in place.
+ghost use Rattle.std.specs.Prelude.{◌≡◌, Bool, true, false, Some, None, cond};
+ghost use Rattle.executor_core.specs.States.{is_idle, is_scheduled, is_held, is_undropped};
+ghost use Rattle.executor_core.specs.CellChanges.{new_cell, woken, taken, pended, readied, awaited, wakeup_of, output_of};
+
+use crate::task::values::Wakeup;
+
+/// Where a task stands.
+#[derive(Drop)]
+pub(crate) enum State<P, T> {
+    /// The future is in the cell, and nothing is asked of it.
+    Idle(P),
+    /// The future is in the cell, and the task stands in a queue.
+    Scheduled(P),
+    /// The future is out, with the one who took the task.
+    Held,
+    /// The future was dropped, and its output waits for the handle.
+    Finished(T),
+    /// The future was dropped, and there is no output.
+    Gone,
+}
+
+/// What is kept of a task, beside its number.
+#[derive(Drop)]
+pub(crate) struct Cell<P, T, W> {
+    pub(crate) state: State<P, T>,
+    pub(crate) cancelled: bool,
+    /// A wake came while the future was out.
+    pub(crate) woken: bool,
+    pub(crate) has_handle: bool,
+    /// The waker of whoever polled the handle last.
+    pub(crate) awaiter: Option<W>,
+}
+
+/// What a slot of the table has: a cell, under its task's number.
+#[derive(Drop)]
+pub(crate) struct Numbered<C> {
+    pub(crate) number: u64,
+    pub(crate) cell: C,
+}
+
+// The cell of a new task.
+pub(crate) fn new_cell<P, T, W>(future: P) -> Cell<P, T, W>
+    ensures { result ≡ new_cell future }
+{
+    Cell {
+        state: State::Scheduled(future),
+        cancelled: false,
+        woken: false,
+        has_handle: true,
+        awaiter: None,
+    }
+}
+
+// Whether the future is in the cell or out, and not dropped.
+pub(crate) fn has_future<P, T, W>(cell: &Cell<P, T, W>) -> bool
+    ensures { result ≡ is_undropped cell.now.state }
+{
+    match &cell.state {
+        State::Idle(_) | State::Scheduled(_) | State::Held => true,
+        State::Finished(_) | State::Gone => false,
+    }
+}
+
+// The cell after a wake, and whether the task is to be queued.
+pub(crate) fn wake_cell<P, T, W>(cell: Cell<P, T, W>, _unit: ()) -> (Cell<P, T, W>, bool)
+    ensures { result ≡ (woken cell, is_idle cell.state) }
+{
+    let Cell {
+        state,
+        cancelled,
+        woken,
+        has_handle,
+        awaiter,
+    } = cell;
+    let (state, woken, queued) = match state {
+        State::Idle(future) => (State::Scheduled(future), woken, true),
+        State::Scheduled(future) => (State::Scheduled(future), woken, false),
+        State::Held => (State::Held, true, false),
+        State::Finished(output) => (State::Finished(output), woken, false),
+        State::Gone => (State::Gone, woken, false),
+    };
+    let cell = Cell {
+        state,
+        cancelled,
+        woken,
+        has_handle,
+        awaiter,
+    };
+    (cell, queued)
+}
+
+// The cell after its future was taken, the future, and the cancel mark.
+pub(crate) fn take_cell<P, T, W>(cell: Cell<P, T, W>, _unit: ()) -> (Cell<P, T, W>, (P, bool))
+    requires { is_scheduled cell.state ≡ true }
+    ensures cell { result.0 ≡ taken cell }
+    ensures future { cell.state ≡ State.Scheduled result.1.0 }
+    ensures cancelled { result.1.1 ≡ cell.cancelled }
+{
+    let Cell {
+        state,
+        cancelled,
+        woken: _,
+        has_handle,
+        awaiter,
+    } = cell;
+    let future = match state {
+        State::Scheduled(future) => future,
+        _ => unreachable!(),
+    };
+    let cell = Cell {
+        state: State::Held,
+        cancelled,
+        woken: false,
+        has_handle,
+        awaiter,
+    };
+    (cell, (future, cancelled))
+}
+
+// The cell after a poll that ended pending, and whether the task is to be queued.
+pub(crate) fn pend_cell<P, T, W>(cell: Cell<P, T, W>, future: P) -> (Cell<P, T, W>, bool)
+    requires { is_held cell.state ≡ true }
+    ensures { result ≡ (pended cell future, cell.woken) }
+{
+    let Cell {
+        state,
+        cancelled,
+        woken,
+        has_handle,
+        awaiter,
+    } = cell;
+    match state {
+        State::Held => {}
+        _ => unreachable!(),
+    }
+    let state = if woken {
+        State::Scheduled(future)
+    } else {
+        State::Idle(future)
+    };
+    let cell = Cell {
+        state,
+        cancelled,
+        woken,
+        has_handle,
+        awaiter,
+    };
+    (cell, woken)
+}
+
+// The awaiter, as a waker that is to be woken.
+fn wakeup<W>(awaiter: Option<W>) -> Option<Wakeup<W>>
+    ensures { result ≡ wakeup_of awaiter }
+{
+    match awaiter {
+        Some(waker) => Some(Wakeup { waker }),
+        None => None,
+    }
+}
+
+// The cell after its future gave this output, its awaiter, and the output where nobody wants it.
+pub(crate) fn ready_cell<P, T, W>(
+    cell: Cell<P, T, W>,
+    output: T,
+) -> (Cell<P, T, W>, (Option<Wakeup<W>>, Option<T>))
+    requires { is_held cell.state ≡ true }
+    ensures { result ≡ (readied cell output, (wakeup_of cell.awaiter, cond cell.cancelled (Some output) None)) }
+{
+    let Cell {
+        state,
+        cancelled,
+        woken,
+        has_handle,
+        awaiter,
+    } = cell;
+    match state {
+        State::Held => {}
+        _ => unreachable!(),
+    }
+    let (state, unwanted) = if cancelled {
+        (State::Gone, Some(output))
+    } else {
+        (State::Finished(output), None)
+    };
+    let cell = Cell {
+        state,
+        cancelled,
+        woken,
+        has_handle,
+        awaiter: None,
+    };
+    (cell, (wakeup(awaiter), unwanted))
+}
+
+// The awaiter of a removed cell whose future was out.
+pub(crate) fn awaiter_of_held<P, T, W>(cell: Cell<P, T, W>) -> Option<Wakeup<W>>
+    requires { is_held cell.state ≡ true }
+    ensures { result ≡ wakeup_of cell.awaiter }
+{
+    let Cell {
+        state,
+        cancelled: _,
+        woken: _,
+        has_handle: _,
+        awaiter,
+    } = cell;
+    match state {
+        State::Held => {}
+        _ => unreachable!(),
+    }
+    wakeup(awaiter)
+}
+
+// The output of a removed cell whose future was dropped.
+pub(crate) fn output_of_ended<P, T, W>(cell: Cell<P, T, W>) -> Option<T>
+    requires dropped { is_undropped cell.state ≡ false }
+    requires alone { cell.awaiter ≡ None }
+    ensures { result ≡ output_of cell.state }
+{
+    let Cell {
+        state,
+        cancelled: _,
+        woken: _,
+        has_handle: _,
+        awaiter,
+    } = cell;
+    match awaiter {
+        None => {}
+        Some(_) => unreachable!(),
+    }
+    match state {
+        State::Finished(output) => Some(output),
+        State::Gone => None,
+        _ => unreachable!(),
+    }
+}
+
+// The cell with this awaiter, and the one before.
+pub(crate) fn await_cell<P, T, W>(cell: Cell<P, T, W>, waker: W) -> (Cell<P, T, W>, Option<W>)
+    ensures { result ≡ (awaited cell waker, cell.awaiter) }
+{
+    let Cell {
+        state,
+        cancelled,
+        woken,
+        has_handle,
+        awaiter,
+    } = cell;
+    let cell = Cell {
+        state,
+        cancelled,
+        woken,
+        has_handle,
+        awaiter: Some(waker),
+    };
+    (cell, awaiter)
+}

@@ -1,0 +1,74 @@
+//! The one poll, or the one drop, of a taken task.
+ghost use Rattle.std.specs.Prelude.{◌≡◌, ℕ, ◌+◌, ◌<◌, ◌^◌, cond};
+ghost use Rattle.executor_core.specs.Polling.{RanFrom, AnsweredBy};
+ghost use Rattle.executor_core.specs.declared.task.polling.Polled.{Polled};
+
+use crate::task::values::{Held, Taken, TaskId};
+
+/// What a poll answers.
+pub enum Polled<P, T> {
+    /// The future is not ready, and comes back.
+    Pending(P),
+    /// The future gave its output, and was dropped.
+    Ready(T),
+}
+
+/// Polls futures, or drops them. Its meaning is how often it did each, and what a poll answers.
+pub trait Poller<P, T> {
+    ghost polls: { Self → ℕ };
+
+    ghost disposals: { Self → ℕ };
+
+    ghost answers: { Self → P → Polled P T → Type 0 };
+
+    /// Polls the future of the task once.
+    fn poll(&mut self, id: TaskId, future: P) -> Polled<P, T>
+        requires room { polls self.old + 1 < 2 ^ 64 }
+        ensures polls { polls self.new ≡ polls self.old + 1 }
+        ensures disposals { disposals self.new ≡ disposals self.old }
+        ensures answer { answers self.old future result };
+
+    /// Drops the future of the task.
+    fn dispose(&mut self, id: TaskId, future: P)
+        requires room { disposals self.old + 1 < 2 ^ 64 }
+        ensures polls { polls self.new ≡ polls self.old }
+        ensures disposals { disposals self.new ≡ disposals self.old + 1 };
+}
+
+/// What became of a taken task.
+pub enum Ran<P, T> {
+    /// It was polled and is not ready: its future came back.
+    Pending(Held, P),
+    /// It was polled and gave its output: its future was dropped.
+    Ready(Held, T),
+    /// It was cancelled: its future was dropped and not polled.
+    Dropped(Held),
+}
+
+/// Polls the future of a taken task once, or, where the task is cancelled, drops it.
+///
+/// The `Held` that comes back is the taken task's own: only from here does anyone get it.
+pub fn run_taken<P, T, Q: Poller<P, T>>(taken: Taken<P>, poller: &mut Q) -> Ran<P, T>
+    requires polls { Q.polls poller.old + 1 < 2 ^ 64 }
+    requires disposals { Q.disposals poller.old + 1 < 2 ^ 64 }
+    ensures polls { Q.polls poller.new ≡ Q.polls poller.old + cond taken.cancelled 0 1 }
+    ensures disposals { Q.disposals poller.new ≡ Q.disposals poller.old + cond taken.cancelled 1 0 }
+    ensures ran { RanFrom taken result }
+    ensures answered { AnsweredBy (Q.answers poller.old taken.future) result }
+{
+    let Taken {
+        id,
+        future,
+        cancelled,
+        held,
+    } = taken;
+    if cancelled {
+        poller.dispose(id, future);
+        let Held { id, to_drop: _ } = held;
+        return Ran::Dropped(Held { id, to_drop: true });
+    }
+    match poller.poll(id, future) {
+        Polled::Pending(future) => Ran::Pending(held, future),
+        Polled::Ready(output) => Ran::Ready(held, output),
+    }
+}

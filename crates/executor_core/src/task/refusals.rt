@@ -1,0 +1,32 @@
+//! Why a call gave up, with what it was handed.
+ghost use Rattle.std.specs.Prelude.{◌≡◌};
+ghost use Rattle.executor_core.specs.Refusals.{refused_future};
+
+use thiserror::Error;
+
+/// A growth of memory was refused. Nothing else changed.
+#[derive(Debug, Clone, Copy, PartialEq, Eq, Error)]
+#[error("out of memory")]
+pub struct OutOfMemory;
+
+/// Why no task was spawned, with its future. Nothing else changed.
+#[derive(Debug, PartialEq, Eq, Drop, Error)]
+pub enum SpawnError<P> {
+    /// A growth of memory was refused.
+    #[error("out of memory")]
+    OutOfMemory(P),
+    /// Every task number was given.
+    #[error("no task number is left")]
+    Exhausted(P),
+}
+
+impl<P> SpawnError<P> {
+    /// The future that was refused.
+    pub fn into_inner(self) -> P
+        ensures { result ≡ refused_future self }
+    {
+        match self {
+            SpawnError::OutOfMemory(future) | SpawnError::Exhausted(future) => future,
+        }
+    }
+}

@@ -1,0 +1,330 @@
+//! The table of task cells.
+ghost use Rattle.std.specs.Prelude.{◌≡◌, ◌≢◌, ℕ, ◌+◌, ◌-◌, ◌<◌, ◌≤◌, Bool, true, false, IsSome, IsTrue, ◌↔◌, List, [], ◌∷◌, ◌++◌, IfOk, IfErr, OnErr, is_some, slice_index_or, None};
+ghost use Rattle.executor_core.specs.Calls.{wakes, after_wake, after_end_pending, EndsPending, undropped_in, cancelled_in, future_in, empty_table, after_spawn, IsFree, AllDropped, cell_at, held_in, handle_in, after_end_ready, ready_answer, after_poll_handle, poll_answer};
+ghost use Rattle.executor_core.specs.Refusals.{Refuses};
+ghost use Rattle.executor_core.specs.States.{LockLaw};
+ghost use Rattle.executor_core.specs.TableView.{is_numbered, cell_in, takes_back_entry};
+
+use crate::task::cell::{
+    Cell, Numbered, State, await_cell, awaiter_of_held, has_future, new_cell, output_of_ended,
+    pend_cell, ready_cell, wake_cell,
+};
+use crate::task::refusals::{OutOfMemory, SpawnError};
+use crate::task::values::{Held, Notice, TaskId, Wakeup};
+use core::mem::replace_with;
+use slab::Slab;
+use std::alloc::Global;
+use std::collections::VecDeque;
+use std::marker::Model;
+
+/// What the end of a poll that gave an output leaves to do.
+pub struct EndReady<T, W> {
+    /// Whoever polled the handle in vain, to be woken.
+    pub awaiter: Option<Wakeup<W>>,
+    /// The output, where no handle is to give it.
+    pub unwanted: Option<T>,
+}
+
+/// What a poll of a handle answers.
+#[derive(Drop)]
+pub enum PollHandle<T, W> {
+    /// The output, and the waker that was passed. The handle ends.
+    Output(T, W),
+    /// There is no output and there will be none. The waker comes back, and the handle ends.
+    Cancelled(W),
+    /// Not yet: the waker is kept. The one that was kept before comes out.
+    Pending(Option<W>),
+}
+
+/// What becomes of a future whose poll ended pending.
+pub enum EndPending<P> {
+    /// It is in its cell again. The notice is there where the task was woken during the poll.
+    Back(Option<Notice>),
+    /// It is to be dropped: the task was cancelled, or it is none of these cells'.
+    Drop(P, Held),
+}
+
+/// The cells of the tasks by number, and the global queue of the scheduled ones.
+///
+/// A contract sees it as a `Table`: a finite map from task numbers to cells, and lists of numbers.
+/// Its law, which every call keeps: a number stands once in the queues where its cell is scheduled,
+/// and else in none.
+#[derive(Drop)]
+pub struct Cells<P, T, W> {
+    pub(crate) next: u64,
+    pub(crate) cells: Slab<Numbered<Cell<P, T, W>>>,
+    pub(crate) global: VecDeque<TaskId>,
+    pub(crate) undropped: usize,
+}
+
+impl<P, T, W> Model for Cells<P, T, W> {
+    ghost use Rattle.executor_core.specs.Table.{Table, table_code};
+
+    ghost Value = { Table P T W };
+
+    ghost coded = { table_code P.code T.code W.code };
+
+    ghost use Rattle.executor_core.specs.TableView.{table_of, IsSound};
+    ghost use Rattle.std.specs.VecDeque.{deque_capacity};
+
+    ghost view = { λ a. table_of a.next a.cells.slots a.global.items };
+
+    ghost invariant = { λ a. IsSound a.next a.cells.slots a.global.items (deque_capacity a.global) a.undropped };
+}
+
+// Whether the id's cell is in its slot.
+fn holds<C>(cells: &Slab<Numbered<C>>, id: TaskId) -> bool
+    ensures { result ≡ is_numbered id.number (slice_index_or cells.now.slots id.slot None) }
+{
+    match cells.get(id.slot) {
+        Some(entry) => entry.number == id.number,
+        None => false,
+    }
+}
+
+// Whether the id's future is out, and its task was not cancelled.
+fn takes_back<P, T, W>(cells: &Slab<Numbered<Cell<P, T, W>>>, id: TaskId) -> bool
+    ensures { result ≡ takes_back_entry id.number (slice_index_or cells.now.slots id.slot None) }
+{
+    match cells.get(id.slot) {
+        Some(entry) => {
+            entry.number == id.number
+                && matches!(&entry.cell.state, State::Held)
+                && !entry.cell.cancelled
+        }
+        None => false,
+    }
+}
+
+// Whether the id's future is out.
+fn is_held_at<P, T, W>(cells: &Slab<Numbered<Cell<P, T, W>>>, id: TaskId) -> bool
+    ensures { result ≡ held_in (cell_in id.number (slice_index_or cells.now.slots id.slot None)) }
+{
+    match cells.get(id.slot) {
+        Some(entry) => entry.number == id.number && matches!(&entry.cell.state, State::Held),
+        None => false,
+    }
+}
+
+// Whether the id's handle is there.
+fn has_handle_at<P, T, W>(cells: &Slab<Numbered<Cell<P, T, W>>>, id: TaskId) -> bool
+    ensures { result ≡ handle_in (cell_in id.number (slice_index_or cells.now.slots id.slot None)) }
+{
+    match cells.get(id.slot) {
+        Some(entry) => entry.number == id.number && entry.cell.has_handle,
+        None => false,
+    }
+}
+
+// Whether the id's future is not dropped.
+fn is_undropped_at<P, T, W>(cells: &Slab<Numbered<Cell<P, T, W>>>, id: TaskId) -> bool
+    ensures { result ≡ undropped_in (cell_in id.number (slice_index_or cells.now.slots id.slot None)) }
+{
+    match cells.get(id.slot) {
+        Some(entry) => entry.number == id.number && has_future(&entry.cell),
+        None => false,
+    }
+}
+
+// Whether the id's task is cancelled.
+fn is_cancelled_at<P, T, W>(cells: &Slab<Numbered<Cell<P, T, W>>>, id: TaskId) -> bool
+    ensures { result ≡ cancelled_in (cell_in id.number (slice_index_or cells.now.slots id.slot None)) }
+{
+    match cells.get(id.slot) {
+        Some(entry) => entry.number == id.number && entry.cell.cancelled,
+        None => false,
+    }
+}
+
+// Whether the id's future is in its cell.
+fn keeps_at<P, T, W>(cells: &Slab<Numbered<Cell<P, T, W>>>, id: TaskId) -> bool
+    ensures { result ≡ future_in (cell_in id.number (slice_index_or cells.now.slots id.slot None)) }
+{
+    match cells.get(id.slot) {
+        Some(entry) => {
+            entry.number == id.number
+                && matches!(&entry.cell.state, State::Idle(_) | State::Scheduled(_))
+        }
+        None => false,
+    }
+}
+
+impl<P, T, W> Cells<P, T, W> {
+    /// No task, and none was there before.
+    pub fn new(alloc: Global) -> Result<Self, OutOfMemory>
+        ensures { IfOk result (λ cells. cells ≡ empty_table 0) }
+    {
+        Self::first_number(alloc, 0)
+    }
+
+    /// The same, with this number for the first task.
+    pub fn first_number(alloc: Global, first: u64) -> Result<Self, OutOfMemory>
+        ensures { IfOk result (λ cells. cells ≡ empty_table first) }
+    {
+        Ok(Cells {
+            next: first,
+            cells: Slab::new(alloc),
+            global: VecDeque::new(alloc),
+            undropped: 0,
+        })
+    }
+
+    /// Makes a task of this future, scheduled at the global end, with its handle there.
+    ///
+    /// # Errors
+    ///
+    /// `Exhausted` exactly where every number was given, and `OutOfMemory` where a growth was
+    /// refused. The future comes back, and nothing else changed.
+    pub fn spawn(&mut self, future: P) -> Result<(TaskId, Notice), SpawnError<P>>
+        ensures ok { IfOk result (λ r. self.new ≡ after_spawn self.old r.0.slot future) }
+        ensures id { IfOk result (λ r. r.0.number ≡ self.old.next) }
+        ensures free { IfOk result (λ r. IsFree self.old r.0.slot) }
+        ensures refused { OnErr result (self.new ≡ self.old) }
+        ensures cause { IfErr result (Refuses self.old.next future) }
+    {
+        if self.next == u64::MAX {
+            return Err(SpawnError::Exhausted(future));
+        }
+        if self.cells.reserve(1).is_err() {
+            return Err(SpawnError::OutOfMemory(future));
+        }
+        let more = self.undropped + 1 - self.global.len();
+        if self.global.reserve(more).is_err() {
+            return Err(SpawnError::OutOfMemory(future));
+        }
+        let number = self.next;
+        let cell = new_cell(future);
+        let slot = self.cells.insert_reserved(Numbered { number, cell });
+        let id = TaskId { number, slot };
+        self.global.push_back_reserved(id);
+        self.next = number + 1;
+        self.undropped += 1;
+        Ok((id, Notice { unspent: () }))
+    }
+
+    /// Schedules an idle task at the global end, and marks one whose future is out.
+    ///
+    /// The notice is there exactly where the task was idle. It takes no memory.
+    pub fn wake(&mut self, id: TaskId) -> Option<Notice>
+        ensures table { self.new ≡ after_wake self.old id }
+        ensures notice { is_some result ≡ wakes self.old id }
+    {
+        if !holds(&self.cells, id) {
+            return None;
+        }
+        if !replace_with(&mut self.cells[id.slot].cell, (), wake_cell) {
+            return None;
+        }
+        self.global.push_back_reserved(id);
+        Some(Notice { unspent: () })
+    }
+
+    /// The end of a poll that was pending: the future goes back, or is to be dropped.
+    ///
+    /// It takes no memory.
+    pub fn end_pending(&mut self, held: Held, future: P) -> EndPending<P>
+        requires { held.to_drop ≡ false }
+        ensures table { self.new ≡ after_end_pending self.old held.id future }
+        ensures answer { EndsPending self.old held future result }
+    {
+        let Held { id, to_drop: _ } = held;
+        if !takes_back(&self.cells, id) {
+            return EndPending::Drop(future, Held { id, to_drop: true });
+        }
+        if !replace_with(&mut self.cells[id.slot].cell, future, pend_cell) {
+            return EndPending::Back(None);
+        }
+        self.global.push_back_reserved(id);
+        EndPending::Back(Some(Notice { unspent: () }))
+    }
+
+    /// The end of a poll that gave this output, whose future was dropped.
+    ///
+    /// The output waits for the handle, or comes back where no handle will give it. It takes no
+    /// memory.
+    pub fn end_ready(&mut self, held: Held, output: T) -> EndReady<T, W>
+        requires { held.to_drop ≡ false }
+        ensures table { self.new ≡ after_end_ready self.old held.id output }
+        ensures answer { result ≡ ready_answer output (cell_at self.old held.id) }
+    {
+        let Held { id, to_drop: _ } = held;
+        if !is_held_at(&self.cells, id) {
+            return EndReady {
+                awaiter: None,
+                unwanted: Some(output),
+            };
+        }
+        self.undropped -= 1;
+        if self.cells[id.slot].cell.has_handle {
+            let (awaiter, unwanted) = replace_with(
+                &mut self.cells[id.slot].cell,
+                output,
+                ready_cell,
+            );
+            return EndReady { awaiter, unwanted };
+        }
+        let Numbered { number: _, cell } = self.cells.remove(id.slot);
+        EndReady {
+            awaiter: awaiter_of_held(cell),
+            unwanted: Some(output),
+        }
+    }
+
+    /// Asks the handle of a task for its output. It takes no memory.
+    ///
+    /// Where the future is not dropped yet, the waker is kept in the place of the one before.
+    /// A handle that is there no more answers `Cancelled`.
+    pub fn poll_handle(&mut self, id: TaskId, waker: W) -> PollHandle<T, W>
+        ensures table { self.new ≡ after_poll_handle self.old id waker }
+        ensures answer { result ≡ poll_answer waker (cell_at self.old id) }
+    {
+        if !has_handle_at(&self.cells, id) {
+            return PollHandle::Cancelled(waker);
+        }
+        if has_future(&self.cells[id.slot].cell) {
+            let before = replace_with(&mut self.cells[id.slot].cell, waker, await_cell);
+            return PollHandle::Pending(before);
+        }
+        let Numbered { number: _, cell } = self.cells.remove(id.slot);
+        match output_of_ended(cell) {
+            Some(output) => PollHandle::Output(output, waker),
+            None => PollHandle::Cancelled(waker),
+        }
+    }
+
+    /// Whether every future that was spawned was dropped. It stands for `Executor::is_empty`.
+    pub fn is_empty(&self) -> bool
+        ensures { IsTrue result ↔ AllDropped self.now }
+    {
+        self.undropped == 0
+    }
+
+    /// Whether the task's future is in its cell: neither out nor dropped.
+    pub fn keeps(&self, id: TaskId) -> bool
+        ensures { result ≡ future_in (cell_at self.now id) }
+    {
+        keeps_at(&self.cells, id)
+    }
+
+    // Whether the task's future is not dropped.
+    pub(crate) fn is_undropped(&self, id: TaskId) -> bool
+        ensures { result ≡ undropped_in (cell_at self.now id) }
+    {
+        is_undropped_at(&self.cells, id)
+    }
+
+    // Whether the task is cancelled.
+    pub(crate) fn is_cancelled(&self, id: TaskId) -> bool
+        ensures { result ≡ cancelled_in (cell_at self.now id) }
+    {
+        is_cancelled_at(&self.cells, id)
+    }
+
+    /// The law of the queues, which every call keeps: a number stands once in them where its cell
+    /// is scheduled, and else in none. It does nothing.
+    pub fn keeps_law(&self)
+        ensures { LockLaw self.now.cells self.now.global }
+    {
+        let _ = &self.next;
+    }
+}

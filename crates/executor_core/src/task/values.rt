@@ -1,0 +1,124 @@
+//! Task ids, and the values that must be spent.
+ghost use Rattle.std.specs.Prelude.{◌≡◌};
+
+use crate::task::traits::Wake;
+
+/// Names a task: its number, which no other task of the same cells ever has, and the slot of its
+/// cell.
+#[derive(Debug, Clone, Copy, PartialEq, Eq)]
+pub struct TaskId {
+    pub(crate) number: u64,
+    pub(crate) slot: usize,
+}
+
+impl TaskId {
+    /// The number: tasks are numbered from 0 in order of spawning.
+    pub fn number(self) -> u64
+        ensures { result ≡ self.number }
+    {
+        self.number
+    }
+
+    /// The slot, which another task may have once this one's cell was removed.
+    pub fn slot(self) -> usize
+        ensures { result ≡ self.slot }
+    {
+        self.slot
+    }
+}
+
+/// A task was queued, or such news is passed on: the flag is still to be exchanged.
+pub struct Notice {
+    pub(crate) unspent: (),
+}
+
+impl Notice {
+    /// Two notices become one.
+    pub fn join(self, other: Notice) -> Notice {
+        let Notice { unspent: () } = other;
+        self
+    }
+
+    // A world keeps its notices as a count.
+    pub(crate) fn into_count(self) -> u32
+        ensures { result ≡ 1 }
+    {
+        let Notice { unspent: () } = self;
+        1
+    }
+}
+
+/// An exchange of the flag won: the sleepers are still to be notified.
+pub struct Pick {
+    pub(crate) unspent: (),
+}
+
+/// The list of sleepers was changed by one who goes to sleep: a search is still to be made.
+pub struct Again {
+    pub(crate) unspent: (),
+}
+
+impl Again {
+    // The search is being made.
+    pub(crate) fn spend(self) {
+        let Again { unspent: () } = self;
+    }
+}
+
+/// A list of sleepers was changed: the flag is still to be stored.
+pub struct Change<X> {
+    pub(crate) notified: bool,
+    pub(crate) carried: X,
+}
+
+impl<X> Change<X> {
+    /// Whether nobody sleeps or somebody was notified, as of the change: the value to be stored.
+    pub fn is_notified(&self) -> bool
+        ensures { result ≡ self.now.notified }
+    {
+        self.notified
+    }
+}
+
+/// A waker that is still to be woken.
+pub struct Wakeup<W> {
+    pub(crate) waker: W,
+}
+
+impl<W: Wake> Wakeup<W> {
+    /// Wakes the waker, once.
+    pub fn wake(self) {
+        let Wakeup { waker } = self;
+        waker.wake();
+    }
+}
+
+/// The task was polled, or is to be disposed of, by its one holder.
+pub struct Held {
+    pub(crate) id: TaskId,
+    pub(crate) to_drop: bool,
+}
+
+/// A task that was taken: its future is out of its cell.
+pub struct Taken<P> {
+    pub(crate) id: TaskId,
+    pub(crate) future: P,
+    pub(crate) cancelled: bool,
+    pub(crate) held: Held,
+}
+
+impl<P> Taken<P> {
+    /// Which task was taken.
+    pub fn id(&self) -> TaskId
+        ensures { result ≡ self.now.id }
+    {
+        self.id
+    }
+
+    /// Whether the task is cancelled, so that its future is to be dropped and not polled.
+    pub fn cancelled(&self) -> bool
+        ensures { result ≡ self.now.cancelled }
+    {
+        self.cancelled
+    }
+}
