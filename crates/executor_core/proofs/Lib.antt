@@ -1,9 +1,17 @@
+pub mod AgreementLemmas
 pub mod CountLemmas
 pub mod EndPendingLemmas
 pub mod EndReadyLemmas
+pub mod ListLemmas
+pub mod LogLemmas
 pub mod RemoveLemmas
+pub mod RoomLemmas
+pub mod RowLemmas
+pub mod RunLemmas
 pub mod SlotLemmas
 pub mod SpawnLemmas
+pub mod StatusLemmas
+pub mod StepLemmas
 pub mod TableLemmas
 pub mod TakeLemmas
 pub mod WakeLemmas
