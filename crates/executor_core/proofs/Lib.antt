@@ -14,5 +14,6 @@ pub mod StatusLemmas
 pub mod StepLemmas
 pub mod TableLemmas
 pub mod TakeLemmas
+pub mod UndroppedLemmas
 pub mod WakeLemmas
 pub mod WriteLemmas
