@@ -1,4 +1,6 @@
+pub mod CancelLemmas
 pub mod CountLemmas
+pub mod DetachLemmas
 pub mod EndPendingLemmas
 pub mod EndReadyLemmas
 pub mod RemoveLemmas
