@@ -1,9 +1,9 @@
 -- What a cancel, and the end of a task that was cancelled, keep and give.
-use Rattle.std.proofs.Common.{◌≡◌, ℕ, ◌+◌, ◌-◌, ◌&&◌, Bool, true, false, List, [], ◌∷◌, ◌++◌, set, get_or, Option, Some, None, cond, refl, sym, ap, ◌∙◌}
+use Rattle.std.proofs.Common.{◌≡◌, ℕ, ◌-◌, ◌&&◌, Bool, true, false, List, [], ◌∷◌, ◌++◌, set, get_or, Option, Some, None, cond, refl, sym, ap, ◌∙◌}
 use Rattle.executor_core.specs.Table.{Table}
-use Rattle.executor_core.specs.States.{is_idle, is_held, is_undropped}
+use Rattle.executor_core.specs.States.{is_idle, is_held}
 use Rattle.executor_core.specs.TableView.{numbers_of, table_of, IsSound, Settled}
-use Rattle.executor_core.specs.Calls.{cell_at, with_cell, without_cell, queued_if, passes, handle_in, held_in, cancel_at, after_cancel, cancel_queues, end_dropped_at, dropped_answer}
+use Rattle.executor_core.specs.Calls.{with_cell, without_cell, queued_if, passes, handle_in, held_in, cancel_at, after_cancel, cancel_queues, end_dropped_at, dropped_answer}
 use Rattle.executor_core.specs.CellChanges.{cancelled_cell, disposed, wakeup_of}
 use Rattle.executor_core.proofs.TableLemmas.{table_set, cell_at_some}
 use Rattle.executor_core.proofs.WakeLemmas.{quiet_write, loud_write, woken_undropped}

@@ -107,7 +107,7 @@ impl<P, T, W> Cells<P, T, W> {
     pub fn drop_handle(&mut self, id: TaskId) -> (Option<Notice>, Option<T>, Option<W>)
         ensures table { self.new ≡ after_detach (after_cancel self.old id) id }
         ensures notice { is_some result.0 ≡ cancel_queues self.old id }
-        ensures answer { (result.1, result.2) ≡ detach_answer (cell_at (after_cancel self.old id) id) }
+        ensures answer { (result.1, result.2) ≡ detach_answer (cell_at self.old id) }
     {
         let notice = self.cancel(id);
         let (output, awaiter) = self.detach(id);

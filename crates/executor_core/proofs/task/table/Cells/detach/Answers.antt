@@ -1,4 +1,4 @@
-use Rattle.std.proofs.Common.{◌≡◌, Option, Some, None, refl, sym, ap, ◌∙◌}
+use Rattle.std.proofs.Common.{◌≡◌, Some, None, refl, sym, ap, ◌∙◌}
 use Rattle.executor_core.specs.Calls.{after_detach, detach_answer, detach_at, handle_in, cell_at}
 use Rattle.executor_core.specs.States.{is_undropped}
 use Rattle.executor_core.specs.CellChanges.{output_of}
