@@ -51,7 +51,7 @@ module _ {P T W : Type 0} where
     pub number : cell.number ≡ q
     pub is : t ≡ seen (first + at) cell.cell
 
-  find_sees : (first q : ℕ) (slots : List (Option (Numbered (Cell P T W)))) (t : Slotted P T W) → find nat_cmp q (by_number first slots) ≡ Some t → Sees first slots q t
+  pub find_sees : (first q : ℕ) (slots : List (Option (Numbered (Cell P T W)))) (t : Slotted P T W) → find nat_cmp q (by_number first slots) ≡ Some t → Sees first slots q t
   find_sees first q [] t e = absurd (cc)
   find_sees first q (None ∷ rest) t e =
       let later = find_sees (first + 1) q rest t e in

@@ -1,5 +1,5 @@
 -- What each call makes of the table, and what it answers.
-use Rattle.std.specs.Prelude.{◌≡◌, ◌≢◌, ℕ, ◌+◌, ◌==◌, Bool, true, false, List, [], ◌∷◌, ◌++◌, Option, Some, None, cond, is_some, ◌&&◌, ◌||◌, not}
+use Rattle.std.specs.Prelude.{◌≡◌, ◌≢◌, ℕ, ◌+◌, ◌==◌, Bool, true, false, List, [], ◌∷◌, ◌++◌, Option, Some, None, cond, is_some, count_by, ◌&&◌, ◌||◌, not}
 use Rattle.std.specs.FinMap as map
 use Rattle.executor_core.specs.Table.{Slotted, Table}
 use Rattle.executor_core.specs.States.{is_idle, is_held, is_scheduled, is_undropped}
@@ -63,6 +63,10 @@ module _ {P T W : Type 0} where
   -- every future that was spawned was dropped
   abbrev pub AllDropped : Table P T W → Type 0
   AllDropped table = (n : ℕ) (s : Slotted P T W) → map.get table.cells n ≡ Some s → is_undropped s.cell.state ≡ false
+
+  -- how many futures are not dropped
+  abbrev pub undropped_count : Table P T W → ℕ
+  undropped_count table = count_by (λ s. is_undropped s.cell.state) (map.values table.cells)
 
 -- changes at one id
 module _ {P T W : Type 0} where

@@ -5,3 +5,9 @@ pub mod TableView
 pub mod Calls
 pub mod Polling
 pub mod Refusals
+pub mod Log
+pub mod Promises
+pub mod Execution
+pub mod Steps
+pub mod Agreement
+pub mod WorldView

@@ -1,5 +1,5 @@
 -- What becomes of a taken task.
-use Rattle.std.specs.Prelude.{◌≡◌, Bool, true, false, Option, Some, None}
+use Rattle.std.specs.Prelude.{◌≡◌, true, false, Option, Some, None}
 use Rattle.executor_core.specs.declared.task.polling.Polled.{Polled}
 use Rattle.executor_core.specs.declared.task.polling.Polled.TheVariants as polled
 use Rattle.executor_core.specs.declared.task.polling.Ran.{Ran}

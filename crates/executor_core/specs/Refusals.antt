@@ -1,5 +1,5 @@
 -- Why a call gave up.
-use Rattle.std.specs.Prelude.{◌≡◌, ◌≢◌, ℕ, ◌-◌, ◌^◌}
+use Rattle.std.specs.Prelude.{◌≡◌, ◌≢◌, ℕ}
 use Rattle.executor_core.specs.declared.task.refusals.SpawnError.{SpawnError}
 use Rattle.executor_core.specs.declared.task.refusals.SpawnError.TheVariants.{OutOfMemory, Exhausted}
 

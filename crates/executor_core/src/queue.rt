@@ -1,5 +1,5 @@
 //! The global queue: the tasks that are scheduled, in the order in which they were.
-ghost use Rattle.std.specs.Prelude.{◌≡◌, [], IfSome, IfNone};
+ghost use Rattle.std.specs.Prelude.{◌≡◌, [], IfSome, IfNone, length, slice_get};
 ghost use Rattle.executor_core.specs.Calls.{after_take, TakesFront};
 
 use crate::task::cell::take_cell;
@@ -30,5 +30,22 @@ impl<P, T, W> Cells<P, T, W> {
             held,
         };
         Some((taken, Notice { unspent: () }))
+    }
+
+    /// How many tasks stand in the global queue.
+    pub fn global_len(&self) -> usize
+        ensures { result ≡ length self.now.global }
+    {
+        self.global.len()
+    }
+
+    /// The number of the task at this place of the global queue, the front being 0.
+    pub fn global_at(&self, i: usize) -> Option<u64>
+        ensures { result ≡ slice_get self.now.global i }
+    {
+        match self.global.get(i) {
+            Some(id) => Some(id.number),
+            None => None,
+        }
     }
 }

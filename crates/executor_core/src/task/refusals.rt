@@ -2,12 +2,19 @@
 ghost use Rattle.std.specs.Prelude.{◌≡◌};
 ghost use Rattle.executor_core.specs.Refusals.{refused_future};
 
+use std::alloc::AllocError;
 use thiserror::Error;
 
 /// A growth of memory was refused. Nothing else changed.
 #[derive(Debug, Clone, Copy, PartialEq, Eq, Error)]
 #[error("out of memory")]
 pub struct OutOfMemory;
+
+impl From<AllocError> for OutOfMemory {
+    fn from(_error: AllocError) -> OutOfMemory {
+        OutOfMemory
+    }
+}
 
 /// Why no task was spawned, with its future. Nothing else changed.
 #[derive(Debug, PartialEq, Eq, Drop, Error)]

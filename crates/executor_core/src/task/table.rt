@@ -1,6 +1,6 @@
 //! The table of task cells.
 ghost use Rattle.std.specs.Prelude.{◌≡◌, ◌≢◌, ℕ, ◌+◌, ◌-◌, ◌<◌, ◌≤◌, Bool, true, false, IsSome, IsTrue, ◌↔◌, List, [], ◌∷◌, ◌++◌, IfOk, IfErr, OnErr, is_some, slice_index_or, None};
-ghost use Rattle.executor_core.specs.Calls.{wakes, after_wake, after_end_pending, EndsPending, undropped_in, cancelled_in, future_in, empty_table, after_spawn, IsFree, AllDropped, cell_at, held_in, handle_in, after_end_ready, ready_answer, after_end_dropped, dropped_answer};
+ghost use Rattle.executor_core.specs.Calls.{wakes, after_wake, after_end_pending, EndsPending, undropped_in, cancelled_in, future_in, empty_table, after_spawn, IsFree, AllDropped, undropped_count, cell_at, held_in, handle_in, after_end_ready, ready_answer, after_end_dropped, dropped_answer};
 ghost use Rattle.executor_core.specs.Refusals.{Refuses};
 ghost use Rattle.executor_core.specs.States.{LockLaw};
 ghost use Rattle.executor_core.specs.TableView.{is_numbered, cell_in, takes_back_entry};
@@ -286,6 +286,13 @@ impl<P, T, W> Cells<P, T, W> {
         ensures { IsTrue result ↔ AllDropped self.now }
     {
         self.undropped == 0
+    }
+
+    /// How many of the futures that were spawned are not dropped.
+    pub fn undropped(&self) -> usize
+        ensures { result ≡ undropped_count self.now }
+    {
+        self.undropped
     }
 
     /// Whether the task's future is in its cell: neither out nor dropped.

@@ -45,11 +45,8 @@ impl Notice {
     }
 
     // A world keeps its notices as a count.
-    pub(crate) fn into_count(self) -> u32
-        ensures { result ≡ 1 }
-    {
+    pub(crate) fn keep(self) {
         let Notice { unspent: () } = self;
-        1
     }
 }
 
@@ -95,6 +92,13 @@ impl<W: Wake> Wakeup<W> {
     pub fn wake(self) {
         let Wakeup { waker } = self;
         waker.wake();
+    }
+}
+
+impl Wakeup<()> {
+    // A world's wakers are units, and its replies say that one came out.
+    pub(crate) fn into_waker(self) {
+        let Wakeup { waker: () } = self;
     }
 }
 

@@ -1,0 +1,215 @@
+-- What one more event makes of what a log says.
+use Rattle.std.proofs.Common.{◌≡◌, ◌≢◌, ℕ, ◌+◌, ◌==◌, ◌||◌, ◌&&◌, not, Bool, true, false, List, [], ◌∷◌, ◌++◌, cond, refl, sym, ap, ◌∙◌, inl, inr, ◌⊎◌, arith}
+use Rattle.std.proofs.lemmas.Bool.{eq-eqb, ne_eqb}
+use Rattle.std.proofs.lemmas.List.Sums.{sum_by-append}
+use Rattle.std.specs.Prelude.{count_by}
+use Rattle.executor_core.specs.Log.{unfollowed, is_spawn, is_wake, is_cancel, is_take, is_poll, is_drop, is_end, outputs, given, polls, wakes}
+use Rattle.std.specs.List.{list_any}
+use Rattle.executor_core.specs.Promises.{InOrder, MayFollow}
+use Rattle.executor_core.specs.Agreement.{Status, status}
+use Rattle.executor_core.proofs.StatusLemmas.{with_event, task_of, with_output, with_given}
+use Rattle.executor_core.specs.declared.interleave.events.Purpose.TheVariants.{ToPoll, ToDrop}
+use Rattle.executor_core.specs.declared.interleave.events.Event.{Event}
+use Rattle.executor_core.specs.declared.interleave.events.Event.TheVariants.{Spawned, Woken, Cancelled, Took, Returned, Finished, Dropped, Got}
+
+self : (n : ℕ) → (n == n) ≡ true
+self n = eq-eqb n n refl
+
+or-swap : (a b c : Bool) → a || (b || c) ≡ b || (a || c)
+or-swap true true c = refl
+or-swap true false c = refl
+or-swap false b c = refl
+
+or-true : (a : Bool) → a || true ≡ true
+or-true true = refl
+or-true false = refl
+
+last-swap : (a b c d l : Bool) → (a && not (b || c)) || (d || (not b && l)) ≡ d || (not b && ((a && not c) || l))
+last-swap a b c true l = or-true (a && not (b || c))
+last-swap true true c false l = refl
+last-swap false true c false l = refl
+last-swap a false c false l = refl
+
+module _ {E : Type 0} where
+  some-push : (f : E → Bool) (log : List E) (e : E) → list_any f (log ++ e ∷ []) ≡ f e || list_any f log
+  some-push f [] e = refl
+  some-push f (x ∷ rest) e = ap (λ b. f x || b) (some-push f rest e) ∙ or-swap (f x) (f e) (list_any f rest)
+
+  last-push : (f g : E → Bool) (log : List E) (e : E) → unfollowed f g (log ++ e ∷ []) ≡ f e || (not (g e) && unfollowed f g log)
+  last-push f g [] e = elim (f e) as (λ b. (b && true) || false ≡ b || (not (g e) && false)) [
+    | true ↦ refl
+    | false ↦ elim (g e) as (λ b. false ≡ not b && false) [
+      | true ↦ refl
+      | false ↦ refl
+    ]
+  ]
+  last-push f g (x ∷ rest) e =
+      ap (λ b. (f x && not b) || unfollowed f g (rest ++ e ∷ [])) (some-push g rest e)
+      ∙ ap (λ b. (f x && not (g e || list_any g rest)) || b) (last-push f g rest e)
+      ∙ last-swap (f x) (g e) (list_any g rest) (f e) (unfollowed f g rest)
+
+  -- the last element, or one before it
+  pub split_push : (log : List E) (e : E) (before : List E) (x : E) (after : List E) → log ++ e ∷ [] ≡ before ++ x ∷ after
+      → ((before ≡ log) × (x ≡ e)) ⊎ ((rest : List E) × (log ≡ before ++ x ∷ rest))
+  split_push [] e [] x after h = let same : x ≡ e = cc in inl (refl, same)
+  split_push [] e (b ∷ bs) x after h = absurd (no_tail bs (cc))
+    where
+      no_tail : (bs : List E) → [] ≡ bs ++ x ∷ after → ⊥
+      no_tail [] h = cc
+      no_tail (b ∷ bs) h = cc
+  split_push (l ∷ ls) e [] x after h = let same : l ≡ x = cc in inr (ls, ap (λ y. y ∷ ls) same)
+  split_push (l ∷ ls) e (b ∷ bs) x after h =
+      let head : l ≡ b = cc in
+      let tails : ls ++ e ∷ [] ≡ bs ++ x ∷ after = cc in
+      elim (split_push ls e bs x after tails) [
+        | inl p ↦ inl (ap (λ y. y ∷ bs) (sym head) ∙ ap (λ ys. l ∷ ys) p.0, p.1)
+        | inr p ↦ inr (p.0, ap (λ y. y ∷ ls) head ∙ ap (λ ys. b ∷ ys) p.1)
+      ]
+
+module _ {T : Type 0} where
+  outputs_front : (n : ℕ) (x : Event T) (rest : List (Event T)) → outputs n (x ∷ rest) ≡ with_output n x [] ++ outputs n rest
+  outputs_front n (Spawned m) rest = refl
+  outputs_front n (Woken m) rest = refl
+  outputs_front n (Cancelled m) rest = refl
+  outputs_front n (Took m purpose) rest = refl
+  outputs_front n (Returned m) rest = refl
+  outputs_front n (Dropped m) rest = refl
+  outputs_front n (Got m t) rest = refl
+  outputs_front n (Finished m t) rest = elim (m == n) as (λ b. cond b (t ∷ outputs n rest) (outputs n rest) ≡ cond b (t ∷ []) [] ++ outputs n rest) [
+    | true ↦ refl
+    | false ↦ refl
+  ]
+
+  with_output-front : (n : ℕ) (e : Event T) (xs ys : List T) → xs ++ with_output n e ys ≡ with_output n e (xs ++ ys)
+  with_output-front n (Spawned m) xs ys = refl
+  with_output-front n (Woken m) xs ys = refl
+  with_output-front n (Cancelled m) xs ys = refl
+  with_output-front n (Took m purpose) xs ys = refl
+  with_output-front n (Returned m) xs ys = refl
+  with_output-front n (Dropped m) xs ys = refl
+  with_output-front n (Got m t) xs ys = refl
+  with_output-front n (Finished m t) xs ys = elim (m == n) as (λ b. xs ++ cond b (ys ++ t ∷ []) ys ≡ cond b ((xs ++ ys) ++ t ∷ []) (xs ++ ys)) [
+    | true ↦ sym (assoc xs)
+    | false ↦ refl
+  ]
+    where
+      assoc : (zs : List T) → (zs ++ ys) ++ t ∷ [] ≡ zs ++ (ys ++ t ∷ [])
+      assoc [] = refl
+      assoc (z ∷ zs) = ap (λ l. z ∷ l) (assoc zs)
+
+  outputs-push : (n : ℕ) (log : List (Event T)) (e : Event T) → outputs n (log ++ e ∷ []) ≡ with_output n e (outputs n log)
+  outputs-push n [] e = outputs_front n e [] ∙ nil (with_output n e [])
+    where
+      nil : (xs : List T) → xs ++ [] ≡ xs
+      nil [] = refl
+      nil (x ∷ xs) = ap (λ l. x ∷ l) (nil xs)
+  outputs-push n (x ∷ rest) e =
+      outputs_front n x (rest ++ e ∷ []) ∙ ap (λ l. with_output n x [] ++ l) (outputs-push n rest e)
+      ∙ with_output-front n e (with_output n x []) (outputs n rest) ∙ ap (with_output n e) (sym (outputs_front n x rest))
+
+  given_front : (n : ℕ) (x : Event T) (rest : List (Event T)) → given n (x ∷ rest) ≡ with_given n x [] ++ given n rest
+  given_front n (Spawned m) rest = refl
+  given_front n (Woken m) rest = refl
+  given_front n (Cancelled m) rest = refl
+  given_front n (Took m purpose) rest = refl
+  given_front n (Returned m) rest = refl
+  given_front n (Dropped m) rest = refl
+  given_front n (Finished m t) rest = refl
+  given_front n (Got m t) rest = elim (m == n) as (λ b. cond b (t ∷ given n rest) (given n rest) ≡ cond b (t ∷ []) [] ++ given n rest) [
+    | true ↦ refl
+    | false ↦ refl
+  ]
+
+  with_given-front : (n : ℕ) (e : Event T) (xs ys : List T) → xs ++ with_given n e ys ≡ with_given n e (xs ++ ys)
+  with_given-front n (Spawned m) xs ys = refl
+  with_given-front n (Woken m) xs ys = refl
+  with_given-front n (Cancelled m) xs ys = refl
+  with_given-front n (Took m purpose) xs ys = refl
+  with_given-front n (Returned m) xs ys = refl
+  with_given-front n (Dropped m) xs ys = refl
+  with_given-front n (Finished m t) xs ys = refl
+  with_given-front n (Got m t) xs ys = elim (m == n) as (λ b. xs ++ cond b (ys ++ t ∷ []) ys ≡ cond b ((xs ++ ys) ++ t ∷ []) (xs ++ ys)) [
+    | true ↦ sym (assoc xs)
+    | false ↦ refl
+  ]
+    where
+      assoc : (zs : List T) → (zs ++ ys) ++ t ∷ [] ≡ zs ++ (ys ++ t ∷ [])
+      assoc [] = refl
+      assoc (z ∷ zs) = ap (λ l. z ∷ l) (assoc zs)
+
+  given-push : (n : ℕ) (log : List (Event T)) (e : Event T) → given n (log ++ e ∷ []) ≡ with_given n e (given n log)
+  given-push n [] e = given_front n e [] ∙ nil (with_given n e [])
+    where
+      nil : (xs : List T) → xs ++ [] ≡ xs
+      nil [] = refl
+      nil (x ∷ xs) = ap (λ l. x ∷ l) (nil xs)
+  given-push n (x ∷ rest) e =
+      given_front n x (rest ++ e ∷ []) ∙ ap (λ l. with_given n x [] ++ l) (given-push n rest e)
+      ∙ with_given-front n e (with_given n x []) (given n rest) ∙ ap (with_given n e) (sym (given_front n x rest))
+
+  count-push : (f : Event T → Bool) (log : List (Event T)) (e : Event T) → count_by f (log ++ e ∷ []) ≡ cond (f e) (1 + count_by f log) (count_by f log)
+  count-push f log e = sum_by-append (λ k. cond (f k) 1 0) log (e ∷ []) ∙ one (f e) refl
+    where
+      one : (b : Bool) → f e ≡ b → count_by f log + count_by f (e ∷ []) ≡ cond b (1 + count_by f log) (count_by f log)
+      one true is = rw is (omega arith)
+      one false is = rw is (omega arith)
+
+  pub status-push : (n : ℕ) (log : List (Event T)) (e : Event T) → status n (log ++ e ∷ []) ≡ with_event n e (status n log)
+  status-push n log e = λ i. record {
+    spawned = some-push (is_spawn n) log e i;
+    dropped = some-push (is_drop n) log e i;
+    cancelled = some-push (is_cancel n) log e i;
+    taken = some-push (is_take n) log e i;
+    held = last-push (is_take n) (is_end n) log e i;
+    woken = last-push (is_wake n) (is_take n) log e i;
+    cancelled_since = last-push (is_cancel n) (is_take n) log e i;
+    outputs = outputs-push n log e i;
+    given = given-push n log e i;
+    polls = count-push (is_poll n) log e i;
+    wakes = count-push (is_wake n) log e i;
+  }
+
+  stepped_other : (n : ℕ) (e : Event T) (s : Status T) → (task_of e == n) ≡ false → with_event n e s ≡ s
+  stepped_other n (Spawned m) s h = rw h refl
+  stepped_other n (Woken m) s h = rw h refl
+  stepped_other n (Cancelled m) s h = rw h refl
+  stepped_other n (Took m ToPoll) s h = rw h refl
+  stepped_other n (Took m ToDrop) s h = rw h refl
+  stepped_other n (Returned m) s h = rw h refl
+  stepped_other n (Finished m t) s h = rw h refl
+  stepped_other n (Dropped m) s h = rw h refl
+  stepped_other n (Got m t) s h = rw h refl
+
+  pub status_other : (q : ℕ) (log : List (Event T)) (e : Event T) → q ≢ task_of e → status q (log ++ e ∷ []) ≡ status q log
+  status_other q log e far = status-push q log e ∙ stepped_other q e (status q log) (ne_eqb (task_of e) q (λ same. far (sym same)))
+
+  pub on_spawn : (n : ℕ) (log : List (Event T)) → status n (log ++ Spawned n ∷ []) ≡ record (status n log) { spawned = true }
+  on_spawn n log = status-push n log _ ∙ rw (self n) refl
+
+  pub on_wake : (n : ℕ) (log : List (Event T)) → status n (log ++ Woken n ∷ []) ≡ record (status n log) { woken = true; wakes = 1 + wakes n log }
+  on_wake n log = status-push n log _ ∙ rw (self n) refl
+
+  pub on_poll : (n : ℕ) (log : List (Event T)) → status n (log ++ Took n ToPoll ∷ []) ≡ record (status n log) { taken = true; held = true; woken = false; cancelled_since = false; polls = 1 + polls n log }
+  on_poll n log = status-push n log _ ∙ rw (self n) refl
+
+  pub on_take : (n : ℕ) (log : List (Event T)) → status n (log ++ Took n ToDrop ∷ []) ≡ record (status n log) { taken = true; held = true; woken = false; cancelled_since = false }
+  on_take n log = status-push n log _ ∙ rw (self n) refl
+
+  pub on_return : (n : ℕ) (log : List (Event T)) → status n (log ++ Returned n ∷ []) ≡ record (status n log) { held = false }
+  on_return n log = status-push n log _ ∙ rw (self n) refl
+
+  pub on_drop : (n : ℕ) (log : List (Event T)) → status n (log ++ Dropped n ∷ []) ≡ record (status n log) { dropped = true; held = false }
+  on_drop n log = status-push n log _ ∙ rw (self n) refl
+
+  pub on_finish : (n : ℕ) (t : T) (log : List (Event T)) → status n (log ++ Finished n t ∷ []) ≡ record (status n log) { outputs = outputs n log ++ t ∷ [] }
+  on_finish n t log = status-push n log _ ∙ rw (self n) refl
+
+  pub on_give : (n : ℕ) (t : T) (log : List (Event T)) → status n (log ++ Got n t ∷ []) ≡ record (status n log) { given = given n log ++ t ∷ [] }
+  on_give n t log = status-push n log _ ∙ rw (self n) refl
+
+  pub order-push : (log : List (Event T)) (e : Event T) → InOrder log → MayFollow log e → InOrder (log ++ e ∷ [])
+  order-push log e order last before x after is =
+      elim (split_push log e before x after is) [
+        | inl p ↦ rw (p.0, p.1) last
+        | inr p ↦ order before x p.0 p.1
+      ]

@@ -1,0 +1,6 @@
+use Rattle.std.proofs.Common.{◌∙◌, ap}
+use Rattle.executor_core.specs.Log.{held}
+use Rattle.executor_core.proofs.interleave.World.is_out.Goals as goal
+
+pub returns : goal.returns
+returns g c = c.has_future.ensures ∙ c.self.invariant.agree.out c.args.n ∙ ap (λ w. held c.args.n w.log) c.self.view_is

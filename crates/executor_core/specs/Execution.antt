@@ -1,0 +1,85 @@
+-- What a contract sees of a `World`.
+use Rattle.std.specs.Prelude.{◌≡◌, ℕ, zero, suc, Bool, List, refl, true, false, ◌⊎◌}
+use Rattle.std.proofs.Common.{inl, inr}
+use Rattle.std.specs.Coded.{Coded, code_by, coded×, coded⊎, coded_ℕ, coded_list, coded_bool}
+use Rattle.executor_core.specs.declared.interleave.events.Purpose.{Purpose}
+use Rattle.executor_core.specs.declared.interleave.events.Purpose.TheVariants.{ToPoll, ToDrop}
+use Rattle.executor_core.specs.declared.interleave.tasks.TaskInfo.{TaskInfo}
+use Rattle.executor_core.specs.declared.interleave.events.Event.{Event}
+use Rattle.executor_core.specs.declared.interleave.events.Event.TheVariants.{Spawned, Woken, Cancelled, Took, Returned, Finished, Dropped, Got}
+
+-- the log, how many steps were accepted and may be, the global queue, the notices that float,
+-- and by number what the log does not say of a task
+pub record Execution (T : Type 0) : Type 0 where
+  pub log : List (Event T)
+  pub accepted : ℕ
+  pub limit : ℕ
+  pub global : List ℕ
+  pub notices : ℕ
+  pub tasks : List TaskInfo
+
+purpose_bool : Purpose → Bool
+purpose_bool ToPoll = true
+purpose_bool ToDrop = false
+
+bool_purpose : Bool → Purpose
+bool_purpose true = ToPoll
+bool_purpose false = ToDrop
+
+module _ {T : Type 0} where
+  pub event_parts : Event T → (ℕ × ℕ) ⊎ ((ℕ × Bool) ⊎ ((ℕ × T) ⊎ (ℕ × T)))
+  event_parts (Spawned n) = inl (0, n)
+  event_parts (Woken n) = inl (1, n)
+  event_parts (Cancelled n) = inl (2, n)
+  event_parts (Returned n) = inl (3, n)
+  event_parts (Dropped n) = inl (4, n)
+  event_parts (Took n p) = inr (inl (n, purpose_bool p))
+  event_parts (Finished n t) = inr (inr (inl (n, t)))
+  event_parts (Got n t) = inr (inr (inr (n, t)))
+
+  plain_event : ℕ → ℕ → Event T
+  plain_event zero n = Spawned n
+  plain_event (suc zero) n = Woken n
+  plain_event (suc (suc zero)) n = Cancelled n
+  plain_event (suc (suc (suc zero))) n = Returned n
+  plain_event (suc (suc (suc (suc k)))) n = Dropped n
+
+  pub parts_event : (ℕ × ℕ) ⊎ ((ℕ × Bool) ⊎ ((ℕ × T) ⊎ (ℕ × T))) → Event T
+  parts_event (inl p) = plain_event p.0 p.1
+  parts_event (inr (inl p)) = Took p.0 (bool_purpose p.1)
+  parts_event (inr (inr (inl p))) = Finished p.0 p.1
+  parts_event (inr (inr (inr p))) = Got p.0 p.1
+
+  pub parts_event-event_parts : (e : Event T) → parts_event (event_parts e) ≡ e
+  unfolding event_parts parts_event plain_event purpose_bool bool_purpose
+  parts_event-event_parts (Spawned n) = refl
+  parts_event-event_parts (Woken n) = refl
+  parts_event-event_parts (Cancelled n) = refl
+  parts_event-event_parts (Returned n) = refl
+  parts_event-event_parts (Dropped n) = refl
+  parts_event-event_parts (Took n ToPoll) = refl
+  parts_event-event_parts (Took n ToDrop) = refl
+  parts_event-event_parts (Finished n t) = refl
+  parts_event-event_parts (Got n t) = refl
+
+abbrev pub info_code : Coded TaskInfo
+info_code =
+    code_by
+    (ℕ × (Bool × (Bool × Bool)))
+    (coded× coded_ℕ (coded× coded_bool (coded× coded_bool coded_bool)))
+    (λ i. (i.slot, (i.has_handle, (i.awaited, i.to_drop))))
+    (λ q. record { slot = q.0; has_handle = q.1.0; awaited = q.1.1.0; to_drop = q.1.1.1 })
+    (λ _. refl)
+
+module _ {T : Type 0} (t : Coded T) where
+  abbrev pub event_code : Coded (Event T)
+  event_code = code_by ((ℕ × ℕ) ⊎ ((ℕ × Bool) ⊎ ((ℕ × T) ⊎ (ℕ × T)))) (coded⊎ (coded× coded_ℕ coded_ℕ) (coded⊎ (coded× coded_ℕ coded_bool) (coded⊎ (coded× coded_ℕ t) (coded× coded_ℕ t)))) event_parts parts_event parts_event-event_parts
+
+  abbrev pub execution_code : Coded (Execution T)
+  execution_code =
+      code_by
+      (List (Event T) × (ℕ × (ℕ × (List ℕ × (ℕ × List TaskInfo)))))
+      (coded× (coded_list event_code) (coded× coded_ℕ (coded× coded_ℕ (coded× (coded_list coded_ℕ) (coded× coded_ℕ (coded_list info_code))))))
+      (λ s. (s.log, (s.accepted, (s.limit, (s.global, (s.notices, s.tasks))))))
+      (λ q. record { log = q.0; accepted = q.1.0; limit = q.1.1.0; global = q.1.1.1.0; notices = q.1.1.1.1.0; tasks = q.1.1.1.1.1 })
+      (λ _. refl)

@@ -1,0 +1,147 @@
+-- Which step a world takes at a request, row by row.
+use Rattle.std.specs.Prelude.{◌≡◌, ◌≢◌, ◌⊎◌, ℕ, ◌+◌, Bool, true, false, List, [], ◌∷◌, ◌++◌, length, Option, Some, None, cond, ◌&&◌, ◌||◌, not, slice_get, slice_set}
+use Rattle.executor_core.specs.Log.{spawned, dropped, cancelled, held, woken, idle, outputs}
+use Rattle.executor_core.specs.Execution.{Execution}
+use Rattle.executor_core.specs.declared.interleave.tasks.TaskInfo.{TaskInfo}
+use Rattle.executor_core.specs.declared.interleave.events.Purpose.TheVariants.{ToPoll, ToDrop}
+use Rattle.executor_core.specs.declared.interleave.events.Event.{Event}
+use Rattle.executor_core.specs.declared.interleave.events.Event.TheVariants.{Spawned, Woken, Took, Returned, Finished, Dropped, Got}
+use Rattle.executor_core.specs.declared.interleave.steps.Step.{Step}
+use Rattle.executor_core.specs.declared.interleave.steps.Step.TheVariants.{Spawn, Wake, TryTick, Pend, Ready, PollHandle}
+use Rattle.executor_core.specs.declared.interleave.steps.Reply.{Reply}
+use Rattle.executor_core.specs.declared.interleave.steps.Reply.TheVariants as reply
+
+-- what is known of a task, and of one that was not spawned
+abbrev pub no_info : TaskInfo
+no_info = record { slot = 0; has_handle = false; awaited = false; to_drop = false }
+
+abbrev pub info_or : Option TaskInfo → TaskInfo
+info_or None = no_info
+info_or (Some i) = i
+
+-- what is known of a new task
+abbrev pub new_info : ℕ → TaskInfo
+new_info slot = record { slot = slot; has_handle = true; awaited = false; to_drop = false }
+
+-- a world before its first step
+abbrev pub opening : {T : Type 0} → ℕ → Execution T
+opening limit = record { log = []; accepted = 0; limit = limit; global = []; notices = 0; tasks = [] }
+
+-- the words of the rows
+module _ {T : Type 0} where
+  abbrev pub info : ℕ → Execution T → TaskInfo
+  info n w = info_or (slice_get w.tasks n)
+
+  abbrev pub logged : Event T → Execution T → Execution T
+  logged e w = record w { log = w.log ++ e ∷ [] }
+
+  abbrev pub queued : ℕ → Execution T → Execution T
+  queued n w = record w { global = w.global ++ n ∷ [] }
+
+  abbrev pub noticed : Execution T → Execution T
+  noticed w = record w { notices = w.notices + 1 }
+
+  abbrev pub informed : ℕ → TaskInfo → Execution T → Execution T
+  informed n i w = record w { tasks = slice_set w.tasks n i }
+
+  abbrev pub counted : Execution T → Execution T
+  counted w = record w { accepted = w.accepted + 1 }
+
+-- the rows: from the world before to the reply and the world after
+module _ {T : Type 0} where
+  -- spawn: the next number gets a slot and stands at the global end
+  abbrev pub spawn_row : ℕ → Execution T → Execution T
+  spawn_row slot w =
+      noticed (queued (length w.tasks) (logged (Spawned (length w.tasks)) (record w { tasks = w.tasks ++ new_info slot ∷ [] })))
+
+  -- wake n
+  abbrev pub wake_row : ℕ → Execution T → Reply T × Execution T
+  wake_row n w =
+      cond (idle n w.log) (reply.Notice, noticed (queued n (logged (Woken n) w)))
+      (cond (dropped n w.log) (reply.Nothing, w) (reply.Nothing, logged (Woken n) w))
+
+  -- trytick: the front of the global queue is taken
+  abbrev pub tick_row : List ℕ → Execution T → Reply T × Execution T
+  tick_row [] w = (reply.NoTask, w)
+  tick_row (n ∷ rest) w =
+      cond (cancelled n w.log)
+      (reply.Drop n, noticed (logged (Took n ToDrop) (informed n (record (info n w) { to_drop = true }) (record w { global = rest }))))
+      (reply.Poll n, noticed (logged (Took n ToPoll) (informed n (record (info n w) { to_drop = false }) (record w { global = rest }))))
+
+  -- pend n: the future goes back, unless the task was cancelled
+  abbrev pub pend_row : ℕ → Execution T → Reply T × Execution T
+  pend_row n w =
+      cond (cancelled n w.log) (reply.Drop n, informed n (record (info n w) { to_drop = true }) w)
+      (cond (woken n w.log)
+      (reply.Queued n, noticed (queued n (logged (Returned n) w)))
+      (reply.Idle n, logged (Returned n) w))
+
+  abbrev pub ready_reply : Bool → Option T → Reply T
+  ready_reply awaiter None = reply.Finished awaiter
+  ready_reply awaiter (Some t) = reply.Unwanted t awaiter
+
+  -- ready n t: the future was dropped, and gave its output unless the task was cancelled
+  abbrev pub ready_row : ℕ → T → Execution T → Reply T × Execution T
+  ready_row n t w =
+      let unawaited = informed n (record (info n w) { awaited = false }) w in
+      let finished = logged (Dropped n) (logged (Finished n t) unawaited) in
+      cond (cancelled n w.log)
+      (reply.Unwanted t (info n w).awaited, logged (Dropped n) unawaited)
+      (cond (info n w).has_handle (reply.Finished (info n w).awaited, finished) (reply.Unwanted t (info n w).awaited, finished))
+
+  -- pollhandle n: what the handle of a dropped task gives
+  abbrev pub give_row : ℕ → List T → Execution T → Reply T × Execution T
+  give_row n [] w = (reply.Cancelled, informed n (record (info n w) { has_handle = false }) w)
+  give_row n (t ∷ _) w = (reply.Output t, logged (Got n t) (informed n (record (info n w) { has_handle = false }) w))
+
+  abbrev pub handle_row : ℕ → Execution T → Reply T × Execution T
+  handle_row n w =
+      cond (dropped n w.log) (give_row n (outputs n w.log) w)
+      (reply.Pending, informed n (record (info n w) { awaited = true }) w)
+
+-- what a step does
+module _ {T : Type 0} where
+  -- no task that is undropped or has its handle has this slot
+  abbrev pub FreeSlot : Execution T → ℕ → Type 0
+  FreeSlot w slot = (n : ℕ) (i : TaskInfo) → slice_get w.tasks n ≡ Some i → not (dropped n w.log) || i.has_handle ≡ true → i.slot ≢ slot
+
+  -- memory was refused, or there is a new task in some free slot
+  abbrev pub Spawns : Execution T → Reply T → Execution T → Type 0
+  Spawns old answer new =
+      ((answer ≡ reply.OutOfMemory) × (new ≡ old))
+      ⊎ ((slot : ℕ) × FreeSlot old slot × (answer ≡ reply.Task (length old.tasks)) × (new ≡ counted (spawn_row slot old)))
+
+  abbrev pub row : Reply T × Execution T → Reply T → Execution T → Type 0
+  row r answer new = (answer ≡ r.0) × (new ≡ counted r.1)
+
+module _ {P T : Type 0} where
+  -- the step is enabled
+  abbrev pub enabled : Step P T → Execution T → Bool
+  enabled (Spawn p) w = true
+  enabled (Wake n) w = spawned n w.log
+  enabled TryTick w = true
+  enabled (Pend n) w = held n w.log && not (info n w).to_drop
+  enabled (Ready n t) w = held n w.log && not (info n w).to_drop
+  enabled (PollHandle n) w = (info n w).has_handle
+
+  -- what an enabled step does
+  abbrev pub Does : Step P T → Execution T → Reply T → Execution T → Type 0
+  Does (Spawn p) old answer new = Spawns old answer new
+  Does (Wake n) old answer new = row (wake_row n old) answer new
+  Does TryTick old answer new = row (tick_row old.global old) answer new
+  Does (Pend n) old answer new = row (pend_row n old) answer new
+  Does (Ready n t) old answer new = row (ready_row n t old) answer new
+  Does (PollHandle n) old answer new = row (handle_row n old) answer new
+
+  -- a step: refused where the log is full, else where it is not enabled, else done
+  pub record StepTo (old : Execution T) (step : Step P T) (answer : Reply T) (new : Execution T) : Type 0 where
+    pub full : old.accepted ≡ old.limit → (answer ≡ reply.LogFull) × (new ≡ old)
+    pub not_now : old.accepted ≢ old.limit → enabled step old ≡ false → (answer ≡ reply.NotNow) × (new ≡ old)
+    pub done : old.accepted ≢ old.limit → enabled step old ≡ true → Does step old answer new
+
+  -- these replies to these steps, one after another
+  abbrev pub RunTo : Execution T → List (Step P T) → List (Reply T) → Execution T → Type 0
+  RunTo old [] [] new = new ≡ old
+  RunTo old (step ∷ steps) (answer ∷ answers) new = (mid : Execution T) × StepTo old step answer mid × RunTo mid steps answers new
+  RunTo old [] (answer ∷ answers) new = ⊥
+  RunTo old (step ∷ steps) [] new = ⊥
