@@ -2,7 +2,7 @@
 use Rattle.std.proofs.Common.{◌≡◌, ℕ, ◌+◌, ◌||◌, ◌&&◌, Bool, true, false, not, List, length, set, get_or, Option, Some, None, cond, refl, sym, ap, ◌∙◌, arith}
 use Rattle.executor_core.specs.Table.{Table}
 use Rattle.executor_core.specs.States.{is_idle, is_held, is_scheduled, is_undropped}
-use Rattle.executor_core.specs.TableView.{numbers_of, table_of, IsSound}
+use Rattle.executor_core.specs.TableView.{numbers_of, table_of, IsSound, Settled}
 use Rattle.executor_core.specs.Calls.{cell_at, with_cell, without_cell, end_ready_at, ready_answer, held_in, handle_in, poll_handle_at, poll_answer, ended_answer}
 use Rattle.executor_core.specs.CellChanges.{readied, awaited, output_of, wakeup_of}
 use Rattle.executor_core.proofs.TableLemmas.{table_set, cell_at_some}
@@ -15,7 +15,7 @@ use Rattle.executor_core.specs.declared.task.cell.State.TheVariants.{Idle, Sched
 use Rattle.std.proofs.Common.{◌-◌, add-zero}
 use Rattle.executor_core.specs.declared.task.table.EndReady.{EndReady}
 use Rattle.executor_core.specs.declared.task.values.Wakeup.{Wakeup}
-use Rattle.executor_core.specs.declared.task.table.PollHandle.TheVariants.{Cancelled, Pending}
+use Rattle.executor_core.specs.declared.task.handles.PollHandle.TheVariants.{Cancelled, Pending}
 use Rattle.executor_core.proofs.SlotLemmas.{Changes}
 use Rattle.executor_core.proofs.TableLemmas.{put_sound}
 use Rattle.executor_core.proofs.WriteLemmas.{law_at}
@@ -44,19 +44,28 @@ arith_end : (u l : ℕ) {a b : Bool} → (u - 1) + 1 ≡ u → a ≡ true → b 
 arith_end u l e f g = rw (f, g) (omega arith)
 
 module _ {P T W : Type 0} where
+  -- a write of a cell whose future was out and is dropped now, where its handle is there
+  pub ended_sound : {next capacity undropped : ℕ} {slots : List (Option (Numbered (Cell P T W)))} {ids : List TaskId}
+      → IsSound next slots ids capacity undropped
+      → (key : ℕ) (e : Numbered (Cell P T W)) (c : Cell P T W) → get_or slots key None ≡ Some e → is_held e.cell.state ≡ true
+      → is_scheduled c.state ≡ false → (is_idle c.state || is_held c.state) ≡ false → Settled c
+      → IsSound next (set slots key (Some (record { number = e.number; cell = c }))) ids capacity (undropped - 1)
+  ended_sound {undropped = undropped} {ids = ids} sound key e c there held unqueued unqueueable settled =
+      let facts = held_state e.cell.state held in
+      let one = counted_one sound key e there facts.1 in
+      let room = sound.room in
+      put_sound sound key e c there ids _ (undropped - 1) (omega arith) settled sound.placed
+      (law_at sound key e there ∙ ap (λ b. cond b 1 0) (facts.0 ∙ sym unqueued))
+      (λ q far. refl)
+      (arith_end undropped (length ids) one facts.1 unqueueable)
+
   pub ready_sound : {next capacity undropped : ℕ} {slots : List (Option (Numbered (Cell P T W)))} {ids : List TaskId}
       → IsSound next slots ids capacity undropped
       → (key : ℕ) (e : Numbered (Cell P T W)) (t : T) → get_or slots key None ≡ Some e → is_held e.cell.state ≡ true → e.cell.has_handle ≡ true
       → IsSound next (set slots key (Some (record { number = e.number; cell = readied e.cell t }))) ids capacity (undropped - 1)
-  ready_sound {undropped = undropped} {ids = ids} sound key e t there held handle =
-      let facts = held_state e.cell.state held in
+  ready_sound sound key e t there held handle =
       let after = readied_state e.cell.cancelled (readied e.cell t).state t refl in
-      let one = counted_one sound key e there facts.1 in
-      let room = sound.room in
-      put_sound sound key e (readied e.cell t) there ids _ (undropped - 1) (omega arith) (λ dropped. (refl, handle)) sound.placed
-      (law_at sound key e there ∙ ap (λ b. cond b 1 0) (facts.0 ∙ sym after.0))
-      (λ q far. refl)
-      (arith_end undropped (length ids) one facts.1 after.1)
+      ended_sound sound key e (readied e.cell t) there held after.0 after.1 (λ dropped. (refl, handle))
 
   pub leave_sound : {next capacity undropped : ℕ} {slots : List (Option (Numbered (Cell P T W)))} {ids : List TaskId}
       → IsSound next slots ids capacity undropped

@@ -1,5 +1,7 @@
 pub mod AgreementLemmas
+pub mod CancelLemmas
 pub mod CountLemmas
+pub mod DetachLemmas
 pub mod EndPendingLemmas
 pub mod EndReadyLemmas
 pub mod ListLemmas

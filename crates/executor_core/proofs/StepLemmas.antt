@@ -20,8 +20,8 @@ use Rattle.executor_core.proofs.AgreementLemmas.{LogChange, log_same, log_pushed
 use Rattle.executor_core.specs.declared.task.cell.Cell.{Cell}
 use Rattle.executor_core.specs.declared.task.cell.State.{State}
 use Rattle.executor_core.specs.declared.task.cell.State.TheVariants.{Idle, Scheduled, Held, Finished, Gone}
-use Rattle.executor_core.specs.declared.task.table.PollHandle.{PollHandle}
-use Rattle.executor_core.specs.declared.task.table.PollHandle.TheVariants as handle
+use Rattle.executor_core.specs.declared.task.handles.PollHandle.{PollHandle}
+use Rattle.executor_core.specs.declared.task.handles.PollHandle.TheVariants as handle
 use Rattle.executor_core.specs.declared.interleave.tasks.TaskInfo.{TaskInfo}
 use Rattle.executor_core.specs.declared.interleave.events.Purpose.TheVariants.{ToPoll, ToDrop}
 use Rattle.executor_core.specs.declared.interleave.events.Event.{Event}

@@ -35,7 +35,7 @@ module _ {P T : Type 0} where
   loud (Finished t) h = absurd (cc)
   loud Gone h = absurd (cc)
 
-  woken_undropped : (s : State P T) → is_undropped (state_woken s) ≡ is_undropped s
+  pub woken_undropped : (s : State P T) → is_undropped (state_woken s) ≡ is_undropped s
   woken_undropped (Idle p) = refl
   woken_undropped (Scheduled p) = refl
   woken_undropped Held = refl
@@ -46,12 +46,30 @@ module _ {P T W : Type 0} where
   settled_woken : (c : Cell P T W) → Settled c → Settled (woken c)
   settled_woken c settled dropped = settled (sym (woken_undropped c.state) ∙ dropped)
 
+  -- a write of the state after a wake, which changes no queue
+  pub quiet_write : {next capacity undropped : ℕ} {slots : List (Option (Numbered (Cell P T W)))} {ids : List TaskId}
+      → IsSound next slots ids capacity undropped
+      → (id : TaskId) (e : Numbered (Cell P T W)) (c : Cell P T W) → get_or slots id.slot None ≡ Some e → c.state ≡ state_woken e.cell.state → Settled c → is_idle e.cell.state ≡ false
+      → IsSound next (set slots id.slot (Some (record { number = e.number; cell = c }))) ids capacity undropped
+  quiet_write sound id e c there state settled quiet =
+      kept_sound sound id e c there (ap is_scheduled state ∙ quiet_scheduled e.cell.state quiet) (ap (λ s. is_idle s || is_held s) state ∙ quiet_queue e.cell.state quiet) settled
+
+  -- a write of the state after a wake, which queues the cell
+  pub loud_write : {next capacity undropped : ℕ} {slots : List (Option (Numbered (Cell P T W)))} {ids later : List TaskId}
+      → IsSound next slots ids capacity undropped
+      → (id : TaskId) (e : Numbered (Cell P T W)) (c : Cell P T W) → get_or slots id.slot None ≡ Some e → e.number ≡ id.number → c.state ≡ state_woken e.cell.state → Settled c → is_idle e.cell.state ≡ true
+      → (room : ℕ) → capacity ≡ room → later ≡ ids ++ id ∷ []
+      → IsSound next (set slots id.slot (Some (record { number = e.number; cell = c }))) later room undropped
+  loud_write sound id e c there number state settled idle room same_room longer =
+      let facts = loud e.cell.state idle in
+      queued_sound sound id e c there number facts.0 (ap is_scheduled state ∙ facts.1) facts.2 (ap (λ s. is_idle s || is_held s) state ∙ facts.3) settled room same_room longer
+
   -- the id's cell, whose wake changes no queue
   pub quiet_sound : {next capacity undropped : ℕ} {slots : List (Option (Numbered (Cell P T W)))} {ids : List TaskId}
       → IsSound next slots ids capacity undropped
       → (id : TaskId) (e : Numbered (Cell P T W)) → get_or slots id.slot None ≡ Some e → is_idle e.cell.state ≡ false
       → IsSound next (set slots id.slot (Some (record { number = e.number; cell = woken e.cell }))) ids capacity undropped
-  quiet_sound sound id e there quiet = kept_sound sound id e (woken e.cell) there (quiet_scheduled e.cell.state quiet) (quiet_queue e.cell.state quiet) (settled_woken e.cell (sound.settled id.slot e there))
+  quiet_sound sound id e there quiet = quiet_write sound id e (woken e.cell) there refl (settled_woken e.cell (sound.settled id.slot e there)) quiet
 
   -- the id's cell, whose wake queues it
   pub loud_sound : {next capacity undropped : ℕ} {slots : List (Option (Numbered (Cell P T W)))} {ids later : List TaskId}
@@ -60,8 +78,7 @@ module _ {P T W : Type 0} where
       → (room : ℕ) → capacity ≡ room → later ≡ ids ++ id ∷ []
       → IsSound next (set slots id.slot (Some (record { number = e.number; cell = woken e.cell }))) later room undropped
   loud_sound sound id e there number idle room same_room longer =
-      let facts = loud e.cell.state idle in
-      queued_sound sound id e (woken e.cell) there number facts.0 facts.1 facts.2 facts.3 (settled_woken e.cell (sound.settled id.slot e there)) room same_room longer
+      loud_write sound id e (woken e.cell) there number refl (settled_woken e.cell (sound.settled id.slot e there)) idle room same_room longer
 
   -- what a wake gives
   pub wake_table : (next : ℕ) (slots : List (Option (Numbered (Cell P T W)))) (ids later : List TaskId) (id : TaskId) (e : Numbered (Cell P T W))

@@ -3,15 +3,16 @@ use Rattle.std.specs.Prelude.{◌≡◌, ◌≢◌, ℕ, ◌+◌, ◌==◌, Bool
 use Rattle.std.specs.FinMap as map
 use Rattle.executor_core.specs.Table.{Slotted, Table}
 use Rattle.executor_core.specs.States.{is_idle, is_held, is_scheduled, is_undropped}
-use Rattle.executor_core.specs.CellChanges.{new_cell, woken, taken, pended, readied, awaited, takes_back, output_of, wakeup_of}
+use Rattle.executor_core.specs.CellChanges.{new_cell, woken, taken, pended, readied, awaited, cancelled_cell, detached, disposed, takes_back, output_of, is_finished_state, wakeup_of}
 use Rattle.executor_core.specs.declared.task.cell.Cell.{Cell}
 use Rattle.executor_core.specs.declared.task.cell.State.TheVariants.{Scheduled}
 use Rattle.executor_core.specs.declared.task.values.TaskId.{TaskId}
 use Rattle.executor_core.specs.declared.task.values.Taken.{Taken}
 use Rattle.executor_core.specs.declared.task.values.Held.{Held}
+use Rattle.executor_core.specs.declared.task.values.Wakeup.{Wakeup}
 use Rattle.executor_core.specs.declared.task.table.EndReady.{EndReady}
-use Rattle.executor_core.specs.declared.task.table.PollHandle.{PollHandle}
-use Rattle.executor_core.specs.declared.task.table.PollHandle.TheVariants.{Output, Cancelled, Pending}
+use Rattle.executor_core.specs.declared.task.handles.PollHandle.{PollHandle}
+use Rattle.executor_core.specs.declared.task.handles.PollHandle.TheVariants.{Output, Cancelled, Pending}
 use Rattle.executor_core.specs.declared.task.table.EndPending.{EndPending}
 use Rattle.executor_core.specs.declared.task.table.EndPending.TheVariants.{Back, Drop}
 
@@ -173,3 +174,51 @@ module _ {P T W : Type 0} where
   abbrev pub poll_answer : W → Option (Cell P T W) → PollHandle T W
   poll_answer w None = Cancelled w
   poll_answer w (Some c) = cond c.has_handle (cond (is_undropped c.state) (Pending c.awaiter) (ended_answer w (output_of c.state))) (Cancelled w)
+
+-- cancel
+module _ {P T W : Type 0} where
+  abbrev pub cancel_at : Table P T W → TaskId → Option (Cell P T W) → Table P T W
+  cancel_at table id None = table
+  cancel_at table id (Some c) = cond c.has_handle (queued_if (is_idle c.state) (with_cell table id (cancelled_cell c)) id) table
+
+  abbrev pub after_cancel : Table P T W → TaskId → Table P T W
+  after_cancel table id = cancel_at table id (cell_at table id)
+
+  -- a cancel queues the task
+  abbrev pub cancel_queues : Table P T W → TaskId → Bool
+  cancel_queues table id = passes (λ c. c.has_handle && is_idle c.state) (cell_at table id)
+
+-- detach
+module _ {P T W : Type 0} where
+  abbrev pub detach_at : Table P T W → TaskId → Option (Cell P T W) → Table P T W
+  detach_at table id None = table
+  detach_at table id (Some c) = cond c.has_handle (cond (is_undropped c.state) (with_cell table id (detached c)) (without_cell table id)) table
+
+  abbrev pub after_detach : Table P T W → TaskId → Table P T W
+  after_detach table id = detach_at table id (cell_at table id)
+
+  -- an output that nobody asked for comes out, and so does the awaiter
+  abbrev pub detach_answer : Option (Cell P T W) → Option T × Option W
+  detach_answer None = (None, None)
+  detach_answer (Some c) = cond c.has_handle (output_of c.state, c.awaiter) (None, None)
+
+-- is_finished
+module _ {P T W : Type 0} where
+  -- a task without a cell is finished
+  abbrev pub finished_in : Option (Cell P T W) → Bool
+  finished_in None = true
+  finished_in (Some c) = is_finished_state c.cancelled c.state
+
+-- end_dropped
+module _ {P T W : Type 0} where
+  abbrev pub end_dropped_at : Table P T W → TaskId → Option (Cell P T W) → Table P T W
+  end_dropped_at table id None = table
+  end_dropped_at table id (Some c) = cond (is_held c.state) (cond c.has_handle (with_cell table id (disposed c)) (without_cell table id)) table
+
+  abbrev pub after_end_dropped : Table P T W → TaskId → Table P T W
+  after_end_dropped table id = end_dropped_at table id (cell_at table id)
+
+  -- the awaiter comes out
+  abbrev pub dropped_answer : Option (Cell P T W) → Option (Wakeup W)
+  dropped_answer None = None
+  dropped_answer (Some c) = cond (is_held c.state) (wakeup_of c.awaiter) None

@@ -1,6 +1,6 @@
 -- What each call makes of one cell.
 use Rattle.std.specs.Prelude.{Bool, true, false, Option, Some, None, cond, ◌&&◌, not}
-use Rattle.executor_core.specs.States.{is_held}
+use Rattle.executor_core.specs.States.{is_held, is_undropped}
 use Rattle.executor_core.specs.declared.task.cell.Cell.{Cell}
 use Rattle.executor_core.specs.declared.task.cell.State.{State}
 use Rattle.executor_core.specs.declared.task.cell.State.TheVariants.{Idle, Scheduled, Held, Finished, Gone}
@@ -21,6 +21,14 @@ module _ {P T : Type 0} where
   output_of Held = None
   output_of (Finished t) = Some t
   output_of Gone = None
+
+  -- what a handle hears of its task, by the cancel mark and the state: the future was dropped, or nobody will poll it again
+  abbrev pub is_finished_state : Bool → State P T → Bool
+  is_finished_state cancelled (Idle p) = false
+  is_finished_state cancelled (Scheduled p) = cancelled
+  is_finished_state cancelled Held = cancelled
+  is_finished_state cancelled (Finished t) = true
+  is_finished_state cancelled Gone = true
 
 module _ {P T W : Type 0} where
   -- the cell of a new task
@@ -46,6 +54,18 @@ module _ {P T W : Type 0} where
   -- after its handle was polled in vain
   abbrev pub awaited : Cell P T W → W → Cell P T W
   awaited c w = record c { awaiter = Some w }
+
+  -- after a cancel: a task whose future is not dropped is marked, and an idle one is scheduled
+  abbrev pub cancelled_cell : Cell P T W → Cell P T W
+  cancelled_cell c = record c { state = state_woken c.state; cancelled = cond (is_undropped c.state) true c.cancelled }
+
+  -- after its handle ended, where its future is not dropped
+  abbrev pub detached : Cell P T W → Cell P T W
+  detached c = record c { has_handle = false; awaiter = None }
+
+  -- after its future was dropped without an output, where its handle is there
+  abbrev pub disposed : Cell P T W → Cell P T W
+  disposed c = record c { state = Gone; awaiter = None }
 
   -- the future is out, and the task was not cancelled: so the future may go back
   abbrev pub takes_back : Cell P T W → Bool

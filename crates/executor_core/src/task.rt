@@ -17,28 +17,36 @@
 //! the future back, `end_ready` keeps its output for the handle. A wake that comes while the future
 //! is out is a mark in the cell, and the end of the poll schedules the task again.
 //!
+//! A cancel is a mark too, and schedules an idle task. A task with this mark is not polled again and
+//! gives no output: whoever takes it has its future dropped, and whoever holds it gets the future
+//! back from `end_pending`, to be dropped, or the output from `end_ready`. `end_dropped` is the end
+//! of a task whose future was dropped unfinished. A cell whose future was dropped is removed as soon
+//! as its handle is there no more.
+//!
 //! What a call leaves to do is a value that can neither be copied nor dropped. Each has only the
 //! ends that this table names, so a path that forgets one does not compile.
 //!
 //! | value | says | is spent by |
 //! |---|---|---|
 //! | `Taken` | a task was taken | `run_taken` |
-//! | `Held` | it was polled, or its future was dropped | `end_pending`, `end_ready` |
+//! | `Held` | it was polled, or its future was dropped | `end_pending`, `end_ready`, `end_dropped` |
 //! | `Wakeup` | a waker is to be woken | `Wakeup::wake` |
-//! | `Notice` | a task was queued, and sleepers are to hear of it | the exchange of the flag |
+//! | `Notice` | a task was queued, and sleepers are to hear of it | the exchange of the flag, `join`, `settle` |
 //! | `Pick` | a sleeper is to be notified | the notification of the sleepers |
 //! | `Again` | the list of sleepers grew, and a search is to be made | the next take |
 //! | `Change` | the list of sleepers changed, and the flag is to be stored | the store of the flag |
 
 pub(crate) mod cell;
+pub mod handles;
 pub mod polling;
 pub mod refusals;
 pub mod table;
 pub mod traits;
 pub mod values;
 
+pub use handles::PollHandle;
 pub use polling::{Polled, Poller, Ran, run_taken};
 pub use refusals::{OutOfMemory, SpawnError};
-pub use table::{Cells, EndPending, EndReady, PollHandle};
+pub use table::{Cells, EndPending, EndReady};
 pub use traits::Wake;
 pub use values::{Again, Change, Held, Notice, Pick, Taken, TaskId, Wakeup};

@@ -4,7 +4,7 @@
 //! table puts them in place.
 ghost use Rattle.std.specs.Prelude.{◌≡◌, Bool, true, false, Some, None, cond};
 ghost use Rattle.executor_core.specs.States.{is_idle, is_scheduled, is_held, is_undropped};
-ghost use Rattle.executor_core.specs.CellChanges.{new_cell, woken, taken, pended, readied, awaited, wakeup_of, output_of};
+ghost use Rattle.executor_core.specs.CellChanges.{new_cell, woken, taken, pended, readied, awaited, cancelled_cell, detached, disposed, wakeup_of, output_of, is_finished_state};
 
 use crate::task::values::Wakeup;
 
@@ -258,4 +258,93 @@ pub(crate) fn await_cell<P, T, W>(cell: Cell<P, T, W>, waker: W) -> (Cell<P, T, 
         awaiter: Some(waker),
     };
     (cell, awaiter)
+}
+
+// The cell after a cancel, and whether the task is to be queued.
+pub(crate) fn cancel_cell<P, T, W>(cell: Cell<P, T, W>, _unit: ()) -> (Cell<P, T, W>, bool)
+    ensures { result ≡ (cancelled_cell cell, is_idle cell.state) }
+{
+    let Cell {
+        state,
+        cancelled,
+        woken,
+        has_handle,
+        awaiter,
+    } = cell;
+    let (state, cancelled, queued) = match state {
+        State::Idle(future) => (State::Scheduled(future), true, true),
+        State::Scheduled(future) => (State::Scheduled(future), true, false),
+        State::Held => (State::Held, true, false),
+        State::Finished(output) => (State::Finished(output), cancelled, false),
+        State::Gone => (State::Gone, cancelled, false),
+    };
+    let cell = Cell {
+        state,
+        cancelled,
+        woken,
+        has_handle,
+        awaiter,
+    };
+    (cell, queued)
+}
+
+// The cell after its handle ended, and its awaiter.
+pub(crate) fn detach_cell<P, T, W>(cell: Cell<P, T, W>, _unit: ()) -> (Cell<P, T, W>, Option<W>)
+    ensures { result ≡ (detached cell, cell.awaiter) }
+{
+    let Cell {
+        state,
+        cancelled,
+        woken,
+        has_handle: _,
+        awaiter,
+    } = cell;
+    let cell = Cell {
+        state,
+        cancelled,
+        woken,
+        has_handle: false,
+        awaiter: None,
+    };
+    (cell, awaiter)
+}
+
+// The cell after its future was dropped without an output, and its awaiter.
+pub(crate) fn dispose_cell<P, T, W>(
+    cell: Cell<P, T, W>,
+    _unit: (),
+) -> (Cell<P, T, W>, Option<Wakeup<W>>)
+    requires { is_held cell.state ≡ true }
+    ensures { result ≡ (disposed cell, wakeup_of cell.awaiter) }
+{
+    let Cell {
+        state,
+        cancelled,
+        woken,
+        has_handle,
+        awaiter,
+    } = cell;
+    match state {
+        State::Held => {}
+        _ => unreachable!(),
+    }
+    let cell = Cell {
+        state: State::Gone,
+        cancelled,
+        woken,
+        has_handle,
+        awaiter: None,
+    };
+    (cell, wakeup(awaiter))
+}
+
+// Whether the future was dropped, or nobody will poll it again.
+pub(crate) fn is_finished_cell<P, T, W>(cell: &Cell<P, T, W>) -> bool
+    ensures { result ≡ is_finished_state cell.now.cancelled cell.now.state }
+{
+    match &cell.state {
+        State::Idle(_) => false,
+        State::Scheduled(_) | State::Held => cell.cancelled,
+        State::Finished(_) | State::Gone => true,
+    }
 }

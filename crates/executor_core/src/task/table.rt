@@ -1,13 +1,13 @@
 //! The table of task cells.
 ghost use Rattle.std.specs.Prelude.{◌≡◌, ◌≢◌, ℕ, ◌+◌, ◌-◌, ◌<◌, ◌≤◌, Bool, true, false, IsSome, IsTrue, ◌↔◌, List, [], ◌∷◌, ◌++◌, IfOk, IfErr, OnErr, is_some, slice_index_or, None};
-ghost use Rattle.executor_core.specs.Calls.{wakes, after_wake, after_end_pending, EndsPending, undropped_in, cancelled_in, future_in, empty_table, after_spawn, IsFree, AllDropped, undropped_count, cell_at, held_in, handle_in, after_end_ready, ready_answer, after_poll_handle, poll_answer};
+ghost use Rattle.executor_core.specs.Calls.{wakes, after_wake, after_end_pending, EndsPending, undropped_in, cancelled_in, future_in, empty_table, after_spawn, IsFree, AllDropped, undropped_count, cell_at, held_in, handle_in, after_end_ready, ready_answer, after_end_dropped, dropped_answer};
 ghost use Rattle.executor_core.specs.Refusals.{Refuses};
 ghost use Rattle.executor_core.specs.States.{LockLaw};
 ghost use Rattle.executor_core.specs.TableView.{is_numbered, cell_in, takes_back_entry};
 
 use crate::task::cell::{
-    Cell, Numbered, State, await_cell, awaiter_of_held, has_future, new_cell, output_of_ended,
-    pend_cell, ready_cell, wake_cell,
+    Cell, Numbered, State, awaiter_of_held, dispose_cell, has_future, new_cell, pend_cell,
+    ready_cell, wake_cell,
 };
 use crate::task::refusals::{OutOfMemory, SpawnError};
 use crate::task::values::{Held, Notice, TaskId, Wakeup};
@@ -23,17 +23,6 @@ pub struct EndReady<T, W> {
     pub awaiter: Option<Wakeup<W>>,
     /// The output, where no handle is to give it.
     pub unwanted: Option<T>,
-}
-
-/// What a poll of a handle answers.
-#[derive(Drop)]
-pub enum PollHandle<T, W> {
-    /// The output, and the waker that was passed. The handle ends.
-    Output(T, W),
-    /// There is no output and there will be none. The waker comes back, and the handle ends.
-    Cancelled(W),
-    /// Not yet: the waker is kept. The one that was kept before comes out.
-    Pending(Option<W>),
 }
 
 /// What becomes of a future whose poll ended pending.
@@ -107,7 +96,7 @@ fn is_held_at<P, T, W>(cells: &Slab<Numbered<Cell<P, T, W>>>, id: TaskId) -> boo
 }
 
 // Whether the id's handle is there.
-fn has_handle_at<P, T, W>(cells: &Slab<Numbered<Cell<P, T, W>>>, id: TaskId) -> bool
+pub(crate) fn has_handle_at<P, T, W>(cells: &Slab<Numbered<Cell<P, T, W>>>, id: TaskId) -> bool
     ensures { result ≡ handle_in (cell_in id.number (slice_index_or cells.now.slots id.slot None)) }
 {
     match cells.get(id.slot) {
@@ -270,26 +259,26 @@ impl<P, T, W> Cells<P, T, W> {
         }
     }
 
-    /// Asks the handle of a task for its output. It takes no memory.
+    /// The end of a task that was cancelled, whose future was dropped unfinished.
     ///
-    /// Where the future is not dropped yet, the waker is kept in the place of the one before.
-    /// A handle that is there no more answers `Cancelled`.
-    pub fn poll_handle(&mut self, id: TaskId, waker: W) -> PollHandle<T, W>
-        ensures table { self.new ≡ after_poll_handle self.old id waker }
-        ensures answer { result ≡ poll_answer waker (cell_at self.old id) }
+    /// It asks for the `Held` of a disposal, or the one that `end_pending` gave back with the future.
+    /// Whoever polled the handle in vain comes out, to be woken. A `Held` of other cells changes
+    /// nothing, and gives nothing. It takes no memory.
+    pub fn end_dropped(&mut self, held: Held) -> Option<Wakeup<W>>
+        requires { held.to_drop ≡ true }
+        ensures table { self.new ≡ after_end_dropped self.old held.id }
+        ensures answer { result ≡ dropped_answer (cell_at self.old held.id) }
     {
-        if !has_handle_at(&self.cells, id) {
-            return PollHandle::Cancelled(waker);
+        let Held { id, to_drop: _ } = held;
+        if !is_held_at(&self.cells, id) {
+            return None;
         }
-        if has_future(&self.cells[id.slot].cell) {
-            let before = replace_with(&mut self.cells[id.slot].cell, waker, await_cell);
-            return PollHandle::Pending(before);
+        self.undropped -= 1;
+        if self.cells[id.slot].cell.has_handle {
+            return replace_with(&mut self.cells[id.slot].cell, (), dispose_cell);
         }
         let Numbered { number: _, cell } = self.cells.remove(id.slot);
-        match output_of_ended(cell) {
-            Some(output) => PollHandle::Output(output, waker),
-            None => PollHandle::Cancelled(waker),
-        }
+        awaiter_of_held(cell)
     }
 
     /// Whether every future that was spawned was dropped. It stands for `Executor::is_empty`.

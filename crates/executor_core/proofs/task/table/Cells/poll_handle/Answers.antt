@@ -4,7 +4,7 @@ use Rattle.executor_core.specs.States.{is_undropped}
 use Rattle.executor_core.proofs.WriteLemmas.{cell_at_is}
 use Rattle.executor_core.proofs.RemoveLemmas.{facts_at, remove_table}
 use Rattle.executor_core.proofs.EndReadyLemmas.{await_sound, end_handle_sound, poll_nothing, poll_absent, polled_some, poll_some, set_table, known}
-use Rattle.executor_core.specs.declared.task.table.PollHandle.TheVariants.{Pending}
+use Rattle.executor_core.specs.declared.task.handles.PollHandle.TheVariants.{Pending}
 use Rattle.executor_core.proofs.task.table.Cells.poll_handle.Goals as goal
 use Rattle.executor_core.proofs.task.table.Cells.poll_handle.Goals.{in-Some, in-None}
 

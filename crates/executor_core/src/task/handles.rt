@@ -1,0 +1,126 @@
+//! What is asked of a task through its handle.
+//!
+//! A handle is there from the spawn until it was detached or dropped, or until a poll of it gave its
+//! last answer. A call finds the cell by number and slot, so the id of a task whose cell is gone
+//! never reaches the task that has the slot now.
+ghost use Rattle.std.specs.Prelude.{◌≡◌, is_some, slice_index_or, None};
+ghost use Rattle.executor_core.specs.Calls.{after_cancel, cancel_queues, after_detach, detach_answer, after_poll_handle, poll_answer, finished_in, cell_at};
+ghost use Rattle.executor_core.specs.TableView.{cell_in};
+
+use crate::task::cell::{
+    Cell, Numbered, await_cell, cancel_cell, detach_cell, has_future, is_finished_cell,
+    output_of_ended,
+};
+use crate::task::table::{Cells, has_handle_at};
+use crate::task::values::{Notice, TaskId};
+use core::mem::replace_with;
+use slab::Slab;
+
+/// What a poll of a handle answers.
+#[derive(Drop)]
+pub enum PollHandle<T, W> {
+    /// The output, and the waker that was passed. The handle ends.
+    Output(T, W),
+    /// There is no output and there will be none. The waker comes back, and the handle ends.
+    Cancelled(W),
+    /// Not yet: the waker is kept. The one that was kept before comes out.
+    Pending(Option<W>),
+}
+
+// Whether the id's future was dropped, or nobody will poll it again.
+fn is_finished_at<P, T, W>(cells: &Slab<Numbered<Cell<P, T, W>>>, id: TaskId) -> bool
+    ensures { result ≡ finished_in (cell_in id.number (slice_index_or cells.now.slots id.slot None)) }
+{
+    match cells.get(id.slot) {
+        Some(entry) => entry.number != id.number || is_finished_cell(&entry.cell),
+        None => true,
+    }
+}
+
+impl<P, T, W> Cells<P, T, W> {
+    /// Asks the handle of a task for its output. It takes no memory.
+    ///
+    /// Where the future is not dropped yet, the waker is kept in the place of the one before.
+    /// A handle that is there no more answers `Cancelled`.
+    pub fn poll_handle(&mut self, id: TaskId, waker: W) -> PollHandle<T, W>
+        ensures table { self.new ≡ after_poll_handle self.old id waker }
+        ensures answer { result ≡ poll_answer waker (cell_at self.old id) }
+    {
+        if !has_handle_at(&self.cells, id) {
+            return PollHandle::Cancelled(waker);
+        }
+        if has_future(&self.cells[id.slot].cell) {
+            let before = replace_with(&mut self.cells[id.slot].cell, waker, await_cell);
+            return PollHandle::Pending(before);
+        }
+        let Numbered { number: _, cell } = self.cells.remove(id.slot);
+        match output_of_ended(cell) {
+            Some(output) => PollHandle::Output(output, waker),
+            None => PollHandle::Cancelled(waker),
+        }
+    }
+
+    /// Marks a task cancelled, so that its future is dropped and not polled again, and schedules an
+    /// idle one at the global end. It stands for `async_task::Task::cancel`, whose answer comes here
+    /// from later polls of the handle.
+    ///
+    /// The notice is there exactly where the task was idle. A task whose future was dropped stays as
+    /// it was, and so does one whose handle is there no more. It takes no memory.
+    pub fn cancel(&mut self, id: TaskId) -> Option<Notice>
+        ensures table { self.new ≡ after_cancel self.old id }
+        ensures notice { is_some result ≡ cancel_queues self.old id }
+    {
+        if !has_handle_at(&self.cells, id) {
+            return None;
+        }
+        if !replace_with(&mut self.cells[id.slot].cell, (), cancel_cell) {
+            return None;
+        }
+        self.global.push_back_reserved(id);
+        Some(Notice { unspent: () })
+    }
+
+    /// Ends the handle of a task, which runs on without it. It stands for
+    /// `async_task::Task::detach`.
+    ///
+    /// The output of a finished task comes out, whose cell is removed, and so does the waker that a
+    /// poll of the handle left. Where the handle is there no more, nothing changes and nothing comes
+    /// out. It takes no memory.
+    pub fn detach(&mut self, id: TaskId) -> (Option<T>, Option<W>)
+        ensures table { self.new ≡ after_detach self.old id }
+        ensures answer { result ≡ detach_answer (cell_at self.old id) }
+    {
+        if !has_handle_at(&self.cells, id) {
+            return (None, None);
+        }
+        if has_future(&self.cells[id.slot].cell) {
+            let awaiter = replace_with(&mut self.cells[id.slot].cell, (), detach_cell);
+            return (None, awaiter);
+        }
+        let Numbered { number: _, cell } = self.cells.remove(id.slot);
+        (output_of_ended(cell), None)
+    }
+
+    /// Cancels a task and then ends its handle. It stands for the drop of an `async_task::Task`.
+    ///
+    /// The answers are those of `cancel` and then of `detach`. It takes no memory.
+    pub fn drop_handle(&mut self, id: TaskId) -> (Option<Notice>, Option<T>, Option<W>)
+        ensures table { self.new ≡ after_detach (after_cancel self.old id) id }
+        ensures notice { is_some result.0 ≡ cancel_queues self.old id }
+        ensures answer { (result.1, result.2) ≡ detach_answer (cell_at self.old id) }
+    {
+        let notice = self.cancel(id);
+        let (output, awaiter) = self.detach(id);
+        (notice, output, awaiter)
+    }
+
+    /// Whether the task's future was dropped, or is to be dropped since the task was cancelled. It
+    /// stands for `async_task::Task::is_finished`.
+    ///
+    /// It looks at the cell and not at the handle. Of a task without a cell it is true.
+    pub fn is_finished(&self, id: TaskId) -> bool
+        ensures { result ≡ finished_in (cell_at self.now id) }
+    {
+        is_finished_at(&self.cells, id)
+    }
+}
