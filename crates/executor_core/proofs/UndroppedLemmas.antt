@@ -171,8 +171,8 @@ module _ {P T W : Type 0} where
       let own = All-head (Placed (cells_of slots)) id rest placed in
       let sees = get_sees slots id.number own.0 own.1 in
       let one = sum_by_one (has_number id.number) None slots sees.at refl
-          (ap (has_number id.number) sees.there ∙ ap (λ b. cond b 1 0) (eq-eqb id.number sees.cell.number (sym sees.number)))
-          (λ i far. apart sees.at sees.cell sees.there sees.number i far (get_or slots i None) refl) in
+      (ap (has_number id.number) sees.there ∙ ap (λ b. cond b 1 0) (eq-eqb id.number sees.cell.number (sym sees.number)))
+      (λ i far. apart sees.at sees.cell sees.there sees.number i far (get_or slots i None) refl) in
       let plus = sum_by_plus (queued_times (id ∷ rest)) (has_number id.number) (queued_times rest) slots split in
       omega arith
     where

@@ -41,9 +41,9 @@ pub enum Reply<T> {
     /// The future of this task is in its cell, and the task is queued.
     Queued(u64),
     /// The output is kept for the handle; and whether an awaiter came out.
-    Finished(bool),
+    Finished { awaiter: bool },
     /// No handle will give this output; and whether an awaiter came out.
-    Unwanted(T, bool),
+    Unwanted { output: T, awaiter: bool },
     /// The handle gave this output, and ended.
     Output(T),
     /// The handle will give no output, and ended.
@@ -71,7 +71,7 @@ pub(crate) fn reply_of<T>(ended: EndReady<T, ()>) -> Reply<T>
         None => false,
     };
     match unwanted {
-        Some(output) => Reply::Unwanted(output, awaiter),
-        None => Reply::Finished(awaiter),
+        Some(output) => Reply::Unwanted { output, awaiter },
+        None => Reply::Finished { awaiter },
     }
 }

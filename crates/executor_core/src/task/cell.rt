@@ -69,26 +69,18 @@ pub(crate) fn has_future<P, T, W>(cell: &Cell<P, T, W>) -> bool
 pub(crate) fn wake_cell<P, T, W>(cell: Cell<P, T, W>, _unit: ()) -> (Cell<P, T, W>, bool)
     ensures { result ≡ (woken cell, is_idle cell.state) }
 {
-    let Cell {
-        state,
-        cancelled,
-        woken,
-        has_handle,
-        awaiter,
-    } = cell;
-    let (state, woken, queued) = match state {
-        State::Idle(future) => (State::Scheduled(future), woken, true),
-        State::Scheduled(future) => (State::Scheduled(future), woken, false),
+    let before = cell.state;
+    let (state, woken, queued) = match before {
+        State::Idle(future) => (State::Scheduled(future), cell.woken, true),
+        State::Scheduled(future) => (State::Scheduled(future), cell.woken, false),
         State::Held => (State::Held, true, false),
-        State::Finished(output) => (State::Finished(output), woken, false),
-        State::Gone => (State::Gone, woken, false),
+        State::Finished(output) => (State::Finished(output), cell.woken, false),
+        State::Gone => (State::Gone, cell.woken, false),
     };
     let cell = Cell {
         state,
-        cancelled,
         woken,
-        has_handle,
-        awaiter,
+        ..cell
     };
     (cell, queued)
 }
@@ -100,25 +92,27 @@ pub(crate) fn take_cell<P, T, W>(cell: Cell<P, T, W>, _unit: ()) -> (Cell<P, T, 
     ensures future { cell.state ≡ State.Scheduled result.1.0 }
     ensures cancelled { result.1.1 ≡ cell.cancelled }
 {
-    let Cell {
-        state,
-        cancelled,
-        woken: _,
-        has_handle,
-        awaiter,
-    } = cell;
-    let future = match state {
-        State::Scheduled(future) => future,
-        _ => unreachable!(),
+    let before = cell.state;
+    let State::Scheduled(future) = before else {
+        unreachable!()
     };
     let cell = Cell {
         state: State::Held,
-        cancelled,
         woken: false,
-        has_handle,
-        awaiter,
+        ..cell
     };
+    let cancelled = cell.cancelled;
     (cell, (future, cancelled))
+}
+
+// The state of a cell whose future is out has nothing in it.
+fn end_held<P, T>(state: State<P, T>)
+    requires { is_held state ≡ true }
+{
+    match state {
+        State::Held => {}
+        _ => unreachable!(),
+    }
 }
 
 // The cell after a poll that ended pending, and whether the task is to be queued.
@@ -126,30 +120,15 @@ pub(crate) fn pend_cell<P, T, W>(cell: Cell<P, T, W>, future: P) -> (Cell<P, T, 
     requires { is_held cell.state ≡ true }
     ensures { result ≡ (pended cell future, cell.woken) }
 {
-    let Cell {
-        state,
-        cancelled,
-        woken,
-        has_handle,
-        awaiter,
-    } = cell;
-    match state {
-        State::Held => {}
-        _ => unreachable!(),
-    }
-    let state = if woken {
+    end_held(cell.state);
+    let state = if cell.woken {
         State::Scheduled(future)
     } else {
         State::Idle(future)
     };
-    let cell = Cell {
-        state,
-        cancelled,
-        woken,
-        has_handle,
-        awaiter,
-    };
-    (cell, woken)
+    let cell = Cell { state, ..cell };
+    let queued = cell.woken;
+    (cell, queued)
 }
 
 // The awaiter, as a waker that is to be woken.
@@ -170,30 +149,19 @@ pub(crate) fn ready_cell<P, T, W>(
     requires { is_held cell.state ≡ true }
     ensures { result ≡ (readied cell output, (wakeup_of cell.awaiter, cond cell.cancelled (Some output) None)) }
 {
-    let Cell {
-        state,
-        cancelled,
-        woken,
-        has_handle,
-        awaiter,
-    } = cell;
-    match state {
-        State::Held => {}
-        _ => unreachable!(),
-    }
-    let (state, unwanted) = if cancelled {
+    end_held(cell.state);
+    let awaiter = wakeup(cell.awaiter);
+    let (state, unwanted) = if cell.cancelled {
         (State::Gone, Some(output))
     } else {
         (State::Finished(output), None)
     };
     let cell = Cell {
         state,
-        cancelled,
-        woken,
-        has_handle,
         awaiter: None,
+        ..cell
     };
-    (cell, (wakeup(awaiter), unwanted))
+    (cell, (awaiter, unwanted))
 }
 
 // The awaiter of a removed cell whose future was out.
@@ -208,10 +176,7 @@ pub(crate) fn awaiter_of_held<P, T, W>(cell: Cell<P, T, W>) -> Option<Wakeup<W>>
         has_handle: _,
         awaiter,
     } = cell;
-    match state {
-        State::Held => {}
-        _ => unreachable!(),
-    }
+    end_held(state);
     wakeup(awaiter)
 }
 
@@ -243,47 +208,30 @@ pub(crate) fn output_of_ended<P, T, W>(cell: Cell<P, T, W>) -> Option<T>
 pub(crate) fn await_cell<P, T, W>(cell: Cell<P, T, W>, waker: W) -> (Cell<P, T, W>, Option<W>)
     ensures { result ≡ (awaited cell waker, cell.awaiter) }
 {
-    let Cell {
-        state,
-        cancelled,
-        woken,
-        has_handle,
-        awaiter,
-    } = cell;
+    let before = cell.awaiter;
     let cell = Cell {
-        state,
-        cancelled,
-        woken,
-        has_handle,
         awaiter: Some(waker),
+        ..cell
     };
-    (cell, awaiter)
+    (cell, before)
 }
 
 // The cell after a cancel, and whether the task is to be queued.
 pub(crate) fn cancel_cell<P, T, W>(cell: Cell<P, T, W>, _unit: ()) -> (Cell<P, T, W>, bool)
     ensures { result ≡ (cancelled_cell cell, is_idle cell.state) }
 {
-    let Cell {
-        state,
-        cancelled,
-        woken,
-        has_handle,
-        awaiter,
-    } = cell;
-    let (state, cancelled, queued) = match state {
+    let before = cell.state;
+    let (state, cancelled, queued) = match before {
         State::Idle(future) => (State::Scheduled(future), true, true),
         State::Scheduled(future) => (State::Scheduled(future), true, false),
         State::Held => (State::Held, true, false),
-        State::Finished(output) => (State::Finished(output), cancelled, false),
-        State::Gone => (State::Gone, cancelled, false),
+        State::Finished(output) => (State::Finished(output), cell.cancelled, false),
+        State::Gone => (State::Gone, cell.cancelled, false),
     };
     let cell = Cell {
         state,
         cancelled,
-        woken,
-        has_handle,
-        awaiter,
+        ..cell
     };
     (cell, queued)
 }
@@ -292,19 +240,11 @@ pub(crate) fn cancel_cell<P, T, W>(cell: Cell<P, T, W>, _unit: ()) -> (Cell<P, T
 pub(crate) fn detach_cell<P, T, W>(cell: Cell<P, T, W>, _unit: ()) -> (Cell<P, T, W>, Option<W>)
     ensures { result ≡ (detached cell, cell.awaiter) }
 {
-    let Cell {
-        state,
-        cancelled,
-        woken,
-        has_handle: _,
-        awaiter,
-    } = cell;
+    let awaiter = cell.awaiter;
     let cell = Cell {
-        state,
-        cancelled,
-        woken,
         has_handle: false,
         awaiter: None,
+        ..cell
     };
     (cell, awaiter)
 }
@@ -317,25 +257,14 @@ pub(crate) fn dispose_cell<P, T, W>(
     requires { is_held cell.state ≡ true }
     ensures { result ≡ (disposed cell, wakeup_of cell.awaiter) }
 {
-    let Cell {
-        state,
-        cancelled,
-        woken,
-        has_handle,
-        awaiter,
-    } = cell;
-    match state {
-        State::Held => {}
-        _ => unreachable!(),
-    }
+    end_held(cell.state);
+    let awaiter = wakeup(cell.awaiter);
     let cell = Cell {
         state: State::Gone,
-        cancelled,
-        woken,
-        has_handle,
         awaiter: None,
+        ..cell
     };
-    (cell, wakeup(awaiter))
+    (cell, awaiter)
 }
 
 // Whether the future was dropped, or nobody will poll it again.

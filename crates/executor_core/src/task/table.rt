@@ -1,5 +1,6 @@
 //! The table of task cells.
-ghost use Rattle.std.specs.Prelude.{◌≡◌, ◌≢◌, ℕ, ◌+◌, ◌-◌, ◌<◌, ◌≤◌, Bool, true, false, IsSome, IsTrue, ◌↔◌, List, [], ◌∷◌, ◌++◌, IfOk, IfErr, OnErr, is_some, slice_index_or, None};
+ghost use Rattle.std.specs.Prelude.{◌≡◌, ◌≢◌, ℕ, ◌+◌, ◌-◌, ◌<◌, ◌≤◌, Bool, true, false, IsSome, IsTrue, ◌↔◌, List, [], ◌∷◌, ◌++◌, IfOk, IfErr, OnOk, OnErr, length, is_some, slice_index_or, None};
+ghost use Rattle.std.specs.VecDeque.{deque_capacity};
 ghost use Rattle.executor_core.specs.Calls.{wakes, after_wake, after_end_pending, EndsPending, undropped_in, cancelled_in, future_in, empty_table, after_spawn, IsFree, AllDropped, undropped_count, cell_at, held_in, handle_in, after_end_ready, ready_answer, after_end_dropped, dropped_answer};
 ghost use Rattle.executor_core.specs.Refusals.{Refuses};
 ghost use Rattle.executor_core.specs.States.{LockLaw};
@@ -138,6 +139,21 @@ fn keeps_at<P, T, W>(cells: &Slab<Numbered<Cell<P, T, W>>>, id: TaskId) -> bool
     }
 }
 
+// Room for this many ids in all. A `reserve` alone grows by what is queued, which may be far less
+// than what may be, and so would move the queue at each call.
+fn reserve_places(global: &mut VecDeque<TaskId>, places: usize) -> Result<(), OutOfMemory>
+    requires { length global.old.items ≤ places }
+    ensures items { global.new.items ≡ global.old.items }
+    ensures capacity { deque_capacity global.old ≤ deque_capacity global.new }
+    ensures room { OnOk result (places ≤ deque_capacity global.new) }
+{
+    if places <= global.capacity() {
+        return Ok(());
+    }
+    global.reserve(places.saturating_mul(2) - global.len())?;
+    Ok(())
+}
+
 impl<P, T, W> Cells<P, T, W> {
     /// No task, and none was there before.
     pub fn new(alloc: Global) -> Result<Self, OutOfMemory>
@@ -177,8 +193,7 @@ impl<P, T, W> Cells<P, T, W> {
         if self.cells.reserve(1).is_err() {
             return Err(SpawnError::OutOfMemory(future));
         }
-        let more = self.undropped + 1 - self.global.len();
-        if self.global.reserve(more).is_err() {
+        if reserve_places(&mut self.global, self.undropped + 1).is_err() {
             return Err(SpawnError::OutOfMemory(future));
         }
         let number = self.next;

@@ -6,7 +6,7 @@ use Rattle.executor_core.proofs.SpawnLemmas.{roomier, regrown, spawn_sound, spaw
 use Rattle.executor_core.proofs.task.table.Cells.spawn.Goals as goal
 
 pub invariant_of-self-then-is_err-2 : goal.invariant_of-self-then-is_err-2
-invariant_of-self-then-is_err-2 g c = rw c.reserve-2.ensures.items (regrown (roomier c.self.invariant _ c.reserve-2.ensures.capacity) _ (ap (λ s. s.slots) c.reserve.ensures.rest_kept))
+invariant_of-self-then-is_err-2 g c = rw c.reserve_places.ensures.items (regrown (roomier c.self.invariant _ c.reserve_places.ensures.capacity) _ (ap (λ s. s.slots) c.reserve.ensures.rest_kept))
 
 pub invariant_of-self-2 : goal.invariant_of-self-2
 invariant_of-self-2 g c =
@@ -15,7 +15,7 @@ invariant_of-self-2 g c =
     let enough : c.self.inside.undropped + 1 ≤ deque_capacity c.push_back_reserved.new.self = grind (arith, common_steps, counted) in
     spawn_sound (regrown c.self.invariant c.reserve.new.self.slots (ap (λ s. s.slots) c.reserve.ensures.rest_kept)) c.args.future _ c.insert_reserved-slot.result
     c.insert_reserved-slot.ensures.was_vacant (record { changed = updates.changed ∙ ap (λ k. Some (record { number = c.self.inside.next; cell = k })) c.new_cell-cell.ensures; others = updates.others })
-    (c.push_back_reserved.ensures.items ∙ ap (λ l. l ++ record { number = c.self.inside.next; slot = c.insert_reserved-slot.result } ∷ []) c.reserve-2.ensures.items)
+    (c.push_back_reserved.ensures.items ∙ ap (λ l. l ++ record { number = c.self.inside.next; slot = c.insert_reserved-slot.result } ∷ []) c.reserve_places.ensures.items)
     _ enough
 
 pub returns-clause-ok : goal.returns-clause-ok
@@ -24,7 +24,7 @@ returns-clause-ok g c =
     let same = ap (λ s. s.slots) c.reserve.ensures.rest_kept in
     spawn_table (regrown c.self.invariant c.reserve.new.self.slots same) c.args.future _ c.insert_reserved-slot.result
     c.insert_reserved-slot.ensures.was_vacant (record { changed = updates.changed ∙ ap (λ k. Some (record { number = c.self.inside.next; cell = k })) c.new_cell-cell.ensures; others = updates.others })
-    (c.push_back_reserved.ensures.items ∙ ap (λ l. l ++ record { number = c.self.inside.next; slot = c.insert_reserved-slot.result } ∷ []) c.reserve-2.ensures.items)
+    (c.push_back_reserved.ensures.items ∙ ap (λ l. l ++ record { number = c.self.inside.next; slot = c.insert_reserved-slot.result } ∷ []) c.reserve_places.ensures.items)
     ∙ ap (λ l. after_spawn (table_of c.self.inside.next l c.self.inside.global.items) c.insert_reserved-slot.result c.args.future) same
     ∙ ap (λ s. after_spawn s c.insert_reserved-slot.result c.args.future) c.self.view_is
 

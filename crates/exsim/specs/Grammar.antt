@@ -1,0 +1,56 @@
+-- How a line is written.
+use Rattle.std.specs.Prelude.{◌≡◌, ◌≢◌, ℕ, ◌<◌, ◌≤◌, ◌^◌, List, [], ◌∷◌, ◌++◌, length, slice_index}
+use Rattle.std.specs.List.{flat_map, AllByRecursion}
+use Rattle.std.specs.Fmt.{decimal}
+use lib.Chars.{codes}
+use Rattle.executor_core.specs.declared.interleave.steps.Step.TheVariants as step
+use Rattle.exsim.specs.declared.command.Command.{Command}
+use Rattle.exsim.specs.declared.command.Command.TheVariants.{Step, Show}
+use Rattle.exsim.specs.declared.command.Arguments.{Arguments}
+use Rattle.exsim.specs.declared.command.Arguments.TheVariants as arguments
+
+-- the word of a command
+abbrev pub word_of : Command → List ℕ
+word_of Show = codes "show"
+word_of (Step (step.Spawn _)) = codes "spawn"
+word_of (Step (step.Wake _)) = codes "wake"
+word_of (Step step.TryTick) = codes "trytick"
+word_of (Step (step.Pend _)) = codes "pend"
+word_of (Step (step.Ready _ _)) = codes "ready"
+word_of (Step (step.PollHandle _)) = codes "pollhandle"
+
+-- the numbers behind it
+abbrev pub numbers_of : Command → List ℕ
+numbers_of Show = []
+numbers_of (Step (step.Spawn _)) = []
+numbers_of (Step (step.Wake n)) = n ∷ []
+numbers_of (Step step.TryTick) = []
+numbers_of (Step (step.Pend n)) = n ∷ []
+numbers_of (Step (step.Ready n output)) = n ∷ output ∷ []
+numbers_of (Step (step.PollHandle n)) = n ∷ []
+
+-- each number in decimal, after one space
+abbrev pub spaced : List ℕ → List ℕ
+spaced numbers = flat_map (λ n. 32 ∷ decimal n) numbers
+
+-- a command is written as its word, and its numbers behind it
+abbrev pub line_of : Command → List ℕ
+line_of command = word_of command ++ spaced (numbers_of command)
+
+-- the numbers have 64 bits
+abbrev pub AreInRange : List ℕ → Type 0
+AreInRange numbers = AllByRecursion (λ n. n < 2 ^ 64) numbers
+
+abbrev pub listed : Arguments → List ℕ
+listed arguments.None = []
+listed (arguments.One n) = n ∷ []
+listed (arguments.Two n m) = n ∷ m ∷ []
+
+-- the bytes are ASCII, and none of them is a space
+pub record IsWord (bytes : List ℕ) : Type 0 where
+  pub ascii : (i : ℕ) → slice_index bytes i < 128
+  pub whole : (i : ℕ) → i < length bytes → slice_index bytes i ≢ 32
+
+-- no plus sign stands first, and a zero only where it is all
+abbrev pub IsPlain : List ℕ → Type 0
+IsPlain digits = (slice_index digits 0 ≢ 43) × (slice_index digits 0 ≡ 48 → length digits ≤ 1)

@@ -1,0 +1,29 @@
+-- How a reply is written.
+use Rattle.std.specs.Prelude.{ℕ, Bool, true, false, List, [], ◌++◌}
+use Rattle.std.specs.Fmt.{decimal}
+use lib.Chars.{codes}
+use Rattle.executor_core.specs.declared.interleave.steps.Reply.{Reply}
+use Rattle.executor_core.specs.declared.interleave.steps.Reply.TheVariants as reply
+
+-- said where an awaiter came out
+abbrev pub awaiter_text : Bool → List ℕ
+awaiter_text true = codes " awaiter"
+awaiter_text false = []
+
+abbrev pub reply_text : Reply ℕ → List ℕ
+reply_text (reply.Task n) = codes "task " ++ decimal n
+reply_text reply.Notice = codes "notice"
+reply_text reply.Nothing = codes "nothing"
+reply_text (reply.Poll n) = codes "poll " ++ decimal n
+reply_text (reply.Drop n) = codes "drop " ++ decimal n
+reply_text reply.NoTask = codes "none"
+reply_text (reply.Idle n) = codes "idle " ++ decimal n
+reply_text (reply.Queued n) = codes "queued " ++ decimal n
+reply_text (reply.Finished awaiter) = codes "finished" ++ awaiter_text awaiter
+reply_text (reply.Unwanted output awaiter) = codes "unwanted " ++ decimal output ++ awaiter_text awaiter
+reply_text (reply.Output output) = codes "output " ++ decimal output
+reply_text reply.Cancelled = codes "cancelled"
+reply_text reply.Pending = codes "pending"
+reply_text reply.LogFull = codes "log full"
+reply_text reply.NotNow = codes "not now"
+reply_text reply.OutOfMemory = codes "out of memory"

@@ -1,0 +1,22 @@
+//! A simulator of an executor: steps as lines in, replies as lines out.
+//!
+//! Each line of standard input is one step of a `World`, or `show`, and has one line of reply on
+//! standard output. The world refuses a step that isn't enabled, so any order of steps may be
+//! tried. `command` reads a line, `reply` writes what is answered, `lines` cuts the input into
+//! lines of bounded length, and `simulation` runs them all.
+#![tactic(auto)]
+
+mod command;
+mod lines;
+mod reply;
+mod simulation;
+#[cfg(test)]
+mod tests;
+
+pub use simulation::run_lines;
+use std::io;
+use std::process::ExitCode;
+
+fn main(rt: HostRuntime) -> ExitCode {
+    ExitCode::from(run_lines(rt.alloc(), rt.reader(), io::writer(&rt)))
+}

@@ -1,0 +1,117 @@
+//! A run over all lines of an input.
+//!
+//! The reader's buffer, the world and the writer's buffer are made before the first line is read.
+//! Replies wait in the writer's buffer, which is written out at the end, however the run ends. Once a
+//! write failed, nothing more is written.
+ghost use Rattle.std.specs.Prelude.{◌<◌};
+
+use crate::command::{Command, command_of};
+use crate::lines::{LINE_LIMIT, Lines};
+use crate::reply::{ReplyText, StateText};
+use executor_core::interleave::World;
+use executor_core::task::OutOfMemory;
+use std::alloc::Global;
+use std::io::{self, BufWriter, Read, Write};
+
+/// How many steps a run accepts.
+pub const STEP_LIMIT: u32 = 100_000;
+
+/// How a run ends, by the exit status.
+#[derive(Clone, Copy)]
+enum Ending {
+    EndOfInput = 0,
+    BadLine = 1,
+    OutOfMemory = 2,
+    ReadFailed = 3,
+    WriteFailed = 4,
+}
+
+#[derive(Drop)]
+struct Simulation<R, W: Write + Drop> {
+    lines: Lines<R>,
+    world: World<(), u64>,
+    replies: BufWriter<W>,
+}
+
+/// Runs each line of the reader as a step of a new world, and writes a line of reply to each. The
+/// answer is the exit status: 0 at the end of the input; 1 after `bad line k` for the first line
+/// that is no step, k counted from 1, and nothing after it is read; 2 after `out of memory`, where
+/// no world, reader or writer could be made; 3 after `read failed`; 4 where a write failed, and
+/// nothing more was written.
+pub fn run_lines<R: Read + Drop, W: Write + Drop>(alloc: Global, reader: R, mut writer: W) -> u8
+    ensures { result < 5 }
+{
+    let Ok(simulation) = Simulation::new(alloc, reader, &mut writer) else {
+        return refuse(&mut writer) as u8;
+    };
+    simulation.run() as u8
+}
+
+// Writes that there was no memory to begin with.
+fn refuse<W: Write>(writer: &mut W) -> Ending {
+    if writer.write_all(b"out of memory\n").is_ok() && writer.flush().is_ok() {
+        Ending::OutOfMemory
+    } else {
+        Ending::WriteFailed
+    }
+}
+
+impl<R: Read + Drop, W: Write + Drop> Simulation<R, W> {
+    fn new(alloc: Global, reader: R, writer: W) -> Result<Self, OutOfMemory> {
+        let lines = Lines::new(alloc, reader)?;
+        let world = World::new(alloc, STEP_LIMIT)?;
+        let Ok(replies) = BufWriter::new(alloc, writer) else {
+            return Err(OutOfMemory);
+        };
+        Ok(Simulation {
+            lines,
+            world,
+            replies,
+        })
+    }
+
+    fn run(mut self) -> Ending {
+        let ending = match self.answer_lines() {
+            Ok(ending) if self.replies.flush().is_ok() => ending,
+            _ => Ending::WriteFailed,
+        };
+        let Simulation {
+            lines: _,
+            world: _,
+            replies,
+        } = self;
+        // What a failed write left in the buffer isn't tried again.
+        let (_, _) = replies.into_parts();
+        ending
+    }
+
+    // Answers the lines in order, up to the first that is bad. An error is that of a write.
+    fn answer_lines(&mut self) -> io::Result<Ending> {
+        for number in 1..u64::MAX {
+            let line = match self.lines.next_line() {
+                Ok(Some(line)) => line,
+                Ok(None) => return Ok(Ending::EndOfInput),
+                // The same is said of more lines than can be counted.
+                Err(_) => break,
+            };
+            if line.len() > LINE_LIMIT {
+                return self.end_at_bad_line(number);
+            }
+            match command_of(line) {
+                Some(Command::Step(step)) => {
+                    let reply = self.world.step(step);
+                    self.replies.writeln(ReplyText(reply))?;
+                }
+                Some(Command::Show) => self.replies.writeln(StateText(&self.world))?,
+                None => return self.end_at_bad_line(number),
+            }
+        }
+        self.replies.write_all(b"read failed\n")?;
+        Ok(Ending::ReadFailed)
+    }
+
+    fn end_at_bad_line(&mut self, number: u64) -> io::Result<Ending> {
+        writeln!(self.replies, "bad line {number}")?;
+        Ok(Ending::BadLine)
+    }
+}

@@ -1,0 +1,288 @@
+//! Whole runs over readers and writers in memory, which may fail.
+use crate::run_lines;
+use std::alloc::Global;
+use std::io;
+use std::io::{ErrorKind, Read, Write};
+use std::process::Abort;
+use std::test::Fail;
+
+// Gives its text, at most `most` bytes a read. After that it ends, or fails where `fails` is set.
+#[derive(Drop)]
+struct Source<'a> {
+    text: &'a [u8],
+    most: usize,
+    fails: bool,
+}
+
+impl Read for Source<'_> {
+    fn read(&mut self, buf: &mut [u8]) -> io::Result<usize> {
+        if self.fails && self.text.is_empty() {
+            return Err(io::Error::from(ErrorKind::BrokenPipe));
+        }
+        let count = self.text.len().min(self.most).min(buf.len());
+        let (given, rest) = self.text.split_at(count);
+        buf[..count].copy_from_slice(given);
+        self.text = rest;
+        Ok(count)
+    }
+}
+
+// The text in one read, and then the end.
+fn whole(text: &[u8]) -> Source<'_> {
+    Source {
+        text,
+        most: usize::MAX,
+        fails: false,
+    }
+}
+
+// The text byte by byte, and then a failure.
+fn guarded(text: &[u8]) -> Source<'_> {
+    Source {
+        text,
+        most: 1,
+        fails: true,
+    }
+}
+
+// Keeps what is written. The write with this number from 0 fails, and so does the flush where
+// `fails_flush` is set; later ones don't.
+#[derive(Drop)]
+struct Sink {
+    kept: Vec<u8>,
+    writes: usize,
+    fails_write: Option<usize>,
+    fails_flush: bool,
+}
+
+impl Write for Sink {
+    fn write(&mut self, buf: &[u8]) -> io::Result<usize> {
+        let number = self.writes;
+        self.writes = self.writes.saturating_add(1);
+        if self.fails_write == Some(number) {
+            return Err(io::Error::from(ErrorKind::BrokenPipe));
+        }
+        self.kept.extend_from_slice(buf)?;
+        Ok(buf.len())
+    }
+
+    fn flush(&mut self) -> io::Result<()> {
+        if self.fails_flush {
+            self.fails_flush = false;
+            return Err(io::Error::from(ErrorKind::BrokenPipe));
+        }
+        Ok(())
+    }
+}
+
+fn empty_sink(alloc: Global) -> Sink {
+    Sink {
+        kept: Vec::new(alloc),
+        writes: 0,
+        fails_write: None,
+        fails_flush: false,
+    }
+}
+
+// That the run over this input writes this text and ends with this status.
+fn expect_run(rt: &impl Abort, alloc: Global, input: Source<'_>, output: &str, status: u8) {
+    let text = input.text;
+    let mut written = empty_sink(alloc);
+    let ended = run_lines(alloc, input, &mut written);
+    assert_eq!(rt; str::from_utf8(&written.kept), Ok(output), "of {text:?}");
+    assert_eq!(rt; ended, status, "of {text:?}");
+}
+
+// What is read, what is written and the status.
+const RUNS: [(&str, &str, u8); 9] = [
+    ("", "", 0),
+    (
+        "spawn\ntrytick\nready 0 7\npollhandle 0\ntrytick\n",
+        "task 0\npoll 0\nfinished\noutput 7\nnone\n",
+        0,
+    ),
+    (
+        "spawn\ntrytick\nwake 0\npend 0\nwake 0\nshow\n",
+        "task 0\npoll 0\nnothing\nqueued 0\nnothing\nglobal [0] locals [] flag true numbers 0 \
+         notified 0 notices 3 picks 0 undropped 1\n",
+        0,
+    ),
+    (
+        "show\nspawn\nspawn\nspawn\ntrytick\npend 0\nshow",
+        "global [] locals [] flag true numbers 0 notified 0 notices 0 picks 0 undropped 0\n\
+         task 0\ntask 1\ntask 2\npoll 0\nidle 0\nglobal [1, 2] locals [] flag true numbers 0 \
+         notified 0 notices 4 picks 0 undropped 3\n",
+        0,
+    ),
+    (
+        "spawn\ntrytick\npollhandle 0\nready 0 18446744073709551615\npollhandle 0\n\
+         pollhandle 0\nwake 0",
+        "task 0\npoll 0\npending\nfinished awaiter\noutput 18446744073709551615\nnot now\n\
+         nothing\n",
+        0,
+    ),
+    (
+        "pend 0\nwake 3\ntrytick\nwake 18446744073709551615\n",
+        "not now\nnot now\nnone\nnot now\n",
+        0,
+    ),
+    ("pend 0\n", "not now\n", 0),
+    ("spawn\nspwan\nspawn\n", "task 0\nbad line 2\n", 1),
+    ("spawn\n\n", "task 0\nbad line 2\n", 1),
+];
+
+#[test]
+fn runs_print_their_replies_however_the_input_is_cut(rt: HostRuntime) {
+    for (input, output, status) in RUNS {
+        for most in [1, 2, 7, usize::MAX] {
+            let source = Source {
+                most,
+                ..whole(input.as_bytes())
+            };
+            expect_run(&rt, rt.alloc(), source, output, status);
+        }
+    }
+}
+
+const NO_STEPS: [&[u8]; 38] = [
+    b"",
+    b"\r",
+    b"spwan",
+    b"Spawn",
+    b"spawn\r",
+    b"spawn\t",
+    b" spawn",
+    b"spawn ",
+    b"spawn 0",
+    b"spawnspawn",
+    b"trytick 0",
+    b"show ",
+    b"show 0",
+    b"\xef\xbb\xbfspawn",
+    b"spawn\xff",
+    b"\xc3",
+    b"spawn\0",
+    b"wake",
+    b"wake ",
+    b"wake  0",
+    b"wake\t0",
+    b"wake 0 ",
+    b"wake 0 0",
+    b"wake 00",
+    b"wake 01",
+    b"wake +1",
+    b"wake -1",
+    b"wake 1x",
+    b"wake 0x1",
+    b"wake \xd9\xa1",
+    b"wake 18446744073709551616",
+    b"wake 340282366920938463463374607431768211456",
+    b"pend 0 0",
+    b"pollhandle",
+    b"ready 0",
+    b"ready 0  0",
+    b"ready 0 0 0",
+    b"cancel 0",
+];
+
+// What is written where such a line comes third.
+const LATER: &str = "task 0\nglobal [0] locals [] flag true numbers 0 notified 0 notices 1 picks 0 \
+                     undropped 1\nbad line 3\n";
+
+#[test]
+fn a_line_that_is_no_step_ends_the_run_and_nothing_after_it_is_read(rt: HostRuntime) {
+    for line in NO_STEPS {
+        let mut input = Vec::new(rt.alloc());
+        for (front, output) in [("", "bad line 1\n"), ("spawn\nshow\n", LATER)] {
+            input.clear();
+            let made = input.extend_from_slice(front.as_bytes()).is_ok()
+                && input.extend_from_slice(line).is_ok()
+                && input.push(b'\n').is_ok();
+            assert!(rt; made);
+            expect_run(&rt, rt.alloc(), guarded(&input), output, 1);
+        }
+    }
+}
+
+#[test]
+fn a_line_is_too_long_from_its_sixty_fifth_byte_on(rt: HostRuntime) {
+    let long = [b'1'; 65];
+    expect_run(&rt, rt.alloc(), guarded(&long[..64]), "read failed\n", 3);
+    expect_run(&rt, rt.alloc(), guarded(&long), "bad line 1\n", 1);
+}
+
+#[test]
+fn a_failed_read_ends_the_run_after_the_replies_to_whole_lines(rt: HostRuntime) {
+    let inputs = [
+        ("", "read failed\n"),
+        ("spawn\ntrytick\n", "task 0\npoll 0\nread failed\n"),
+        ("spawn\ntrytick", "task 0\nread failed\n"),
+    ];
+    for (input, output) in inputs {
+        expect_run(&rt, rt.alloc(), guarded(input.as_bytes()), output, 3);
+    }
+}
+
+#[test]
+fn nothing_is_written_after_a_failed_write(rt: HostRuntime) -> Result<(), Fail> {
+    let mut long = String::new(rt.alloc());
+    for _ in 0..3000 {
+        long.push_str("spawn\n")?;
+    }
+    long.push_str("cancel 0\n")?;
+    // The replies to the long input take several writes.
+    let runs = [
+        ("spawn\n", 0),
+        ("spawn\nspwan\n", 0),
+        (long.as_str(), 0),
+        (long.as_str(), 1),
+        (long.as_str(), 2),
+    ];
+    for (input, fails) in runs {
+        let mut all = empty_sink(rt.alloc());
+        run_lines(rt.alloc(), whole(input.as_bytes()), &mut all);
+        let mut written = Sink {
+            fails_write: Some(fails),
+            ..empty_sink(rt.alloc())
+        };
+        let status = run_lines(rt.alloc(), whole(input.as_bytes()), &mut written);
+        assert_eq!(rt; status, 4);
+        assert_eq!(rt; written.writes, fails + 1);
+        assert!(rt; all.kept.starts_with(&written.kept));
+        assert_eq!(rt; written.kept.is_empty(), fails == 0);
+    }
+    Ok(())
+}
+
+#[test]
+fn a_failed_flush_is_a_failed_write(rt: HostRuntime) {
+    let mut written = Sink {
+        fails_flush: true,
+        ..empty_sink(rt.alloc())
+    };
+    assert_eq!(rt; run_lines(rt.alloc(), whole(b"spawn\n"), &mut written), 4);
+    assert_eq!(rt; written.kept.as_slice(), b"task 0\n".as_slice());
+}
+
+#[test]
+fn a_run_accepts_a_hundred_thousand_steps(rt: HostRuntime) -> Result<(), Fail> {
+    let mut input = String::from_str(rt.alloc(), "show\npend 0\n")?;
+    for _ in 0..100_000 {
+        input.push_str("trytick\n")?;
+    }
+    input.push_str("pend 0\nshow\n")?;
+    let mut written = empty_sink(rt.alloc());
+    let status = run_lines(rt.alloc(), whole(input.as_bytes()), &mut written);
+    let state =
+        "global [] locals [] flag true numbers 0 notified 0 notices 0 picks 0 undropped 0\n";
+    let end = format!(in rt.alloc(); "none\nlog full\n{state}")?;
+    let refused = format!(in rt.alloc(); "{state}not now\nnone\n")?;
+    assert_eq!(rt; status, 0);
+    assert!(rt; written.kept.starts_with(refused.as_bytes()));
+    assert!(rt; written.kept.ends_with(end.as_bytes()));
+    assert_eq!(rt;
+        written.kept.iter().filter(|b| **b == b'\n').count(),
+        100_004
+    );
+    Ok(())
+}
