@@ -1,0 +1,3 @@
+//! Worked runs of the table, and of a world.
+mod cells;
+mod worlds;
