@@ -48,5 +48,5 @@ pub use handles::PollHandle;
 pub use polling::{Polled, Poller, Ran, run_taken};
 pub use refusals::{OutOfMemory, SpawnError};
 pub use table::{Cells, EndPending, EndReady};
-pub use traits::Wake;
+pub use traits::{Future, Poll, Wake};
 pub use values::{Again, Change, Held, Notice, Pick, Taken, TaskId, Wakeup};
