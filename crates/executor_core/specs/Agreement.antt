@@ -6,6 +6,7 @@ use Rattle.executor_core.specs.Table.{Slotted, Table}
 use Rattle.executor_core.specs.Log.{is_take, is_cancel, unfollowed, spawned, dropped, cancelled, held, woken, outputs, given, polls, wakes}
 use Rattle.executor_core.specs.Promises.{InOrder}
 use Rattle.executor_core.specs.declared.interleave.tasks.TaskInfo.{TaskInfo}
+use Rattle.executor_core.specs.declared.interleave.tasks.FutureOut.{FutureOut}
 use Rattle.executor_core.specs.declared.task.cell.State.{State}
 use Rattle.executor_core.specs.declared.task.cell.State.TheVariants.{Idle, Scheduled, Held, Finished, Gone}
 use Rattle.executor_core.specs.declared.interleave.events.Event.{Event}
@@ -88,7 +89,7 @@ module _ {T : Type 0} where
 module _ {P T : Type 0} where
   -- what the log says of a task whose cell has this state, and this woken mark
   abbrev pub StateAgrees : State P T → Bool → Status T → Type 0
-  StateAgrees (Idle p) w s = IsUndropped s false × (s.taken ≡ true) × (s.woken ≡ false) × (s.cancelled_since ≡ false)
+  StateAgrees (Idle p) w s = IsUndropped s false × (s.taken ≡ true) × (s.woken ≡ false) × (s.cancelled ≡ false) × (s.cancelled_since ≡ false)
   StateAgrees (Scheduled p) w s = IsUndropped s false × (not s.taken || s.woken || s.cancelled_since ≡ true)
   StateAgrees Held w s = IsUndropped s true × (s.taken ≡ true) × (s.woken ≡ w)
   StateAgrees (Finished t) w s = IsEnded s (t ∷ [])
@@ -108,13 +109,13 @@ module _ {P T : Type 0} where
   NumberAgrees (Some slotted) s None = ⊥
 
 -- a future is out
-abbrev pub is_out : {P : Type 0} → Option (Option P) → Bool
+abbrev pub is_out : {X : Type 0} → Option (Option X) → Bool
 is_out None = false
 is_out (Some future) = is_some future
 
 module _ {P T : Type 0} where
   -- the cells, the futures that are out, and what is known of each task agree with the log
-  pub record Agree (table : Table P T (Unit {0})) (log : List (Event T)) (tasks : List TaskInfo) (futures : List (Option P)) : Type 0 where
+  pub record Agree (table : Table P T (Unit {0})) (log : List (Event T)) (tasks : List TaskInfo) (futures : List (Option (FutureOut P))) : Type 0 where
     pub next : table.next ≡ length tasks
     pub as_many : length futures ≡ length tasks
     pub each : (n : ℕ) → NumberAgrees (map.get table.cells n) (status n log) (slice_get tasks n)

@@ -1,0 +1,100 @@
+-- The steps of those who have a handle keep the cells in agreement with the log.
+use Rattle.std.proofs.Common.{◌≡◌, ℕ, ◌||◌, ◌&&◌, not, Bool, true, false, List, [], ◌∷◌, ◌++◌, Option, Some, None, cond, refl, sym, ap, ◌∙◌}
+use Rattle.std.specs.Prelude.{slice_get}
+use Rattle.executor_core.specs.Table.{Slotted, Table}
+use Rattle.executor_core.specs.States.{is_idle, is_undropped}
+use Rattle.executor_core.specs.Calls.{cell_at, queued_if, with_cell, passes, after_cancel, cancel_at, cancel_queues}
+use Rattle.executor_core.specs.CellChanges.{state_woken, cancelled_cell}
+use Rattle.executor_core.specs.Log.{dropped, idle}
+use Rattle.executor_core.specs.Agreement.{Status, status, StateAgrees, Agree}
+use Rattle.executor_core.proofs.LogLemmas.{on_cancel, order-push}
+use Rattle.executor_core.proofs.AgreementLemmas.{log_same, log_pushed, info_same, out_same, cell_put, agree_again, agreed_at, id_of, cell_agreed, idle_state, dropped_state, not-not}
+use Rattle.executor_core.proofs.StepLemmas.{if-true, if-false, handle_cell}
+use Rattle.executor_core.specs.declared.task.cell.Cell.{Cell}
+use Rattle.executor_core.specs.declared.task.cell.State.{State}
+use Rattle.executor_core.specs.declared.task.cell.State.TheVariants.{Idle, Scheduled, Held, Finished, Gone}
+use Rattle.executor_core.specs.declared.interleave.tasks.TaskInfo.{TaskInfo}
+use Rattle.executor_core.specs.declared.interleave.tasks.FutureOut.{FutureOut}
+use Rattle.executor_core.specs.declared.interleave.events.Event.{Event}
+use Rattle.executor_core.specs.declared.interleave.events.Event.TheVariants.{Cancelled}
+
+or-last : (a b : Bool) → a || b || true ≡ true
+or-last true b = refl
+or-last false true = refl
+or-last false false = refl
+
+-- the future of an idle task is not dropped
+pub idle_undropped : (a b c d : Bool) → a && not b && c && d ≡ true → b ≡ false
+idle_undropped a false c d h = refl
+idle_undropped true true c d h = absurd (cc)
+idle_undropped false true c d h = absurd (cc)
+
+module _ {P T : Type 0} {table : Table P T (Unit {0})} {log : List (Event T)} {tasks : List TaskInfo} {out : List (Option (FutureOut P))} (agree : Agree table log tasks out) (n : ℕ) (i : TaskInfo) (found : slice_get tasks n ≡ Some i) (there : i.has_handle ≡ true) where
+  -- a cancel, whatever its task's state
+  cancel_is : (slotted : Slotted P T (Unit {0})) → cell_at table (id_of n i) ≡ Some slotted.cell → slotted.cell.has_handle ≡ true
+      → after_cancel table (id_of n i) ≡ queued_if (is_idle slotted.cell.state) (with_cell table (id_of n i) (cancelled_cell slotted.cell)) (id_of n i)
+  cancel_is slotted cell has = ap (cancel_at table (id_of n i)) cell ∙ if-true slotted.cell.has_handle _ _ has
+
+  cancelled_state : (st : State P T) (w : Bool) (s : Status T) → is_undropped st ≡ true → StateAgrees st w s → StateAgrees (state_woken st) w (record s { cancelled = true; cancelled_since = true })
+  cancelled_state (Idle p) w s u h = (record { spawned = h.0.spawned; dropped = h.0.dropped; held = h.0.held; outputs = h.0.outputs; given = h.0.given }, or-last (not s.taken) s.woken)
+  cancelled_state (Scheduled p) w s u h = (record { spawned = h.0.spawned; dropped = h.0.dropped; held = h.0.held; outputs = h.0.outputs; given = h.0.given }, or-last (not s.taken) s.woken)
+  cancelled_state Held w s u h = (record { spawned = h.0.spawned; dropped = h.0.dropped; held = h.0.held; outputs = h.0.outputs; given = h.0.given }, h.1, h.2)
+  cancelled_state (Finished t) w s u h = absurd (cc)
+  cancelled_state Gone w s u h = absurd (cc)
+
+  ended_state : (st : State P T) (w : Bool) (s : Status T) → is_undropped st ≡ false → StateAgrees st w s → StateAgrees (state_woken st) w s
+  ended_state (Idle p) w s u h = absurd (cc)
+  ended_state (Scheduled p) w s u h = absurd (cc)
+  ended_state Held w s u h = absurd (cc)
+  ended_state (Finished t) w s u h = h
+  ended_state Gone w s u h = h
+
+  -- what a cancel does to the queue is what the log says
+  pub cancel_global : (after_cancel table (id_of n i)).global ≡ cond (idle n log) (table.global ++ n ∷ []) table.global
+  cancel_global =
+      let at = handle_cell agree n i found there in
+      let h = agreed_at agree n i found (Some at.0) at.1 in
+      ap (λ x. x.global) (cancel_is at.0 (cell_agreed agree n i found (Some at.0) at.1) at.2)
+      ∙ ap (λ b. cond b (table.global ++ n ∷ []) table.global) (sym (idle_state at.0.cell.state at.0.cell.woken (status n log) h.state))
+
+  pub cancel_notice : cancel_queues table (id_of n i) ≡ idle n log
+  cancel_notice =
+      let at = handle_cell agree n i found there in
+      let h = agreed_at agree n i found (Some at.0) at.1 in
+      ap (passes (λ c. c.has_handle && is_idle c.state)) (cell_agreed agree n i found (Some at.0) at.1)
+      ∙ ap (λ b. b && is_idle at.0.cell.state) at.2
+      ∙ sym (idle_state at.0.cell.state at.0.cell.woken (status n log) h.state)
+
+  -- a task whose future is not dropped is marked
+  pub cancel_step : dropped n log ≡ false → Agree (after_cancel table (id_of n i)) (log ++ Cancelled n ∷ []) tasks out
+  cancel_step fresh =
+      let at = handle_cell agree n i found there in
+      let slotted = at.0 in
+      let h = agreed_at agree n i found (Some slotted) at.1 in
+      let alive : is_undropped slotted.cell.state ≡ true = sym (not-not _) ∙ ap not (sym (dropped_state slotted.cell.state slotted.cell.woken (status n log) h.state) ∙ fresh) in
+      let is = cancel_is slotted (cell_agreed agree n i found (Some slotted) at.1) at.2 in
+      agree_again agree
+      (cell_put table (after_cancel table (id_of n i)) n (record { slot = i.slot; cell = cancelled_cell slotted.cell }) (ap (λ x. x.next) is) (ap (λ x. x.cells) is))
+      (log_pushed log n (Cancelled n) _ refl (on_cancel n log))
+      (info_same tasks n i found)
+      (out_same out n _ (agree.out n))
+      (record { slot = refl; has_handle = h.has_handle; awaited = h.awaited; cancelled = if-true (is_undropped slotted.cell.state) _ _ alive; state = cancelled_state slotted.cell.state slotted.cell.woken (status n log) alive h.state })
+      (agree.few_polls n)
+      (order-push log (Cancelled n) agree.order tt)
+
+  -- a task whose future was dropped stays as it is
+  pub cancel_ended : dropped n log ≡ true → Agree (after_cancel table (id_of n i)) log tasks out
+  cancel_ended gone =
+      let at = handle_cell agree n i found there in
+      let slotted = at.0 in
+      let h = agreed_at agree n i found (Some slotted) at.1 in
+      let dead : is_undropped slotted.cell.state ≡ false = sym (not-not _) ∙ ap not (sym (dropped_state slotted.cell.state slotted.cell.woken (status n log) h.state) ∙ gone) in
+      let is = cancel_is slotted (cell_agreed agree n i found (Some slotted) at.1) at.2 in
+      agree_again agree
+      (cell_put table (after_cancel table (id_of n i)) n (record { slot = i.slot; cell = cancelled_cell slotted.cell }) (ap (λ x. x.next) is) (ap (λ x. x.cells) is))
+      (log_same log n)
+      (info_same tasks n i found)
+      (out_same out n _ (agree.out n))
+      (record { slot = refl; has_handle = h.has_handle; awaited = h.awaited; cancelled = if-false (is_undropped slotted.cell.state) _ _ dead ∙ h.cancelled; state = ended_state slotted.cell.state slotted.cell.woken (status n log) dead h.state })
+      (agree.few_polls n)
+      agree.order
