@@ -4,11 +4,11 @@ use Rattle.std.proofs.lemmas.Bool.{cases_Bool}
 use Rattle.std.specs.Prelude.{slice_get, slice_set}
 use Rattle.executor_core.specs.Execution.{Execution}
 use Rattle.executor_core.specs.Log.{dropped, cancelled, idle, woken, outputs}
-use Rattle.executor_core.specs.Steps.{ready_reply, new_info, spawn_row, row, counted, mark_row, tick_row, pend_row, ready_row, dropped_row, handle_row}
+use Rattle.executor_core.specs.Steps.{ready_reply, new_info, spawn_row, row, counted, mark_row, tick_row, pend_row, ready_row, dropped_row, handle_row, output_reply, detach_row, drop_handle_row}
 use Rattle.executor_core.specs.declared.interleave.tasks.TaskInfo.{TaskInfo}
 use Rattle.executor_core.specs.declared.interleave.events.Purpose.TheVariants.{ToPoll, ToDrop}
 use Rattle.executor_core.specs.declared.interleave.events.Event.{Event}
-use Rattle.executor_core.specs.declared.interleave.events.Event.TheVariants.{Spawned, Took, Returned, Finished, Dropped, Got}
+use Rattle.executor_core.specs.declared.interleave.events.Event.TheVariants.{Spawned, Cancelled, Took, Returned, Finished, Dropped, Got}
 use Rattle.executor_core.specs.declared.interleave.steps.Reply.TheVariants as reply
 
 module _ {T : Type 0} (log : List (Event T)) (accepted limit : ℕ) (global : List ℕ) (notices : ℕ) (tasks : List TaskInfo) (n : ℕ) (i : TaskInfo) (found : slice_get tasks n ≡ Some i) where
@@ -82,6 +82,22 @@ module _ {T : Type 0} (log : List (Event T)) (accepted limit : ℕ) (global : Li
   pub dropped_gone : (awaiter : Bool) (queue : List ℕ) (more : List (Event T)) (later : List TaskInfo) → awaiter ≡ i.awaited → queue ≡ global → more ≡ log ++ Dropped n ∷ []
       → later ≡ slice_set tasks n (record i { awaited = false }) → row (dropped_row n world) (reply.Gone awaiter) (then more queue notices later)
   dropped_gone awaiter queue more later wake queued is set = rw (wake, queued, is, set, found) (refl, refl)
+
+  pub detach_gives : (output : Option T) (queue : List ℕ) (later : List TaskInfo) → output ≡ slice_get (outputs n log) 0 → queue ≡ global
+      → later ≡ slice_set tasks n (record i { has_handle = false; awaited = false }) → row (detach_row n world) (output_reply output) (then log queue notices later)
+  detach_gives output queue later out queued set = rw (out, queued, set, found) (refl, refl)
+
+  pub drop_handle_queued : (queue : List ℕ) (more : List (Event T)) (later : List TaskInfo) → idle n log ≡ true → queue ≡ cond (idle n log) (global ++ n ∷ []) global → more ≡ log ++ Cancelled n ∷ []
+      → later ≡ slice_set tasks n (record i { has_handle = false; awaited = false }) → row (drop_handle_row n world) reply.Notice (then more queue (notices + 1) later)
+  drop_handle_queued queue more later now queued is set = rw (queued, now, is, set, found) (refl, refl)
+
+  pub drop_handle_stays : (queue : List ℕ) (more : List (Event T)) (later : List TaskInfo) → idle n log ≡ false → dropped n log ≡ false → outputs n log ≡ [] → queue ≡ cond (idle n log) (global ++ n ∷ []) global → more ≡ log ++ Cancelled n ∷ []
+      → later ≡ slice_set tasks n (record i { has_handle = false; awaited = false }) → row (drop_handle_row n world) reply.Nothing (then more queue notices later)
+  drop_handle_stays queue more later now fresh none queued is set = rw (queued, now, fresh, none, is, set, found) (refl, refl)
+
+  pub drop_handle_gives : (output : Option T) (queue : List ℕ) (later : List TaskInfo) → idle n log ≡ false → dropped n log ≡ true → output ≡ slice_get (outputs n log) 0 → queue ≡ cond (idle n log) (global ++ n ∷ []) global
+      → later ≡ slice_set tasks n (record i { has_handle = false; awaited = false }) → row (drop_handle_row n world) (output_reply output) (then log queue notices later)
+  drop_handle_gives output queue later now gone out queued set = rw (queued, now, gone, out, set, found) (refl, refl)
 
 module _ {T : Type 0} (log : List (Event T)) (accepted limit : ℕ) (global : List ℕ) (notices : ℕ) (tasks : List TaskInfo) where
   pub spawn_row_is : (slot k : ℕ) (queue : List ℕ) (more : List (Event T)) (later : List TaskInfo) → k ≡ length tasks → queue ≡ global ++ k ∷ [] → more ≡ log ++ Spawned k ∷ [] → later ≡ tasks ++ new_info slot ∷ []

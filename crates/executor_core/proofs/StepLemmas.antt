@@ -94,6 +94,14 @@ spawned_only = spawned_now no_status
 abbrev dropped_now : {T : Type 0} → Status T → Status T
 dropped_now s = record s { dropped = true; held = false }
 
+-- the future was dropped, so nobody holds it
+pub ended_past : {P T : Type 0} (st : State P T) (w : Bool) (s : Status T) → StateAgrees st w s → is_undropped st ≡ false → (s.spawned ≡ true) × (s.held ≡ false)
+ended_past (Idle p) w s h e = absurd (cc)
+ended_past (Scheduled p) w s h e = absurd (cc)
+ended_past Held w s h e = absurd (cc)
+ended_past (Finished t) w s h e = (h.spawned, h.held)
+ended_past Gone w s h e = (h.spawned, h.held)
+
 module _ {P T : Type 0} {table : Table P T (Unit {0})} {log : List (Event T)} {tasks : List TaskInfo} {out : List (Option (FutureOut P))} (agree : Agree table log tasks out) (n : ℕ) where
   -- whether the future is dropped is what the log says
   pub undropped_is : (i : TaskInfo) → slice_get tasks n ≡ Some i → undropped_in (cell_at table (id_of n i)) ≡ not (dropped n log)
@@ -425,7 +433,7 @@ module _ {P T : Type 0} {table : Table P T (Unit {0})} {log : List (Event T)} {t
         let cell = cell_agreed agree n i found (Some slotted) at.1 in
         let dead : is_undropped slotted.cell.state ≡ false = sym (not-not _) ∙ ap not (sym (dropped_state slotted.cell.state slotted.cell.woken (status n log) h.state) ∙ gone) in
         let is : after_poll_handle table (id_of n i) tt ≡ without_cell table (id_of n i) = ap (poll_handle_at table (id_of n i) tt) cell ∙ if-true slotted.cell.has_handle _ _ at.2 ∙ if-false (is_undropped slotted.cell.state) _ _ dead in
-        let removed = ended_past slotted.cell.state slotted.cell.woken h.state dead in
+        let removed = ended_past slotted.cell.state slotted.cell.woken (status n log) h.state dead in
         agree_again agree
         (cell_removed table (after_poll_handle table (id_of n i) tt) n (ap (λ x. x.next) is) (ap (λ x. x.cells) is))
         log_change
@@ -433,13 +441,6 @@ module _ {P T : Type 0} {table : Table P T (Unit {0})} {log : List (Event T)} {t
         (out_same out n _ (agree.out n ∙ sym hold))
         (record { spawned = spawn ∙ removed.0; dropped = drop; held = hold ∙ removed.1; has_handle = refl })
         few_polls order
-      where
-        ended_past : (st : State P T) (w : Bool) → StateAgrees st w (status n log) → is_undropped st ≡ false → (spawned n log ≡ true) × (held n log ≡ false)
-        ended_past (Idle p) w h e = absurd (cc)
-        ended_past (Scheduled p) w h e = absurd (cc)
-        ended_past Held w h e = absurd (cc)
-        ended_past (Finished t) w h e = (h.spawned, h.held)
-        ended_past Gone w h e = (h.spawned, h.held)
 
     -- what the answer says of the log
     abbrev pub AnswerTells : PollHandle T (Unit {0}) → Type 0

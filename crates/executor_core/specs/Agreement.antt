@@ -3,7 +3,8 @@ use Rattle.std.specs.Prelude.{◌≡◌, ℕ, ◌+◌, ◌*◌, ◌≤◌, Bool,
 use Rattle.std.specs.List.{list_any}
 use Rattle.std.specs.FinMap as map
 use Rattle.executor_core.specs.Table.{Slotted, Table}
-use Rattle.executor_core.specs.Log.{is_take, is_cancel, unfollowed, spawned, dropped, cancelled, held, woken, outputs, given, polls, wakes}
+use Rattle.executor_core.specs.Calls.{cell_at, finished_in}
+use Rattle.executor_core.specs.Log.{handle_finished, is_take, is_cancel, unfollowed, spawned, dropped, cancelled, held, woken, outputs, given, polls, wakes}
 use Rattle.executor_core.specs.Promises.{InOrder}
 use Rattle.executor_core.specs.declared.interleave.tasks.TaskInfo.{TaskInfo}
 use Rattle.executor_core.specs.declared.interleave.tasks.FutureOut.{FutureOut}
@@ -122,6 +123,10 @@ module _ {P T : Type 0} where
     pub out : (n : ℕ) → is_out (slice_get futures n) ≡ held n log
     pub few_polls : (n : ℕ) → FewPollsFor (status n log)
     pub order : InOrder log
+
+  -- of a task whose handle is there, the cells call finished what the log does
+  abbrev pub FinishedAgrees : Table P T (Unit {0}) → List (Event T) → List TaskInfo → Type 0
+  FinishedAgrees table log tasks = (n : ℕ) (i : TaskInfo) → slice_get tasks n ≡ Some i → i.has_handle ≡ true → finished_in (cell_at table (record { number = n; slot = i.slot })) ≡ handle_finished n log
 
 -- there is room for what the steps to come add
 pub record HasRoom (accepted limit notices tasks events room : ℕ) : Type 0 where

@@ -7,7 +7,7 @@ use Rattle.executor_core.specs.declared.interleave.events.Purpose.TheVariants.{T
 use Rattle.executor_core.specs.declared.interleave.events.Event.{Event}
 use Rattle.executor_core.specs.declared.interleave.events.Event.TheVariants.{Spawned, Woken, Cancelled, Took, Returned, Finished, Dropped, Got}
 use Rattle.executor_core.specs.declared.interleave.steps.Step.{Step}
-use Rattle.executor_core.specs.declared.interleave.steps.Step.TheVariants.{Spawn, Wake, TryTick, Pend, Ready, PollHandle, Cancel, Dropped as DropDone}
+use Rattle.executor_core.specs.declared.interleave.steps.Step.TheVariants.{Spawn, Wake, TryTick, Pend, Ready, PollHandle, Cancel, Detach, DropHandle, Dropped as DropDone}
 use Rattle.executor_core.specs.declared.interleave.steps.Reply.{Reply}
 use Rattle.executor_core.specs.declared.interleave.steps.Reply.TheVariants as reply
 
@@ -115,6 +115,14 @@ module _ {T : Type 0} where
   output_reply None = reply.Nothing
   output_reply (Some t) = reply.Output t
 
+  -- detach n: the handle ends and is awaited no more, and the output of its task comes out
+  abbrev pub detach_row : ℕ → Execution T → Reply T × Execution T
+  detach_row n w = (output_reply (slice_get (outputs n w.log) 0), informed n (record (info n w) { has_handle = false; awaited = false }) w)
+
+  -- drophandle n: a cancel, and then a detach
+  abbrev pub drop_handle_row : ℕ → Execution T → Reply T × Execution T
+  drop_handle_row n w = (cond (idle n w.log) reply.Notice (detach_row n w).0, (detach_row n (cancel_row n w).1).1)
+
 -- what a step does
 module _ {T : Type 0} where
   -- no task that is undropped or has its handle has this slot
@@ -140,6 +148,8 @@ module _ {P T : Type 0} where
   enabled (Ready n t) w = held n w.log && not (info n w).to_drop
   enabled (PollHandle n) w = (info n w).has_handle
   enabled (Cancel n) w = (info n w).has_handle
+  enabled (Detach n) w = (info n w).has_handle
+  enabled (DropHandle n) w = (info n w).has_handle
   enabled (DropDone n) w = held n w.log && (info n w).to_drop
 
   -- what an enabled step does
@@ -151,6 +161,8 @@ module _ {P T : Type 0} where
   Does (Ready n t) old answer new = row (ready_row n t old) answer new
   Does (PollHandle n) old answer new = row (handle_row n old) answer new
   Does (Cancel n) old answer new = row (cancel_row n old) answer new
+  Does (Detach n) old answer new = row (detach_row n old) answer new
+  Does (DropHandle n) old answer new = row (drop_handle_row n old) answer new
   Does (DropDone n) old answer new = row (dropped_row n old) answer new
 
   -- a step: refused where the log is full, else where it is not enabled, else done

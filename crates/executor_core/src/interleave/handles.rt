@@ -1,10 +1,10 @@
 //! The steps of those who have a handle.
 ghost use Rattle.std.specs.Prelude.{◌≡◌, ◌≢◌, true};
-ghost use Rattle.executor_core.specs.Steps.{info, row, handle_row, cancel_row};
+ghost use Rattle.executor_core.specs.Steps.{info, row, handle_row, cancel_row, detach_row, drop_handle_row};
 
 use crate::interleave::World;
 use crate::interleave::events::Event;
-use crate::interleave::steps::Reply;
+use crate::interleave::steps::{Reply, reply_of_output};
 use crate::interleave::tasks::{find_info, set_info};
 use crate::task::PollHandle;
 
@@ -59,6 +59,60 @@ impl<P: Drop, T: Copy> World<P, T> {
             None => {
                 if !undropped {
                     return Reply::Nothing;
+                }
+                self.log.push_reserved(Event::Cancelled(n));
+                Reply::Nothing
+            }
+        }
+    }
+
+    pub(crate) fn detach(&mut self, n: u64) -> Reply<T>
+        requires room { self.old.accepted ≢ self.old.limit }
+        requires enabled { (info n self.old).has_handle ≡ true }
+        ensures { row (detach_row n self.old) result self.new }
+    {
+        self.accepted += 1;
+        let info = match find_info(&self.tasks, n) {
+            Some(info) => info,
+            None => unreachable!(),
+        };
+        set_info(
+            &mut self.tasks,
+            n,
+            info.without_handle().with_awaited(false),
+        );
+        let (output, _) = self.cells.detach(info.id(n));
+        reply_of_output(output)
+    }
+
+    pub(crate) fn drop_handle(&mut self, n: u64) -> Reply<T>
+        requires room { self.old.accepted ≢ self.old.limit }
+        requires enabled { (info n self.old).has_handle ≡ true }
+        ensures { row (drop_handle_row n self.old) result self.new }
+    {
+        self.accepted += 1;
+        let info = match find_info(&self.tasks, n) {
+            Some(info) => info,
+            None => unreachable!(),
+        };
+        set_info(
+            &mut self.tasks,
+            n,
+            info.without_handle().with_awaited(false),
+        );
+        let id = info.id(n);
+        let undropped = self.cells.is_undropped(id);
+        let (notice, output, _) = self.cells.drop_handle(id);
+        match notice {
+            Some(notice) => {
+                notice.keep();
+                self.notices += 1;
+                self.log.push_reserved(Event::Cancelled(n));
+                Reply::Notice
+            }
+            None => {
+                if !undropped {
+                    return reply_of_output(output);
                 }
                 self.log.push_reserved(Event::Cancelled(n));
                 Reply::Nothing

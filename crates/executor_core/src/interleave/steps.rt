@@ -21,6 +21,10 @@ pub enum Step<P, T> {
     PollHandle(u64),
     /// The task of this number is cancelled through its handle.
     Cancel(u64),
+    /// The handle of this task ends, and the task runs on.
+    Detach(u64),
+    /// The handle of this task is dropped: the task is cancelled, and the handle ends.
+    DropHandle(u64),
     /// The future of this task, which was out to be dropped, was dropped.
     Dropped(u64),
 }
