@@ -4,16 +4,18 @@ use Rattle.std.proofs.lemmas.Bool.{cases_Bool}
 use Rattle.std.specs.Prelude.{slice_get, slice_set}
 use Rattle.executor_core.specs.Table.{Slotted, Table}
 use Rattle.executor_core.specs.States.{is_idle, is_undropped}
-use Rattle.executor_core.specs.Calls.{cell_at, queued_if, with_cell, without_cell, passes, after_cancel, cancel_at, cancel_queues, after_detach, detach_at, detach_answer, finished_in}
+use Rattle.executor_core.specs.Calls.{cell_at, queued_if, with_cell, without_cell, passes, after_cancel, cancel_at, cancel_queues, after_detach, detach_at, detach_answer, finished_in, poll_answer}
 use Rattle.executor_core.specs.CellChanges.{state_woken, cancelled_cell, detached, output_of, is_finished_state}
-use Rattle.executor_core.specs.Log.{dropped, idle, outputs, handle_finished}
-use Rattle.executor_core.specs.Agreement.{Status, status, StateAgrees, Agree}
+use Rattle.executor_core.specs.Log.{dropped, idle, outputs}
+use Rattle.executor_core.specs.Agreement.{Status, status, StateAgrees, Agree, AnswerAgrees, HandleAgrees}
 use Rattle.executor_core.proofs.LogLemmas.{on_cancel, order-push}
 use Rattle.executor_core.proofs.AgreementLemmas.{log_same, log_pushed, info_same, info_set, out_same, cell_put, cell_removed, agree_again, agreed_at, id_of, cell_agreed, idle_state, dropped_state, not-not}
-use Rattle.executor_core.proofs.StepLemmas.{if-true, if-false, ended_past, handle_cell}
+use Rattle.executor_core.proofs.StepLemmas.{if-true, if-false, ended_past, handle_cell, AnswerTells, answer_tells}
 use Rattle.executor_core.specs.declared.task.cell.Cell.{Cell}
 use Rattle.executor_core.specs.declared.task.cell.State.{State}
 use Rattle.executor_core.specs.declared.task.cell.State.TheVariants.{Idle, Scheduled, Held, Finished, Gone}
+use Rattle.executor_core.specs.declared.task.handles.PollHandle.{PollHandle}
+use Rattle.executor_core.specs.declared.task.handles.PollHandle.TheVariants as handle
 use Rattle.executor_core.specs.declared.interleave.tasks.TaskInfo.{TaskInfo}
 use Rattle.executor_core.specs.declared.interleave.tasks.FutureOut.{FutureOut}
 use Rattle.executor_core.specs.declared.interleave.events.Event.{Event}
@@ -181,10 +183,17 @@ module _ {P T : Type 0} {table : Table P T (Unit {0})} {log : List (Event T)} {t
   finished_state (Finished t) w b s is h = rw h.dropped refl
   finished_state Gone w b s is h = rw h.dropped refl
 
-  -- the cells call finished what the log does
-  pub finished_is : finished_in (cell_at table (id_of n i)) ≡ handle_finished n log
-  finished_is =
+  -- a poll of the handle and `is_finished` answer what the log says
+  pub handle_agrees : HandleAgrees table log (id_of n i)
+  handle_agrees =
       let at = handle_cell agree n i found there in
       let h = agreed_at agree n i found (Some at.0) at.1 in
-      ap finished_in (cell_agreed agree n i found (Some at.0) at.1)
-      ∙ finished_state at.0.cell.state at.0.cell.woken at.0.cell.cancelled (status n log) h.cancelled h.state
+      record {
+        answer = as_told (poll_answer tt (cell_at table (id_of n i))) (answer_tells agree n i found there);
+        finished = ap finished_in (cell_agreed agree n i found (Some at.0) at.1) ∙ finished_state at.0.cell.state at.0.cell.woken at.0.cell.cancelled (status n log) h.cancelled h.state;
+      }
+    where
+      as_told : (a : PollHandle T (Unit {0})) → AnswerTells agree n i found there a → AnswerAgrees n log a
+      as_told (handle.Output t w) h = (h.0, h.1)
+      as_told (handle.Cancelled w) h = h
+      as_told (handle.Pending before) h = h

@@ -9,7 +9,7 @@
 //! drop, or is idle is read off the events. The contracts of `World::step` and `World::run` say
 //! that the queue and the futures that are out agree with the log after every list of steps.
 ghost use Rattle.std.specs.Prelude.{◌≡◌, ◌≢◌, ◌≤◌, ◌&&◌, ◌||◌, ◌↔◌, not, ℕ, true, length, IfOk, OnErr, slice_get, Some};
-ghost use Rattle.executor_core.specs.Agreement.{FinishedAgrees};
+ghost use Rattle.executor_core.specs.Agreement.{HandlesAgree};
 ghost use Rattle.executor_core.specs.Calls.{AllDropped};
 ghost use Rattle.executor_core.specs.Log.{spawned, held, owed, idle, EachDropped};
 ghost use Rattle.executor_core.specs.Promises.{OnePlace, InOrder, FewPolls};
@@ -400,7 +400,7 @@ impl<P: Drop, T: Copy> World<P, T> {
         ensures next { result.now.next ≡ length self.now.tasks }
         ensures global { result.now.global ≡ self.now.global }
         ensures empty { AllDropped result.now ↔ EachDropped self.now.log }
-        ensures finished { FinishedAgrees result.now self.now.log self.now.tasks }
+        ensures handles { HandlesAgree result.now self.now.log self.now.tasks }
     {
         &self.cells
     }
