@@ -11,7 +11,6 @@ use Rattle.executor_core.specs.Agreement.{Status, status, StateAgrees, Agree, An
 use Rattle.executor_core.proofs.LogLemmas.{on_cancel, order-push}
 use Rattle.executor_core.proofs.AgreementLemmas.{log_same, log_pushed, info_same, info_set, out_same, cell_put, cell_removed, agree_again, agreed_at, id_of, cell_agreed, idle_state, dropped_state, not-not}
 use Rattle.executor_core.proofs.StepLemmas.{if-true, if-false, ended_past, handle_cell, AnswerTells, answer_tells}
-use Rattle.executor_core.specs.declared.task.cell.Cell.{Cell}
 use Rattle.executor_core.specs.declared.task.cell.State.{State}
 use Rattle.executor_core.specs.declared.task.cell.State.TheVariants.{Idle, Scheduled, Held, Finished, Gone}
 use Rattle.executor_core.specs.declared.task.handles.PollHandle.{PollHandle}
