@@ -23,6 +23,8 @@ use Rattle.executor_core.specs.declared.task.cell.State.TheVariants.{Idle, Sched
 use Rattle.executor_core.specs.declared.task.handles.PollHandle.{PollHandle}
 use Rattle.executor_core.specs.declared.task.handles.PollHandle.TheVariants as handle
 use Rattle.executor_core.specs.declared.interleave.tasks.TaskInfo.{TaskInfo}
+use Rattle.executor_core.specs.declared.interleave.tasks.FutureOut.{FutureOut}
+use Rattle.executor_core.specs.declared.interleave.tasks.FutureOut.TheVariants.{Unpolled}
 use Rattle.executor_core.specs.declared.interleave.events.Purpose.TheVariants.{ToPoll, ToDrop}
 use Rattle.executor_core.specs.declared.interleave.events.Event.{Event}
 use Rattle.executor_core.specs.declared.interleave.events.Event.TheVariants.{Spawned, Woken, Took, Returned, Finished as Finish, Dropped, Got}
@@ -49,7 +51,7 @@ unfollowed-list_any f g (x ∷ rest) h =
       | inr is ↦ ap (λ b. (b && not (list_any g rest)) || unfollowed f g rest) is ∙ unfollowed-list_any f g rest (sym (ap (λ b. b || list_any f rest) is) ∙ h)
     ]
 
-or-any : (a b c : Bool) → b ≡ true → a || b || c ≡ true
+pub or-any : (a b c : Bool) → b ≡ true → a || b || c ≡ true
 or-any true b c h = refl
 or-any false true c h = refl
 or-any false false c h = absurd (cc)
@@ -63,21 +65,25 @@ and-left : (a b : Bool) → a && b ≡ true → a ≡ true
 and-left true b h = refl
 and-left false b h = absurd (cc)
 
-not-true : (b : Bool) → not b ≡ true → b ≡ false
+pub not-true : (b : Bool) → not b ≡ true → b ≡ false
 not-true false h = refl
 not-true true h = absurd (cc)
 
-if-true : {X : Type 0} (b : Bool) (x y : X) → b ≡ true → cond b x y ≡ x
+pub if-true : {X : Type 0} (b : Bool) (x y : X) → b ≡ true → cond b x y ≡ x
 if-true true x y h = refl
 if-true false x y h = absurd (cc)
 
-if-false : {X : Type 0} (b : Bool) (x y : X) → b ≡ false → cond b x y ≡ y
+pub if-false : {X : Type 0} (b : Bool) (x y : X) → b ≡ false → cond b x y ≡ y
 if-false false x y h = refl
 if-false true x y h = absurd (cc)
 
 -- the futures that are out, where that is what the log says
-out_change : {P : Type 0} {before later : List (Option P)} {n : ℕ} {b d : Bool} → OutChange before later n b → d ≡ b → OutChange before later n d
+pub out_change : {P : Type 0} {before later : List (Option P)} {n : ℕ} {b d : Bool} → OutChange before later n b → d ≡ b → OutChange before later n d
 out_change change is = record { here = change.here ∙ sym is; others = change.others; longer = change.longer }
+
+pub wakeup_some : (o : Option (Unit {0})) → is_some (wakeup_of o) ≡ is_some o
+wakeup_some None = refl
+wakeup_some (Some w) = refl
 
 abbrev spawned_now : {T : Type 0} → Status T → Status T
 spawned_now s = record s { spawned = true }
@@ -88,7 +94,15 @@ spawned_only = spawned_now no_status
 abbrev dropped_now : {T : Type 0} → Status T → Status T
 dropped_now s = record s { dropped = true; held = false }
 
-module _ {P T : Type 0} {table : Table P T (Unit {0})} {log : List (Event T)} {tasks : List TaskInfo} {out : List (Option P)} (agree : Agree table log tasks out) (n : ℕ) where
+-- the future was dropped, so nobody holds it
+pub ended_past : {P T : Type 0} (st : State P T) (w : Bool) (s : Status T) → StateAgrees st w s → is_undropped st ≡ false → (s.spawned ≡ true) × (s.held ≡ false)
+ended_past (Idle p) w s h e = absurd (cc)
+ended_past (Scheduled p) w s h e = absurd (cc)
+ended_past Held w s h e = absurd (cc)
+ended_past (Finished t) w s h e = (h.spawned, h.held)
+ended_past Gone w s h e = (h.spawned, h.held)
+
+module _ {P T : Type 0} {table : Table P T (Unit {0})} {log : List (Event T)} {tasks : List TaskInfo} {out : List (Option (FutureOut P))} (agree : Agree table log tasks out) (n : ℕ) where
   -- whether the future is dropped is what the log says
   pub undropped_is : (i : TaskInfo) → slice_get tasks n ≡ Some i → undropped_in (cell_at table (id_of n i)) ≡ not (dropped n log)
   undropped_is i found = by_slotted (map.get table.cells n) refl
@@ -99,6 +113,9 @@ module _ {P T : Type 0} {table : Table P T (Unit {0})} {log : List (Event T)} {t
           let h = agreed_at agree n i found (Some slotted) here in
           ap undropped_in (cell_agreed agree n i found (Some slotted) here)
           ∙ sym (ap not (dropped_state slotted.cell.state slotted.cell.woken (status n log) h.state) ∙ not-not (is_undropped slotted.cell.state))
+
+  pub dropped_by : (i : TaskInfo) → slice_get tasks n ≡ Some i → (b : Bool) → undropped_in (cell_at table (id_of n i)) ≡ b → dropped n log ≡ not b
+  dropped_by i found b h = sym (not-not (dropped n log)) ∙ ap not (sym (undropped_is i found) ∙ h)
 
   pub record Woke (i : TaskInfo) : Type 0 where
     pub holds : Agree (after_wake table (id_of n i)) (log ++ Woken n ∷ []) tasks out
@@ -137,7 +154,7 @@ module _ {P T : Type 0} {table : Table P T (Unit {0})} {log : List (Event T)} {t
           }
 
   -- a task that is known has a place for its future
-  pub place_there : (i : TaskInfo) → slice_get tasks n ≡ Some i → (before : Option P) × (slice_get out n ≡ Some before)
+  pub place_there : (i : TaskInfo) → slice_get tasks n ≡ Some i → (before : Option (FutureOut P)) × (slice_get out n ≡ Some before)
   place_there i found = get_within out n (subst (λ k. n < k) (sym agree.as_many) (within_get tasks n i found))
 
   -- the front of the queue is taken
@@ -158,7 +175,7 @@ module _ {P T : Type 0} {table : Table P T (Unit {0})} {log : List (Event T)} {t
     pub rest_front : (after_take table).global ≡ rest
     rest_front = ap (λ s. s.global) took_is
 
-    pub take_to_poll : cell.cancelled ≡ false → Agree (after_take table) (log ++ Took n ToPoll ∷ []) (slice_set tasks n (record i { to_drop = false })) (slice_set out n (Some p))
+    pub take_to_poll : cell.cancelled ≡ false → Agree (after_take table) (log ++ Took n ToPoll ∷ []) (slice_set tasks n (record i { to_drop = false })) (slice_set out n (Some (Unpolled p)))
     take_to_poll fresh =
         let h = agreed_at agree n i found (Some (record { slot = slot; cell = cell })) here in
         let alive = state_agrees (record { slot = slot; cell = cell }) (status n log) i (Scheduled p) state h in
@@ -169,7 +186,7 @@ module _ {P T : Type 0} {table : Table P T (Unit {0})} {log : List (Event T)} {t
         (cell_put table (after_take table) n (record { slot = slot; cell = taken cell }) (ap (λ s. s.next) took_is) (ap (λ s. s.cells) took_is))
         (log_pushed log n (Took n ToPoll) _ refl (on_poll n log))
         (info_set tasks _ n i _ found refl)
-        (out_set out _ n (place_there i found).0 (Some p) (place_there i found).1 refl)
+        (out_set out _ n (place_there i found).0 (Some (Unpolled p)) (place_there i found).1 refl)
         (record {
           slot = h.slot;
           has_handle = h.has_handle;
@@ -180,7 +197,7 @@ module _ {P T : Type 0} {table : Table P T (Unit {0})} {log : List (Event T)} {t
         (few_poll _ _ _ due (agree.few_polls n))
         (order-push log (Took n ToPoll) agree.order (un, alive.0.held, alive.0.dropped))
 
-    pub take_to_drop : cell.cancelled ≡ true → Agree (after_take table) (log ++ Took n ToDrop ∷ []) (slice_set tasks n (record i { to_drop = true })) (slice_set out n (Some p))
+    pub take_to_drop : cell.cancelled ≡ true → Agree (after_take table) (log ++ Took n ToDrop ∷ []) (slice_set tasks n (record i { to_drop = true })) (slice_set out n (Some (Unpolled p)))
     take_to_drop fresh =
         let h = agreed_at agree n i found (Some (record { slot = slot; cell = cell })) here in
         let alive = state_agrees (record { slot = slot; cell = cell }) (status n log) i (Scheduled p) state h in
@@ -188,7 +205,7 @@ module _ {P T : Type 0} {table : Table P T (Unit {0})} {log : List (Event T)} {t
         (cell_put table (after_take table) n (record { slot = slot; cell = taken cell }) (ap (λ s. s.next) took_is) (ap (λ s. s.cells) took_is))
         (log_pushed log n (Took n ToDrop) _ refl (on_take n log))
         (info_set tasks _ n i _ found refl)
-        (out_set out _ n (place_there i found).0 (Some p) (place_there i found).1 refl)
+        (out_set out _ n (place_there i found).0 (Some (Unpolled p)) (place_there i found).1 refl)
         (record {
           slot = h.slot;
           has_handle = h.has_handle;
@@ -218,17 +235,17 @@ module _ {P T : Type 0} {table : Table P T (Unit {0})} {log : List (Event T)} {t
 
   module _ (i : TaskInfo) (found : slice_get tasks n ≡ Some i) (now_held : held n log ≡ true) where
     -- a poll ended pending, and the future went back
-    pub record Pended (p : P) (outs : List (Option P)) : Type 0 where
+    pub record Pended (p : P) (outs : List (Option (FutureOut P))) : Type 0 where
       pub holds : Agree (after_end_pending table (id_of n i) p) (log ++ Returned n ∷ []) tasks outs
       pub cancelled : cancelled n log ≡ false
       pub woken : woken_in (cell_at table (id_of n i)) ≡ woken_log n log
       pub global : (after_end_pending table (id_of n i) p).global ≡ cond (woken_log n log) (table.global ++ n ∷ []) table.global
 
-    pended_state : (w : Bool) (p : P) (s : Status T) → s.cancelled_since ≡ false → StateAgrees {P = P} Held w s → StateAgrees (cond w (Scheduled p) (Idle p)) w (record s { held = false })
-    pended_state true p s r h = (record { spawned = h.0.spawned; dropped = h.0.dropped; held = refl; outputs = h.0.outputs; given = h.0.given }, or-any (not s.taken) s.woken s.cancelled_since h.2)
-    pended_state false p s r h = (record { spawned = h.0.spawned; dropped = h.0.dropped; held = refl; outputs = h.0.outputs; given = h.0.given }, h.1, h.2, r)
+    pended_state : (w : Bool) (p : P) (s : Status T) → s.cancelled ≡ false → s.cancelled_since ≡ false → StateAgrees {P = P} Held w s → StateAgrees (cond w (Scheduled p) (Idle p)) w (record s { held = false })
+    pended_state true p s u r h = (record { spawned = h.0.spawned; dropped = h.0.dropped; held = refl; outputs = h.0.outputs; given = h.0.given }, or-any (not s.taken) s.woken s.cancelled_since h.2)
+    pended_state false p s u r h = (record { spawned = h.0.spawned; dropped = h.0.dropped; held = refl; outputs = h.0.outputs; given = h.0.given }, h.1, h.2, u, r)
 
-    pub pend_step : (p : P) (outs : List (Option P)) → outs ≡ slice_set out n None → takes_back_in (cell_at table (id_of n i)) ≡ true → Pended p outs
+    pub pend_step : (p : P) (outs : List (Option (FutureOut P))) → outs ≡ slice_set out n None → takes_back_in (cell_at table (id_of n i)) ≡ true → Pended p outs
     pend_step p outs set ours =
         let s = held_cell i found now_held in
         let slotted = s.0 in
@@ -248,7 +265,7 @@ module _ {P T : Type 0} {table : Table P T (Unit {0})} {log : List (Event T)} {t
               (log_pushed log n (Returned n) _ refl (on_return n log))
               (info_same tasks n i found)
               (out_set out outs n (place_there i found).0 None (place_there i found).1 set)
-              (record { slot = refl; has_handle = h.has_handle; awaited = h.awaited; cancelled = h.cancelled; state = pended_state slotted.cell.woken p (status n log) uncancelled alive })
+              (record { slot = refl; has_handle = h.has_handle; awaited = h.awaited; cancelled = h.cancelled; state = pended_state slotted.cell.woken p (status n log) un uncancelled alive })
               (agree.few_polls n)
               (order-push log (Returned n) agree.order tt);
           cancelled = un;
@@ -257,12 +274,12 @@ module _ {P T : Type 0} {table : Table P T (Unit {0})} {log : List (Event T)} {t
         }
 
     -- a poll ended pending on a cancelled task
-    pub record StaysOut (p : P) (later : List TaskInfo) (outs : List (Option P)) : Type 0 where
+    pub record StaysOut (p : P) (later : List TaskInfo) (outs : List (Option (FutureOut P))) : Type 0 where
       pub holds : Agree (after_end_pending table (id_of n i) p) log later outs
       pub cancelled : cancelled n log ≡ true
       pub global : (after_end_pending table (id_of n i) p).global ≡ table.global
 
-    pub pend_drop : (p q : P) (later : List TaskInfo) (outs : List (Option P)) → later ≡ slice_set tasks n (record i { to_drop = true }) → outs ≡ slice_set out n (Some q) → takes_back_in (cell_at table (id_of n i)) ≡ false → StaysOut p later outs
+    pub pend_drop : (p : P) (q : FutureOut P) (later : List TaskInfo) (outs : List (Option (FutureOut P))) → later ≡ slice_set tasks n (record i { to_drop = true }) → outs ≡ slice_set out n (Some q) → takes_back_in (cell_at table (id_of n i)) ≡ false → StaysOut p later outs
     pend_drop p q later outs set set_out ours =
         let s = held_cell i found now_held in
         let slotted = s.0 in
@@ -286,15 +303,11 @@ module _ {P T : Type 0} {table : Table P T (Unit {0})} {log : List (Event T)} {t
         }
 
     -- a poll ended ready
-    pub record Readied (t : T) (more : List (Event T)) (later : List TaskInfo) (outs : List (Option P)) : Type 0 where
+    pub record Readied (t : T) (more : List (Event T)) (later : List TaskInfo) (outs : List (Option (FutureOut P))) : Type 0 where
       pub holds : Agree (after_end_ready table (id_of n i) t) more later outs
       pub awaiter : is_some (ready_answer t (cell_at table (id_of n i))).awaiter ≡ i.awaited
       pub unwanted : (ready_answer t (cell_at table (id_of n i))).unwanted ≡ cond (i.has_handle && not (cancelled n log)) None (Some t)
       pub global : (after_end_ready table (id_of n i) t).global ≡ table.global
-
-    wakeup_some : (o : Option (Unit {0})) → is_some (wakeup_of o) ≡ is_some o
-    wakeup_some None = refl
-    wakeup_some (Some w) = refl
 
     pub cancelled_is : cancelled_in (cell_at table (id_of n i)) ≡ cancelled n log
     cancelled_is =
@@ -305,7 +318,7 @@ module _ {P T : Type 0} {table : Table P T (Unit {0})} {log : List (Event T)} {t
     kept true w s t spawn drop hold output here = record { spawned = spawn; dropped = drop; held = hold; outputs = output; given = here }
     kept false w s t spawn drop hold output here = record { spawned = spawn; dropped = drop; held = hold; outputs = output; given = here }
 
-    ready_with : (s : Status T) (t : T) (more : List (Event T)) (later : List TaskInfo) (outs : List (Option P)) → later ≡ slice_set tasks n (record i { awaited = false }) → outs ≡ slice_set out n None
+    ready_with : (s : Status T) (t : T) (more : List (Event T)) (later : List TaskInfo) (outs : List (Option (FutureOut P))) → later ≡ slice_set tasks n (record i { awaited = false }) → outs ≡ slice_set out n None
         → LogChange log more n s → InOrder more → FewPollsFor s
         → s.spawned ≡ true → s.dropped ≡ true → s.held ≡ false → s.cancelled ≡ cancelled n log → s.outputs ≡ cond (cancelled n log) [] (t ∷ []) → s.given ≡ []
         → Readied t more later outs
@@ -346,7 +359,7 @@ module _ {P T : Type 0} {table : Table P T (Unit {0})} {log : List (Event T)} {t
           ];
         }
 
-    pub ready_step : (t : T) (later : List TaskInfo) (outs : List (Option P)) → later ≡ slice_set tasks n (record i { awaited = false }) → outs ≡ slice_set out n None → cancelled n log ≡ false → Readied t ((log ++ Finish n t ∷ []) ++ Dropped n ∷ []) later outs
+    pub ready_step : (t : T) (later : List TaskInfo) (outs : List (Option (FutureOut P))) → later ≡ slice_set tasks n (record i { awaited = false }) → outs ≡ slice_set out n None → cancelled n log ≡ false → Readied t ((log ++ Finish n t ∷ []) ++ Dropped n ∷ []) later outs
     ready_step t later outs set set_out fresh =
         let at = held_cell i found now_held in
         let alive = state_agrees at.0 (status n log) i Held at.2 (agreed_at agree n i found (Some at.0) at.1) in
@@ -360,7 +373,7 @@ module _ {P T : Type 0} {table : Table P T (Unit {0})} {log : List (Event T)} {t
         (ap (λ l. l ++ t ∷ []) alive.0.outputs ∙ ap (λ b. cond b [] (t ∷ [])) (sym fresh))
         alive.0.given
 
-    pub ready_cancelled : (t : T) (later : List TaskInfo) (outs : List (Option P)) → later ≡ slice_set tasks n (record i { awaited = false }) → outs ≡ slice_set out n None → cancelled n log ≡ true → Readied t (log ++ Dropped n ∷ []) later outs
+    pub ready_cancelled : (t : T) (later : List TaskInfo) (outs : List (Option (FutureOut P))) → later ≡ slice_set tasks n (record i { awaited = false }) → outs ≡ slice_set out n None → cancelled n log ≡ true → Readied t (log ++ Dropped n ∷ []) later outs
     ready_cancelled t later outs set set_out was_cancelled =
         let at = held_cell i found now_held in
         let alive = state_agrees at.0 (status n log) i Held at.2 (agreed_at agree n i found (Some at.0) at.1) in
@@ -373,7 +386,7 @@ module _ {P T : Type 0} {table : Table P T (Unit {0})} {log : List (Event T)} {t
         alive.0.given
 
   module _ (i : TaskInfo) (found : slice_get tasks n ≡ Some i) (there : i.has_handle ≡ true) where
-    handle_cell : (slotted : Slotted P T (Unit {0})) × (map.get table.cells n ≡ Some slotted) × (slotted.cell.has_handle ≡ true)
+    pub handle_cell : (slotted : Slotted P T (Unit {0})) × (map.get table.cells n ≡ Some slotted) × (slotted.cell.has_handle ≡ true)
     handle_cell = by_slotted (map.get table.cells n) refl
       where
         by_slotted : (o : Option (Slotted P T (Unit {0}))) → map.get table.cells n ≡ o → (slotted : Slotted P T (Unit {0})) × (o ≡ Some slotted) × (slotted.cell.has_handle ≡ true)
@@ -420,7 +433,7 @@ module _ {P T : Type 0} {table : Table P T (Unit {0})} {log : List (Event T)} {t
         let cell = cell_agreed agree n i found (Some slotted) at.1 in
         let dead : is_undropped slotted.cell.state ≡ false = sym (not-not _) ∙ ap not (sym (dropped_state slotted.cell.state slotted.cell.woken (status n log) h.state) ∙ gone) in
         let is : after_poll_handle table (id_of n i) tt ≡ without_cell table (id_of n i) = ap (poll_handle_at table (id_of n i) tt) cell ∙ if-true slotted.cell.has_handle _ _ at.2 ∙ if-false (is_undropped slotted.cell.state) _ _ dead in
-        let removed = ended_past slotted.cell.state slotted.cell.woken h.state dead in
+        let removed = ended_past slotted.cell.state slotted.cell.woken (status n log) h.state dead in
         agree_again agree
         (cell_removed table (after_poll_handle table (id_of n i) tt) n (ap (λ x. x.next) is) (ap (λ x. x.cells) is))
         log_change
@@ -428,13 +441,6 @@ module _ {P T : Type 0} {table : Table P T (Unit {0})} {log : List (Event T)} {t
         (out_same out n _ (agree.out n ∙ sym hold))
         (record { spawned = spawn ∙ removed.0; dropped = drop; held = hold ∙ removed.1; has_handle = refl })
         few_polls order
-      where
-        ended_past : (st : State P T) (w : Bool) → StateAgrees st w (status n log) → is_undropped st ≡ false → (spawned n log ≡ true) × (held n log ≡ false)
-        ended_past (Idle p) w h e = absurd (cc)
-        ended_past (Scheduled p) w h e = absurd (cc)
-        ended_past Held w h e = absurd (cc)
-        ended_past (Finished t) w h e = (h.spawned, h.held)
-        ended_past Gone w h e = (h.spawned, h.held)
 
     -- what the answer says of the log
     abbrev pub AnswerTells : PollHandle T (Unit {0}) → Type 0
@@ -463,7 +469,7 @@ module _ {P T : Type 0} {table : Table P T (Unit {0})} {log : List (Event T)} {t
     pub handle_output : (t : T) (later : List TaskInfo) → later ≡ slice_set tasks n (record i { has_handle = false }) → dropped n log ≡ true → outputs n log ≡ t ∷ [] → given n log ≡ [] → Agree (after_poll_handle table (id_of n i) tt) (log ++ Got n t ∷ []) later out
     handle_output t later set gone output fresh = ended_with _ _ later set (log_pushed log n (Got n t) _ refl (on_give n t log)) (order-push log (Got n t) agree.order (output, fresh)) (agree.few_polls n) refl gone refl gone
 
-module _ {P T : Type 0} {table : Table P T (Unit {0})} {log : List (Event T)} {tasks : List TaskInfo} {out : List (Option P)} (agree : Agree table log tasks out) where
+module _ {P T : Type 0} {table : Table P T (Unit {0})} {log : List (Event T)} {tasks : List TaskInfo} {out : List (Option (FutureOut P))} (agree : Agree table log tasks out) where
   pub spawn_step : (slot : ℕ) (p : P) → Agree (after_spawn table slot p) (log ++ Spawned table.next ∷ []) (tasks ++ new_info slot ∷ []) (out ++ None ∷ [])
   spawn_step slot p =
       let n = table.next in
@@ -526,5 +532,5 @@ opening_agrees =
 pub and_left : (a b : Bool) → a && b ≡ true → a ≡ true
 and_left a b h = and-left a b h
 
-pub opening_at : {P T : Type 0} (table : Table P T (Unit {0})) (log : List (Event T)) (tasks : List TaskInfo) (out : List (Option P)) → table ≡ empty_table 0 → log ≡ [] → tasks ≡ [] → out ≡ [] → Agree table log tasks out
+pub opening_at : {P T : Type 0} (table : Table P T (Unit {0})) (log : List (Event T)) (tasks : List TaskInfo) (out : List (Option (FutureOut P))) → table ≡ empty_table 0 → log ≡ [] → tasks ≡ [] → out ≡ [] → Agree table log tasks out
 opening_at {P} {T} table log tasks out a b c d = rw (a, b, c, d) opening_agrees

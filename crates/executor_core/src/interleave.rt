@@ -1,33 +1,35 @@
 //! A world: the steps of all parties of an executor in any order, and the log of what they did.
 //!
-//! A party may spawn, wake, take a task, end its poll, or poll its handle. A `World` takes any list
-//! of such steps, of all parties, with steps of others between a take and the end of its poll. It
-//! makes each on its `Cells`, and logs what happened to which task. A step that is not enabled is
-//! answered and changes nothing.
+//! A party may spawn, wake, take a task, end its poll, say that its future was dropped, or poll,
+//! cancel, detach or drop its handle. A `World` takes any list of such steps, of all parties, with
+//! steps of others between a take and the end of its poll. It makes each on its `Cells`, and logs
+//! what happened to which task. A step that is not enabled is answered and changes nothing.
 //!
 //! The log alone says where a task stands: whether it was dropped, is held, is owed a poll or a
 //! drop, or is idle is read off the events. The contracts of `World::step` and `World::run` say
 //! that the queue and the futures that are out agree with the log after every list of steps.
 ghost use Rattle.std.specs.Prelude.{◌≡◌, ◌≢◌, ◌≤◌, ◌&&◌, ◌||◌, ◌↔◌, not, ℕ, true, length, IfOk, OnErr, slice_get, Some};
+ghost use Rattle.executor_core.specs.Agreement.{HandlesAgree};
 ghost use Rattle.executor_core.specs.Calls.{AllDropped};
 ghost use Rattle.executor_core.specs.Log.{spawned, held, owed, idle, EachDropped};
 ghost use Rattle.executor_core.specs.Promises.{OnePlace, InOrder, FewPolls};
-ghost use Rattle.executor_core.specs.Steps.{info, enabled, Spawns, row, wake_row, tick_row, pend_row, ready_row, handle_row, StepTo, RunTo, opening};
+ghost use Rattle.executor_core.specs.Steps.{info, enabled, Spawns, row, wake_row, tick_row, pend_row, ready_row, dropped_row, StepTo, RunTo, opening};
 
 pub(crate) mod events;
+pub(crate) mod handles;
 pub(crate) mod script;
 pub(crate) mod steps;
 pub(crate) mod tasks;
 
-use crate::task::{Cells, EndPending, Held, OutOfMemory, PollHandle, Taken};
+use crate::task::{Cells, EndPending, Held, OutOfMemory, Taken};
 pub use events::{Event, Purpose};
-use script::{poll_pending, poll_ready};
+use script::{drop_future, poll_pending, poll_ready};
 use std::alloc::Global;
 use std::marker::Model;
-use steps::reply_of;
+use steps::{has_awaiter, reply_of};
 pub use steps::{Reply, Step};
 pub use tasks::TaskInfo;
-use tasks::{find_info, has_future, replace_future, set_info};
+use tasks::{FutureOut, find_info, has_future, replace_future, set_info};
 
 /// All parties of an executor, and the log of what they did.
 ///
@@ -42,7 +44,7 @@ pub struct World<P, T> {
     log: Vec<Event<T>>,
     tasks: Vec<TaskInfo>,
     // The futures that are out, each in the place of its task.
-    out: Vec<Option<P>>,
+    out: Vec<Option<FutureOut<P>>>,
     notices: u32,
 }
 
@@ -94,6 +96,26 @@ impl<P: Drop, T: Copy> World<P, T> {
         }
     }
 
+    // Whether the drop of the task's future may be said.
+    fn may_drop(&self, n: u64) -> bool
+        ensures { result ≡ (held n self.now.log && (info n self.now).to_drop) }
+    {
+        match find_info(&self.tasks, n) {
+            Some(info) => self.is_out(n) && info.to_drop,
+            None => false,
+        }
+    }
+
+    // Whether the task's handle is there.
+    fn has_handle(&self, n: u64) -> bool
+        ensures { result ≡ (info n self.now).has_handle }
+    {
+        match find_info(&self.tasks, n) {
+            Some(info) => info.has_handle,
+            None => false,
+        }
+    }
+
     // Whether the step is enabled.
     fn is_enabled(&self, step: &Step<P, T>) -> bool
         ensures { result ≡ enabled step.now self.now }
@@ -103,10 +125,11 @@ impl<P: Drop, T: Copy> World<P, T> {
             Step::Wake(n) => find_info(&self.tasks, *n).is_some(),
             Step::Pend(n) => self.may_end(*n),
             Step::Ready(n, _) => self.may_end(*n),
-            Step::PollHandle(n) => match find_info(&self.tasks, *n) {
-                Some(info) => info.has_handle,
-                None => false,
-            },
+            Step::PollHandle(n) => self.has_handle(*n),
+            Step::Cancel(n) => self.has_handle(*n),
+            Step::Detach(n) => self.has_handle(*n),
+            Step::DropHandle(n) => self.has_handle(*n),
+            Step::Dropped(n) => self.may_drop(*n),
         }
     }
 
@@ -189,7 +212,7 @@ impl<P: Drop, T: Copy> World<P, T> {
             None => unreachable!(),
         };
         set_info(&mut self.tasks, n, info.with_to_drop(cancelled));
-        replace_future(&mut self.out, n, Some(future));
+        replace_future(&mut self.out, n, Some(FutureOut::Unpolled(future)));
         if cancelled {
             self.log.push_reserved(Event::Took(n, Purpose::ToDrop));
             Reply::Drop(n)
@@ -209,11 +232,11 @@ impl<P: Drop, T: Copy> World<P, T> {
             Some(info) => info,
             None => unreachable!(),
         };
-        let Some(future) = replace_future(&mut self.out, n, None) else {
+        let Some(out) = replace_future(&mut self.out, n, None) else {
             unreachable!()
         };
         let id = info.id(n);
-        let (held, future) = poll_pending::<P, T>(id, future);
+        let (held, future) = poll_pending::<P, T>(id, out.into_future());
         match self.cells.end_pending(held, future) {
             EndPending::Back(Some(notice)) => {
                 notice.keep();
@@ -227,7 +250,7 @@ impl<P: Drop, T: Copy> World<P, T> {
             }
             EndPending::Drop(future, held) => {
                 let Held { id: _, to_drop: _ } = held;
-                replace_future(&mut self.out, n, Some(future));
+                replace_future(&mut self.out, n, Some(FutureOut::Polled(future)));
                 set_info(&mut self.tasks, n, info.with_to_drop(true));
                 Reply::Drop(n)
             }
@@ -244,12 +267,12 @@ impl<P: Drop, T: Copy> World<P, T> {
             Some(info) => info,
             None => unreachable!(),
         };
-        let Some(future) = replace_future(&mut self.out, n, None) else {
+        let Some(out) = replace_future(&mut self.out, n, None) else {
             unreachable!()
         };
         set_info(&mut self.tasks, n, info.with_awaited(false));
         let id = info.id(n);
-        let (held, output) = poll_ready(id, future, output);
+        let (held, output) = poll_ready(id, out.into_future(), output);
         let cancelled = self.cells.is_cancelled(id);
         let ended = self.cells.end_ready(held, output);
         if cancelled {
@@ -261,31 +284,25 @@ impl<P: Drop, T: Copy> World<P, T> {
         reply_of(ended)
     }
 
-    fn poll_handle(&mut self, n: u64) -> Reply<T>
+    fn dropped(&mut self, n: u64) -> Reply<T>
         requires room { self.old.accepted ≢ self.old.limit }
-        requires enabled { (info n self.old).has_handle ≡ true }
-        ensures { row (handle_row n self.old) result self.new }
+        requires enabled { (held n self.old.log && (info n self.old).to_drop) ≡ true }
+        ensures { row (dropped_row n self.old) result self.new }
     {
         self.accepted += 1;
         let info = match find_info(&self.tasks, n) {
             Some(info) => info,
             None => unreachable!(),
         };
-        let id = info.id(n);
-        match self.cells.poll_handle(id, ()) {
-            PollHandle::Output(output, _) => {
-                self.log.push_reserved(Event::Got(n, output));
-                set_info(&mut self.tasks, n, info.without_handle());
-                Reply::Output(output)
-            }
-            PollHandle::Cancelled(_) => {
-                set_info(&mut self.tasks, n, info.without_handle());
-                Reply::Cancelled
-            }
-            PollHandle::Pending(_) => {
-                set_info(&mut self.tasks, n, info.with_awaited(true));
-                Reply::Pending
-            }
+        let Some(out) = replace_future(&mut self.out, n, None) else {
+            unreachable!()
+        };
+        set_info(&mut self.tasks, n, info.with_awaited(false));
+        let held = drop_future::<P, T>(info.id(n), out);
+        let awaiter = self.cells.end_dropped(held);
+        self.log.push_reserved(Event::Dropped(n));
+        Reply::Gone {
+            awaiter: has_awaiter(awaiter),
         }
     }
 
@@ -314,6 +331,10 @@ impl<P: Drop, T: Copy> World<P, T> {
             Step::Pend(n) => self.pend(n),
             Step::Ready(n, output) => self.ready(n, output),
             Step::PollHandle(n) => self.poll_handle(n),
+            Step::Cancel(n) => self.cancel(n),
+            Step::Detach(n) => self.detach(n),
+            Step::DropHandle(n) => self.drop_handle(n),
+            Step::Dropped(n) => self.dropped(n),
         }
     }
 
@@ -381,6 +402,7 @@ impl<P: Drop, T: Copy> World<P, T> {
         ensures next { result.now.next ≡ length self.now.tasks }
         ensures global { result.now.global ≡ self.now.global }
         ensures empty { AllDropped result.now ↔ EachDropped self.now.log }
+        ensures handles { HandlesAgree result.now self.now.log self.now.tasks }
     {
         &self.cells
     }

@@ -54,6 +54,25 @@ impl TaskInfo {
     }
 }
 
+// A future that is out, with the one who took its task.
+#[derive(Drop)]
+pub(crate) enum FutureOut<P> {
+    // It was not polled since its task was taken.
+    Unpolled(P),
+    // Its poll ended pending, and it is to be dropped, since its task was cancelled.
+    Polled(P),
+}
+
+impl<P> FutureOut<P> {
+    // The future itself.
+    pub(crate) fn into_future(self) -> P {
+        match self {
+            FutureOut::Unpolled(future) => future,
+            FutureOut::Polled(future) => future,
+        }
+    }
+}
+
 // What is known of this task, if it was spawned.
 pub(crate) fn find_info(tasks: &Vec<TaskInfo>, n: u64) -> Option<TaskInfo>
     ensures { result ≡ slice_get tasks.now.items n }
@@ -70,7 +89,7 @@ pub(crate) fn set_info(tasks: &mut Vec<TaskInfo>, n: u64, info: TaskInfo)
 }
 
 // Whether the future of this task is out.
-pub(crate) fn has_future<P>(out: &Vec<Option<P>>, n: u64) -> bool
+pub(crate) fn has_future<P>(out: &Vec<Option<FutureOut<P>>>, n: u64) -> bool
     ensures { result ≡ is_out (slice_get out.now.items n) }
 {
     match out.get(n as usize) {
@@ -80,7 +99,11 @@ pub(crate) fn has_future<P>(out: &Vec<Option<P>>, n: u64) -> bool
 }
 
 // Puts this in the place of the task's future, and gives what was there.
-pub(crate) fn replace_future<P>(out: &mut Vec<Option<P>>, n: u64, future: Option<P>) -> Option<P>
+pub(crate) fn replace_future<P>(
+    out: &mut Vec<Option<FutureOut<P>>>,
+    n: u64,
+    future: Option<FutureOut<P>>,
+) -> Option<FutureOut<P>>
     requires { n < length out.old.items }
     ensures out { out.new.items ≡ slice_set out.old.items n future }
     ensures before { slice_get out.old.items n ≡ Some result }
