@@ -8,7 +8,7 @@ use Rattle.executor_core.specs.States.{is_idle, is_scheduled, is_held, is_undrop
 use Rattle.executor_core.specs.Calls.{cell_at, in_slot, AllDropped}
 use Rattle.executor_core.specs.Log.{spawned, dropped, held, polls, wakes, EachDropped}
 use Rattle.executor_core.specs.Promises.{OnePlace, InOrder, FewPolls}
-use Rattle.executor_core.specs.Agreement.{Status, status, FewPollsFor, StateAgrees, CellAgrees, NumberAgrees, is_out, Agree}
+use Rattle.executor_core.specs.Agreement.{Status, status, FewPollsFor, StateAgrees, CellAgrees, NumberAgrees, is_out, PolledAgrees, Agree}
 use Rattle.executor_core.proofs.StatusLemmas.{task_of}
 use Rattle.executor_core.proofs.LogLemmas.{status_other}
 use Rattle.executor_core.proofs.ListLemmas.{get-set_same, get-set_other, length-slice_set}
@@ -80,6 +80,12 @@ out_set out later n before future is set =
       longer = ap length set ∙ length-slice_set out n future;
     }
 
+-- a future that is put out in this place
+pub polled_set : {P : Type 0} (out later : List (Option (FutureOut P))) (n : ℕ) (before future : Option (FutureOut P)) (to_drop : Bool) → slice_get out n ≡ Some before → later ≡ slice_set out n future
+    → PolledAgrees (Some future) to_drop → PolledAgrees (slice_get later n) to_drop
+polled_set out later n before future to_drop is set h =
+    subst (λ o. PolledAgrees o to_drop) (sym (ap (λ l. slice_get l n) set ∙ get-set_same out n future before is)) h
+
 module _ {P T : Type 0} where
   -- where the cells change at a number
   pub record CellChange (table later : Table P T (Unit {0})) (n : ℕ) (o : Option (Slotted P T (Unit {0}))) : Type 0 where
@@ -111,15 +117,22 @@ module _ {P T : Type 0} where
       subst (λ x. NumberAgrees x s i) (sym a) (subst (λ x. NumberAgrees p x i) (sym b) (subst (λ x. NumberAgrees p u x) (sym c) h))
 
   pub agree_again : {table later : Table P T (Unit {0})} {log more : List (Event T)} {tasks anew : List TaskInfo} {out outs : List (Option (FutureOut P))} {n : ℕ} {o : Option (Slotted P T (Unit {0}))} {s : Status T} {i : TaskInfo}
-      → Agree table log tasks out → CellChange table later n o → LogChange log more n s → InfoChange tasks anew n i → OutChange out outs n s.held
+      → Agree table log tasks out → CellChange table later n o → LogChange log more n s → InfoChange tasks anew n i → OutChange out outs n s.held → PolledAgrees (slice_get outs n) i.to_drop
       → NumberAgrees o s (Some i) → FewPollsFor s → InOrder more → Agree later more anew outs
-  agree_again {table} {later} {log} {more} {tasks} {anew} {out} {outs} {n} {o} {s} {i} agree cell_change log_change info_change out_change here few_polls order =
+  agree_again {table} {later} {log} {more} {tasks} {anew} {out} {outs} {n} {o} {s} {i} agree cell_change log_change info_change out_change polled here few_polls order =
       record {
         next = cell_change.next ∙ agree.next ∙ sym info_change.longer;
         as_many = out_change.longer ∙ agree.as_many ∙ sym info_change.longer;
         out = λ q. elim (cases_eq q n) [
           | inl same ↦ ap (λ k. is_out (slice_get outs k)) same ∙ out_change.here ∙ sym (ap (λ k. held k more) same ∙ ap (λ x. x.held) log_change.here)
           | inr far ↦ ap is_out (out_change.others q far) ∙ agree.out q ∙ sym (ap (λ x. x.held) (log_change.others q far))
+        ];
+        polled = λ q j is. elim (cases_eq q n) [
+          | inl same ↦
+              let now : Some i ≡ Some j = sym info_change.here ∙ ap (slice_get anew) (sym same) ∙ is in
+              let this : i ≡ j = cc in
+              subst (λ k. PolledAgrees (slice_get outs k) j.to_drop) (sym same) (subst (λ x. PolledAgrees (slice_get outs n) x.to_drop) this polled)
+          | inr far ↦ subst (λ o. PolledAgrees o j.to_drop) (sym (out_change.others q far)) (agree.polled q j (sym (info_change.others q far) ∙ is))
         ];
         each = λ q. elim (cases_eq q n) [
           | inl same ↦ subst (λ k. NumberAgrees (map.get later.cells k) (status k more) (slice_get anew k)) (sym same) (number_agrees_by _ o _ s _ (Some i) cell_change.here log_change.here info_change.here here)

@@ -9,7 +9,7 @@ use Rattle.executor_core.specs.CellChanges.{disposed, wakeup_of}
 use Rattle.executor_core.specs.Log.{held}
 use Rattle.executor_core.specs.Agreement.{status, Agree}
 use Rattle.executor_core.proofs.LogLemmas.{on_drop, order-push}
-use Rattle.executor_core.proofs.AgreementLemmas.{log_pushed, info_set, out_set, cell_put, cell_removed, agree_again, agreed_at, id_of, cell_agreed, state_agrees}
+use Rattle.executor_core.proofs.AgreementLemmas.{log_pushed, info_set, out_set, polled_set, cell_put, cell_removed, agree_again, agreed_at, id_of, cell_agreed, state_agrees}
 use Rattle.executor_core.proofs.StepLemmas.{if-true, if-false, out_change, wakeup_some, held_cell, place_there}
 use Rattle.executor_core.specs.declared.task.cell.State.TheVariants.{Held}
 use Rattle.executor_core.specs.declared.interleave.tasks.TaskInfo.{TaskInfo}
@@ -45,6 +45,7 @@ module _ {P T : Type 0} {table : Table P T (Unit {0})} {log : List (Event T)} {t
               (log_pushed log n (Dropped n) _ refl (on_drop n log))
               (info_set tasks later n i _ found set)
               (out_change (out_set out outs n place.0 None place.1 set_out) refl)
+              (polled_set out outs n place.0 None _ place.1 set_out tt)
               (record { slot = refl; has_handle = h.has_handle; awaited = refl; cancelled = h.cancelled; state = record { spawned = alive.0.spawned; dropped = refl; held = refl; outputs = alive.0.outputs; given = alive.0.given } })
               (agree.few_polls n)
               (order-push log (Dropped n) agree.order alive.0.dropped)
@@ -55,6 +56,7 @@ module _ {P T : Type 0} {table : Table P T (Unit {0})} {log : List (Event T)} {t
               (log_pushed log n (Dropped n) _ refl (on_drop n log))
               (info_set tasks later n i _ found set)
               (out_change (out_set out outs n place.0 None place.1 set_out) refl)
+              (polled_set out outs n place.0 None _ place.1 set_out tt)
               (record { spawned = alive.0.spawned; dropped = refl; held = refl; has_handle = sym h.has_handle ∙ gone })
               (agree.few_polls n)
               (order-push log (Dropped n) agree.order alive.0.dropped)

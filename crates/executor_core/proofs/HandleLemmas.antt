@@ -80,6 +80,7 @@ module _ {P T : Type 0} {table : Table P T (Unit {0})} {log : List (Event T)} {t
       (log_pushed log n (Cancelled n) _ refl (on_cancel n log))
       (info_same tasks n i found)
       (out_same out n _ (agree.out n))
+      (agree.polled n i found)
       (record { slot = refl; has_handle = h.has_handle; awaited = h.awaited; cancelled = if-true (is_undropped slotted.cell.state) _ _ alive; state = cancelled_state slotted.cell.state slotted.cell.woken (status n log) alive h.state })
       (agree.few_polls n)
       (order-push log (Cancelled n) agree.order tt)
@@ -97,6 +98,7 @@ module _ {P T : Type 0} {table : Table P T (Unit {0})} {log : List (Event T)} {t
       (log_same log n)
       (info_same tasks n i found)
       (out_same out n _ (agree.out n))
+      (agree.polled n i found)
       (record { slot = refl; has_handle = h.has_handle; awaited = h.awaited; cancelled = if-false (is_undropped slotted.cell.state) _ _ dead ∙ h.cancelled; state = ended_state slotted.cell.state slotted.cell.woken (status n log) dead h.state })
       (agree.few_polls n)
       agree.order
@@ -159,6 +161,7 @@ module _ {P T : Type 0} {table : Table P T (Unit {0})} {log : List (Event T)} {t
             (log_same log n)
             (info_set tasks later n i _ found set)
             (out_same out n _ (agree.out n))
+            (agree.polled n i found)
             (record { slot = refl; has_handle = refl; awaited = refl; cancelled = h.cancelled; state = h.state })
             (agree.few_polls n)
             agree.order
@@ -170,6 +173,7 @@ module _ {P T : Type 0} {table : Table P T (Unit {0})} {log : List (Event T)} {t
             (log_same log n)
             (info_set tasks later n i _ found set)
             (out_same out n _ (agree.out n))
+            (agree.polled n i found)
             (record { spawned = removed.0; dropped = dropped_state slotted.cell.state slotted.cell.woken (status n log) h.state ∙ ap not dead; held = removed.1; has_handle = refl })
             (agree.few_polls n)
             agree.order

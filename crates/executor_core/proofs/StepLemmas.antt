@@ -8,15 +8,15 @@ use Rattle.executor_core.specs.Table.{Slotted, Table}
 use Rattle.executor_core.specs.States.{is_idle, is_held, is_undropped}
 use Rattle.executor_core.specs.Calls.{cell_at, undropped_in, cancelled_in, wakes, idle_in, after_wake, wake_at, after_take, take_first, take_at, takes_back_in, woken_in, after_end_pending, end_pending_at, queued_if, with_cell, without_cell, after_end_ready, end_ready_at, ready_answer, after_poll_handle, poll_handle_at, poll_answer, ended_answer, after_spawn, IsFree, empty_table}
 use Rattle.executor_core.specs.CellChanges.{woken, state_woken, taken, takes_back, pended, readied, wakeup_of, awaited, output_of, new_cell}
-use Rattle.executor_core.specs.Steps.{new_info}
+use Rattle.executor_core.specs.Steps.{info_or, new_info}
 use Rattle.executor_core.specs.Log.{unfollowed, is_cancel, is_take, spawned, dropped, cancelled, held, woken as woken_log, idle, outputs, given}
 use Rattle.std.specs.List.{list_any}
 use Rattle.executor_core.specs.Promises.{InOrder}
-use Rattle.executor_core.specs.Agreement.{Status, status, no_status, FewPollsFor, StateAgrees, NumberAgrees, is_out, Agree}
+use Rattle.executor_core.specs.Agreement.{Status, status, no_status, FewPollsFor, StateAgrees, NumberAgrees, is_out, is_unpolled, PolledAgrees, Agree}
 use Rattle.executor_core.proofs.LogLemmas.{on_spawn, on_wake, on_poll, on_take, on_return, on_drop, on_finish, on_give, order-push, status_other}
 use Rattle.executor_core.proofs.ListLemmas.{get-push_last, get-push_other, get_past, within_get, get_within, length-push}
 use Rattle.executor_core.proofs.SlotLemmas.{insert_same, insert_other}
-use Rattle.executor_core.proofs.AgreementLemmas.{LogChange, log_same, log_pushed, info_same, info_set, OutChange, out_same, out_set, cell_put, cell_removed, cell_same, agree_again, agreed_at, id_of, cell_agreed, idle_state, dropped_state, held_state, state_agrees, number_agrees_by, not-not}
+use Rattle.executor_core.proofs.AgreementLemmas.{LogChange, log_same, log_pushed, info_same, info_set, OutChange, out_same, out_set, polled_set, cell_put, cell_removed, cell_same, agree_again, agreed_at, id_of, cell_agreed, idle_state, dropped_state, held_state, state_agrees, number_agrees_by, not-not}
 use Rattle.executor_core.specs.declared.task.cell.Cell.{Cell}
 use Rattle.executor_core.specs.declared.task.cell.State.{State}
 use Rattle.executor_core.specs.declared.task.cell.State.TheVariants.{Idle, Scheduled, Held, Finished, Gone}
@@ -24,7 +24,7 @@ use Rattle.executor_core.specs.declared.task.handles.PollHandle.{PollHandle}
 use Rattle.executor_core.specs.declared.task.handles.PollHandle.TheVariants as handle
 use Rattle.executor_core.specs.declared.interleave.tasks.TaskInfo.{TaskInfo}
 use Rattle.executor_core.specs.declared.interleave.tasks.FutureOut.{FutureOut}
-use Rattle.executor_core.specs.declared.interleave.tasks.FutureOut.TheVariants.{Unpolled}
+use Rattle.executor_core.specs.declared.interleave.tasks.FutureOut.TheVariants.{Unpolled, Polled}
 use Rattle.executor_core.specs.declared.interleave.events.Purpose.TheVariants.{ToPoll, ToDrop}
 use Rattle.executor_core.specs.declared.interleave.events.Event.{Event}
 use Rattle.executor_core.specs.declared.interleave.events.Event.TheVariants.{Spawned, Woken, Took, Returned, Finished as Finish, Dropped, Got}
@@ -65,6 +65,10 @@ and-left : (a b : Bool) → a && b ≡ true → a ≡ true
 and-left true b h = refl
 and-left false b h = absurd (cc)
 
+and-right : (a b : Bool) → a && b ≡ true → b ≡ true
+and-right true b h = h
+and-right false b h = absurd (cc)
+
 pub not-true : (b : Bool) → not b ≡ true → b ≡ false
 not-true false h = refl
 not-true true h = absurd (cc)
@@ -84,6 +88,10 @@ out_change change is = record { here = change.here ∙ sym is; others = change.o
 pub wakeup_some : (o : Option (Unit {0})) → is_some (wakeup_of o) ≡ is_some o
 wakeup_some None = refl
 wakeup_some (Some w) = refl
+
+polled_to_drop : {P : Type 0} (q : FutureOut P) → PolledAgrees (Some (Some q)) true
+polled_to_drop (Unpolled p) = tt
+polled_to_drop (Polled p) = refl
 
 abbrev spawned_now : {T : Type 0} → Status T → Status T
 spawned_now s = record s { spawned = true }
@@ -146,6 +154,7 @@ module _ {P T : Type 0} {table : Table P T (Unit {0})} {log : List (Event T)} {t
                 (log_pushed log n (Woken n) _ refl (on_wake n log))
                 (info_same tasks n i found)
                 (out_same out n _ (agree.out n))
+                (agree.polled n i found)
                 (record { slot = refl; has_handle = h.has_handle; awaited = h.awaited; cancelled = h.cancelled; state = woken_state slotted.cell.state slotted.cell.woken (status n log) _ alive h.state })
                 (few_wake _ _ _ _ (agree.few_polls n))
                 (order-push log (Woken n) agree.order tt);
@@ -156,6 +165,18 @@ module _ {P T : Type 0} {table : Table P T (Unit {0})} {log : List (Event T)} {t
   -- a task that is known has a place for its future
   pub place_there : (i : TaskInfo) → slice_get tasks n ≡ Some i → (before : Option (FutureOut P)) × (slice_get out n ≡ Some before)
   place_there i found = get_within out n (subst (λ k. n < k) (sym agree.as_many) (within_get tasks n i found))
+
+  -- where a poll of a task may end, its future is out and was not polled
+  pub unpolled_there : (i : TaskInfo) → slice_get tasks n ≡ Some i → (held n log && not (info_or (slice_get tasks n)).to_drop) ≡ true → is_unpolled (slice_get out n) ≡ true
+  unpolled_there i found enabled =
+      let fresh : i.to_drop ≡ false = sym (ap (λ o. (info_or o).to_drop) found) ∙ not-true _ (and-right _ _ enabled) in
+      by_entry (slice_get out n) fresh (agree.out n ∙ and-left _ _ enabled) (agree.polled n i found)
+    where
+      by_entry : (o : Option (Option (FutureOut P))) → i.to_drop ≡ false → is_out o ≡ true → PolledAgrees o i.to_drop → is_unpolled o ≡ true
+      by_entry None fresh h p = absurd (cc)
+      by_entry (Some None) fresh h p = absurd (cc)
+      by_entry (Some (Some (Unpolled q))) fresh h p = refl
+      by_entry (Some (Some (Polled q))) fresh h p = absurd (cc)
 
   -- the front of the queue is taken
   pub taken_info : (slotted : Slotted P T (Unit {0})) → map.get table.cells n ≡ Some slotted → (i : TaskInfo) × (slice_get tasks n ≡ Some i)
@@ -187,6 +208,7 @@ module _ {P T : Type 0} {table : Table P T (Unit {0})} {log : List (Event T)} {t
         (log_pushed log n (Took n ToPoll) _ refl (on_poll n log))
         (info_set tasks _ n i _ found refl)
         (out_set out _ n (place_there i found).0 (Some (Unpolled p)) (place_there i found).1 refl)
+        (polled_set out _ n (place_there i found).0 (Some (Unpolled p)) _ (place_there i found).1 refl tt)
         (record {
           slot = h.slot;
           has_handle = h.has_handle;
@@ -206,6 +228,7 @@ module _ {P T : Type 0} {table : Table P T (Unit {0})} {log : List (Event T)} {t
         (log_pushed log n (Took n ToDrop) _ refl (on_take n log))
         (info_set tasks _ n i _ found refl)
         (out_set out _ n (place_there i found).0 (Some (Unpolled p)) (place_there i found).1 refl)
+        (polled_set out _ n (place_there i found).0 (Some (Unpolled p)) _ (place_there i found).1 refl tt)
         (record {
           slot = h.slot;
           has_handle = h.has_handle;
@@ -265,6 +288,7 @@ module _ {P T : Type 0} {table : Table P T (Unit {0})} {log : List (Event T)} {t
               (log_pushed log n (Returned n) _ refl (on_return n log))
               (info_same tasks n i found)
               (out_set out outs n (place_there i found).0 None (place_there i found).1 set)
+              (polled_set out outs n (place_there i found).0 None _ (place_there i found).1 set tt)
               (record { slot = refl; has_handle = h.has_handle; awaited = h.awaited; cancelled = h.cancelled; state = pended_state slotted.cell.woken p (status n log) un uncancelled alive })
               (agree.few_polls n)
               (order-push log (Returned n) agree.order tt);
@@ -295,6 +319,7 @@ module _ {P T : Type 0} {table : Table P T (Unit {0})} {log : List (Event T)} {t
               (log_same log n)
               (info_set tasks later n i _ found set)
               (out_change (out_set out outs n (place_there i found).0 (Some q) (place_there i found).1 set_out) now_held)
+              (polled_set out outs n (place_there i found).0 (Some q) _ (place_there i found).1 set_out (polled_to_drop q))
               (record { slot = h.slot; has_handle = h.has_handle; awaited = h.awaited; cancelled = h.cancelled; state = h.state })
               (agree.few_polls n)
               agree.order);
@@ -339,6 +364,7 @@ module _ {P T : Type 0} {table : Table P T (Unit {0})} {log : List (Event T)} {t
                 log_change
                 (info_set tasks later n i _ found set)
                 (out_change (out_set out outs n (place_there i found).0 None (place_there i found).1 set_out) hold)
+                (polled_set out outs n (place_there i found).0 None _ (place_there i found).1 set_out tt)
                 (record { slot = refl; has_handle = h.has_handle; awaited = refl; cancelled = h.cancelled ∙ sym cancel; state = kept slotted.cell.cancelled slotted.cell.woken s t spawn drop hold (output ∙ ap (λ b. cond b [] (t ∷ [])) (sym h.cancelled)) gave })
                 few_polls order
             | inr gone ↦
@@ -348,6 +374,7 @@ module _ {P T : Type 0} {table : Table P T (Unit {0})} {log : List (Event T)} {t
                 log_change
                 (info_set tasks later n i _ found set)
                 (out_change (out_set out outs n (place_there i found).0 None (place_there i found).1 set_out) hold)
+                (polled_set out outs n (place_there i found).0 None _ (place_there i found).1 set_out tt)
                 (record { spawned = spawn; dropped = drop; held = hold; has_handle = sym h.has_handle ∙ gone })
                 few_polls order
           ];
@@ -419,6 +446,7 @@ module _ {P T : Type 0} {table : Table P T (Unit {0})} {log : List (Event T)} {t
         (log_same log n)
         (info_set tasks later n i _ found set)
         (out_same out n _ (agree.out n))
+        (agree.polled n i found)
         (record { slot = refl; has_handle = h.has_handle; awaited = refl; cancelled = h.cancelled; state = h.state })
         (agree.few_polls n)
         agree.order
@@ -439,6 +467,7 @@ module _ {P T : Type 0} {table : Table P T (Unit {0})} {log : List (Event T)} {t
         log_change
         (info_set tasks later n i _ found set)
         (out_same out n _ (agree.out n ∙ sym hold))
+        (agree.polled n i found)
         (record { spawned = spawn ∙ removed.0; dropped = drop; held = hold ∙ removed.1; has_handle = refl })
         few_polls order
 
@@ -485,6 +514,10 @@ module _ {P T : Type 0} {table : Table P T (Unit {0})} {log : List (Event T)} {t
           | inl same ↦ ap (λ k. is_out (slice_get (out ++ None ∷ []) k)) (same ∙ last) ∙ ap is_out (get-push_last out None) ∙ sym (ap (λ k. held k (log ++ Spawned n ∷ [])) same ∙ ap (λ s. s.held) here)
           | inr far ↦ ap is_out (get-push_other out None q (λ same. far (same ∙ sym last))) ∙ agree.out q ∙ sym (ap (λ s. s.held) (status_other q log (Spawned n) far))
         ];
+        polled = λ q i is. elim (cases_eq q n) [
+          | inl same ↦ subst (λ o. PolledAgrees o i.to_drop) (sym (ap (slice_get (out ++ None ∷ [])) (same ∙ last) ∙ get-push_last out None)) tt
+          | inr far ↦ subst (λ o. PolledAgrees o i.to_drop) (sym (get-push_other out None q (λ same. far (same ∙ sym last)))) (agree.polled q i (sym (get-push_other tasks (new_info slot) q (λ same. far (same ∙ sym agree.next))) ∙ is))
+        ];
         each = λ q. elim (cases_eq q n) [
           | inl same ↦ subst (λ k. NumberAgrees (map.get (after_spawn table slot p).cells k) (status k (log ++ Spawned n ∷ [])) (slice_get (tasks ++ new_info slot ∷ []) k)) (sym same)
               (number_agrees_by _ (Some (record { slot = slot; cell = new_cell p })) _ spawned_only _ (Some (new_info slot)) (insert_same table.cells n _ n refl) here found
@@ -520,6 +553,7 @@ opening_agrees =
       next = refl;
       as_many = refl;
       out = λ n. refl;
+      polled = λ n i is. tt;
       each = λ n. number_agrees_by _ None _ no_status _ None (map.get-empty nat_cmp n) refl refl refl;
       few_polls = λ n. omega arith;
       order = λ before e after is. absurd (none before e after is);

@@ -8,6 +8,7 @@ use Rattle.executor_core.specs.Log.{handle_finished, is_take, is_cancel, unfollo
 use Rattle.executor_core.specs.Promises.{InOrder}
 use Rattle.executor_core.specs.declared.interleave.tasks.TaskInfo.{TaskInfo}
 use Rattle.executor_core.specs.declared.interleave.tasks.FutureOut.{FutureOut}
+use Rattle.executor_core.specs.declared.interleave.tasks.FutureOut.TheVariants.{Unpolled, Polled}
 use Rattle.executor_core.specs.declared.task.cell.State.{State}
 use Rattle.executor_core.specs.declared.task.cell.State.TheVariants.{Idle, Scheduled, Held, Finished, Gone}
 use Rattle.executor_core.specs.declared.task.values.TaskId.{TaskId}
@@ -124,6 +125,20 @@ abbrev pub is_out : {X : Type 0} → Option (Option X) → Bool
 is_out None = false
 is_out (Some future) = is_some future
 
+-- a future is out, and was not polled since its task was taken
+abbrev pub is_unpolled : {P : Type 0} → Option (Option (FutureOut P)) → Bool
+is_unpolled None = false
+is_unpolled (Some None) = false
+is_unpolled (Some (Some (Unpolled p))) = true
+is_unpolled (Some (Some (Polled p))) = false
+
+-- a future that was polled since its task was taken is out to be dropped
+abbrev pub PolledAgrees : {P : Type 0} → Option (Option (FutureOut P)) → Bool → Type 0
+PolledAgrees None to_drop = Unit {0}
+PolledAgrees (Some None) to_drop = Unit {0}
+PolledAgrees (Some (Some (Unpolled p))) to_drop = Unit {0}
+PolledAgrees (Some (Some (Polled p))) to_drop = to_drop ≡ true
+
 module _ {P T : Type 0} where
   -- the cells, the futures that are out, and what is known of each task agree with the log
   pub record Agree (table : Table P T (Unit {0})) (log : List (Event T)) (tasks : List TaskInfo) (futures : List (Option (FutureOut P))) : Type 0 where
@@ -131,6 +146,7 @@ module _ {P T : Type 0} where
     pub as_many : length futures ≡ length tasks
     pub each : (n : ℕ) → NumberAgrees (map.get table.cells n) (status n log) (slice_get tasks n)
     pub out : (n : ℕ) → is_out (slice_get futures n) ≡ held n log
+    pub polled : (n : ℕ) (i : TaskInfo) → slice_get tasks n ≡ Some i → PolledAgrees (slice_get futures n) i.to_drop
     pub few_polls : (n : ℕ) → FewPollsFor (status n log)
     pub order : InOrder log
 

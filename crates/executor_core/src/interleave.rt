@@ -29,7 +29,7 @@ use std::marker::Model;
 use steps::{has_awaiter, reply_of};
 pub use steps::{Reply, Step};
 pub use tasks::TaskInfo;
-use tasks::{FutureOut, find_info, has_future, replace_future, set_info};
+use tasks::{FutureOut, find_info, has_future, replace_future, set_info, take_unpolled};
 
 /// All parties of an executor, and the log of what they did.
 ///
@@ -232,11 +232,9 @@ impl<P: Drop, T: Copy> World<P, T> {
             Some(info) => info,
             None => unreachable!(),
         };
-        let Some(out) = replace_future(&mut self.out, n, None) else {
-            unreachable!()
-        };
+        let future = take_unpolled(&mut self.out, n);
         let id = info.id(n);
-        let (held, future) = poll_pending::<P, T>(id, out.into_future());
+        let (held, future) = poll_pending::<P, T>(id, future);
         match self.cells.end_pending(held, future) {
             EndPending::Back(Some(notice)) => {
                 notice.keep();
@@ -267,12 +265,10 @@ impl<P: Drop, T: Copy> World<P, T> {
             Some(info) => info,
             None => unreachable!(),
         };
-        let Some(out) = replace_future(&mut self.out, n, None) else {
-            unreachable!()
-        };
+        let future = take_unpolled(&mut self.out, n);
         set_info(&mut self.tasks, n, info.with_awaited(false));
         let id = info.id(n);
-        let (held, output) = poll_ready(id, out.into_future(), output);
+        let (held, output) = poll_ready(id, future, output);
         let cancelled = self.cells.is_cancelled(id);
         let ended = self.cells.end_ready(held, output);
         if cancelled {
@@ -397,7 +393,7 @@ impl<P: Drop, T: Copy> World<P, T> {
         has_future(&self.out, n)
     }
 
-    /// The cells on which the steps were made.
+    /// The cells on which the steps were made. They answer each handle that is there as the log says.
     pub fn cells(&self) -> &Cells<P, T, ()>
         ensures next { result.now.next ≡ length self.now.tasks }
         ensures global { result.now.global ≡ self.now.global }

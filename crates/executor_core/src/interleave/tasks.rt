@@ -1,6 +1,6 @@
 //! What a world knows of each task beside its log, and the futures that are out.
-ghost use Rattle.std.specs.Prelude.{◌≡◌, ◌<◌, Some, false, length, slice_get, slice_set};
-ghost use Rattle.executor_core.specs.Agreement.{is_out};
+ghost use Rattle.std.specs.Prelude.{◌≡◌, ◌<◌, Some, None, false, true, length, slice_get, slice_set};
+ghost use Rattle.executor_core.specs.Agreement.{is_out, is_unpolled};
 
 use crate::task::TaskId;
 use std::mem::replace;
@@ -63,16 +63,6 @@ pub(crate) enum FutureOut<P> {
     Polled(P),
 }
 
-impl<P> FutureOut<P> {
-    // The future itself.
-    pub(crate) fn into_future(self) -> P {
-        match self {
-            FutureOut::Unpolled(future) => future,
-            FutureOut::Polled(future) => future,
-        }
-    }
-}
-
 // What is known of this task, if it was spawned.
 pub(crate) fn find_info(tasks: &Vec<TaskInfo>, n: u64) -> Option<TaskInfo>
     ensures { result ≡ slice_get tasks.now.items n }
@@ -109,4 +99,16 @@ pub(crate) fn replace_future<P>(
     ensures before { slice_get out.old.items n ≡ Some result }
 {
     replace(&mut out[n as usize], future)
+}
+
+// Takes the task's future out of its place, to be polled.
+pub(crate) fn take_unpolled<P: Drop>(out: &mut Vec<Option<FutureOut<P>>>, n: u64) -> P
+    requires { is_unpolled (slice_get out.old.items n) ≡ true }
+    ensures { out.new.items ≡ slice_set out.old.items n None }
+{
+    match replace_future(out, n, None) {
+        Some(FutureOut::Unpolled(future)) => future,
+        Some(FutureOut::Polled(_)) => unreachable!(),
+        None => unreachable!(),
+    }
 }
