@@ -52,7 +52,8 @@ fn spawn_in<F: Future<TaskWaker<W, R>>, W: Wake, R: Wait + Clone + Drop>(
     if store.reserve().is_err() {
         return Err(SpawnError::OutOfMemory(future));
     }
-    match state.cells().spawn(()) {
+    let spawned = state.cells().spawn(());
+    match spawned {
         Ok((id, notice)) => {
             store.insert(id, Kept::Future(future, TaskWaker::new(waker_state, id)));
             Ok((id, notice))
