@@ -1,10 +1,10 @@
 //! The list of sleepers, and their numbers.
-ghost use Rattle.std.specs.Prelude.{◌≡◌, ◌+◌, ◌==◌, ◌≤◌, length, vec_len, OnOk, OnErr, Option, Some, option_map, map, position, slice_get, true, false};
+ghost use Rattle.std.specs.Prelude.{◌≡◌, ◌+◌, ◌==◌, ◌<◌, ◌≤◌, length, vec_len, OnOk, OnErr, MatchOption, unwrap_or, position, slice_get, false};
 ghost use Rattle.std.specs.FinSet as set;
 ghost use Rattle.std.specs.Map.{keys_of, lookup, remove_entry, set_value};
 ghost use Rattle.std.specs.Vec.{vec_capacity};
 ghost use Rattle.executor_core.specs.Sleepers.{SleeperLaw, is_notified, notified_number};
-ghost use Rattle.executor_core.specs.SleepersCalls.{no_sleepers, closed, change_of, after_release, after_insert, insert_answer, after_update, update_answer, after_remove, remove_answer, after_notify, notify_answer};
+ghost use Rattle.executor_core.specs.SleepersCalls.{last_of, all_but_last, no_sleepers, closed, change_of, after_release, after_insert, insert_answer, after_update, update_answer, after_remove, remove_answer, after_notify, notify_answer};
 
 use crate::task::refusals::OutOfMemory;
 use crate::task::values::{Again, Change, Notice, Pick, Wakeup};
@@ -68,6 +68,16 @@ fn reserve_places<T>(items: &mut Vec<T>, places: usize) -> Result<(), OutOfMemor
 {
     items.reserve(places.saturating_sub(items.len()))?;
     Ok(())
+}
+
+// The number that was given back last leaves, else it is one more than are in use.
+fn take_number(free: &mut Vec<usize>, used: usize) -> usize
+    requires { used < usize.MAX }
+    ensures number { result ≡ unwrap_or (last_of free.old.items) (used + 1) }
+    ensures free { free.new.items ≡ all_but_last free.old.items }
+    ensures capacity { vec_capacity free.new ≡ vec_capacity free.old }
+{
+    free.pop().unwrap_or(used + 1)
 }
 
 // The place of the number's pair.
@@ -156,10 +166,7 @@ impl<W> Sleepers<W> {
         if used >= self.places {
             return Err(waker);
         }
-        let id = match self.free.pop() {
-            Some(id) => id,
-            None => used + 1,
-        };
+        let id = take_number(&mut self.free, used);
         self.unnotified.push_reserved((id, waker));
         self.is_open = true;
         Ok((id, self.change(Again { unspent: () })))
@@ -246,7 +253,10 @@ impl<W> Sleepers<W> {
     pub fn numbers(&self) -> usize
         ensures { result ≡ set.len self.now.used }
     {
-        self.unnotified.len() + usize::from(self.notified.is_some())
+        match self.notified {
+            Some(_) => self.unnotified.len() + 1,
+            None => self.unnotified.len(),
+        }
     }
 
     /// The number that is notified, or 0 where none is.

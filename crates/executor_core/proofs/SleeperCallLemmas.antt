@@ -1,0 +1,1 @@
+-- What each call on `Sleepers` makes of the list.
