@@ -65,7 +65,7 @@ module _ {W : Type 0} where
       or-false false = refl
 
   -- in use and not in the list: it is the notified one
-  is_the_notified : (notified : Option ℕ) (pairs : List (ℕ × W)) (n : ℕ) → (set.contains (set.from_list {R = nat_cmp} (in_use notified pairs)) n && not (list_any (λ k. k == n) (keys_of pairs))) ≡ true → notified ≡ Some n
+  pub is_the_notified : (notified : Option ℕ) (pairs : List (ℕ × W)) (n : ℕ) → (set.contains (set.from_list {R = nat_cmp} (in_use notified pairs)) n && not (list_any (λ k. k == n) (keys_of pairs))) ≡ true → notified ≡ Some n
   is_the_notified None pairs n is =
       let both = and_parts (set.contains (set.from_list {R = nat_cmp} (keys_of pairs)) n) _ is in
       let here : 0 < times n (keys_of pairs) = ltb-true 0 _ (sym (contains-times (keys_of pairs) n) ∙ both.0) in
@@ -84,7 +84,7 @@ module _ {W : Type 0} where
           absurd (omega arith)
 
   -- the notified one is in use, and not in the list
-  notified_is : {notified : Option ℕ} {pairs : List (ℕ × W)} {free : List ℕ} {places pair_room free_room : ℕ} (b : Bool)
+  pub notified_is : {notified : Option ℕ} {pairs : List (ℕ × W)} {free : List ℕ} {places pair_room free_room : ℕ} (b : Bool)
       → IsSoundList notified pairs free places pair_room free_room → (n : ℕ) → notified ≡ Some n
       → (set.contains (set.from_list {R = nat_cmp} (in_use notified pairs)) n ≡ true) × (is_notified_number (list_of notified pairs free places b) n ≡ true)
   notified_is {notified = notified} {pairs = pairs} b sound n is =

@@ -105,6 +105,14 @@ module _ {W : Type 0} where
       at rest true none = absurd (cc)
       at rest false none = ap (λ l. p ∷ l) (rest none)
 
+  pub set_value-absent : (id : ℕ) (pairs : List (ℕ × W)) (w : W) → lookup (λ k. k == id) pairs ≡ None → set_value (λ k. k == id) pairs w ≡ pairs
+  set_value-absent id [] w none = refl
+  set_value-absent id (p ∷ ps) w none = at (set_value-absent id ps w) (p.0 == id) none
+    where
+      at : (lookup (λ k. k == id) ps ≡ None → set_value (λ k. k == id) ps w ≡ ps) → (b : Bool) → cond b (Some p.1) (lookup (λ k. k == id) ps) ≡ None → cond b ((p.0, w) ∷ ps) (p ∷ set_value (λ k. k == id) ps w) ≡ p ∷ ps
+      at rest true none = absurd (cc)
+      at rest false none = ap (λ l. p ∷ l) (rest none)
+
   -- how often a number stands in the list without a pair
   pub times-remove_other : (id n : ℕ) (pairs : List (ℕ × W)) → n ≢ id → times n (keys_of (remove_entry (λ k. k == id) pairs)) ≡ times n (keys_of pairs)
   times-remove_other id n [] far = refl

@@ -88,14 +88,14 @@ fn place_of<W>(pairs: &[(usize, W)], id: usize) -> Option<usize>
 }
 
 // Puts the waker in the place of the number's, which comes out; it comes back where there is none.
-fn replace_waker<W>(pairs: &mut Vec<(usize, W)>, id: usize, waker: W) -> Result<W, W>
+fn replace_waker<W>(pairs: &mut Vec<(usize, W)>, id: usize, waker: W) -> Update<W>
     ensures items { pairs.new.items ≡ set_value (λ k. k == id) pairs.old.items waker }
-    ensures answer { MatchOption (lookup (λ k. k == id) pairs.old.items) (result ≡ Err waker) (λ old. result ≡ Ok old) }
+    ensures answer { MatchOption (lookup (λ k. k == id) pairs.old.items) (result ≡ Update.Unknown waker) (λ old. result ≡ Update.Asleep old) }
     ensures capacity { vec_capacity pairs.new ≡ vec_capacity pairs.old }
 {
     match place_of(pairs, id) {
-        Some(at) => Ok(replace(&mut pairs[at].1, waker)),
-        None => Err(waker),
+        Some(at) => Update::Asleep(replace(&mut pairs[at].1, waker)),
+        None => Update::Unknown(waker),
     }
 }
 
@@ -188,10 +188,7 @@ impl<W> Sleepers<W> {
             self.is_open = true;
             return Update::WasNotified(self.change(Again { unspent: () }));
         }
-        match replace_waker(&mut self.unnotified, id, waker) {
-            Ok(old) => Update::Asleep(old),
-            Err(waker) => Update::Unknown(waker),
-        }
+        replace_waker(&mut self.unnotified, id, waker)
     }
 
     /// Takes the sleeper of this number out, and the number is free again.
@@ -214,13 +211,16 @@ impl<W> Sleepers<W> {
                 waker: None,
             });
         }
-        let waker = remove_waker(&mut self.unnotified, id);
-        if waker.is_some() {
-            self.free.push_reserved(id);
-        }
+        let Some(waker) = remove_waker(&mut self.unnotified, id) else {
+            return self.change(Removed {
+                notice: None,
+                waker: None,
+            });
+        };
+        self.free.push_reserved(id);
         self.change(Removed {
             notice: None,
-            waker,
+            waker: Some(waker),
         })
     }
 

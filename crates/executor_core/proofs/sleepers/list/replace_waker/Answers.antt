@@ -1,4 +1,5 @@
-use Rattle.std.proofs.Common.{refl, ap, ◌∙◌, Ok}
+use Rattle.std.proofs.Common.{refl, ap, ◌∙◌}
+use Rattle.executor_core.specs.declared.sleepers.list.Update.TheVariants.{Asleep}
 use Rattle.executor_core.proofs.SleeperPairLemmas.{stands_at, stands_nowhere}
 use Rattle.executor_core.proofs.sleepers.list.replace_waker.Goals as goal
 
@@ -10,7 +11,7 @@ returns-in-Some-clause-items g c =
 pub returns-in-Some-clause-answer : goal.returns-in-Some-clause-answer
 returns-in-Some-clause-answer g c =
     rw ((stands_at c.args.id c.in-Some.at c.deref.ensures.value c.place_of.ensures c.in-Some.is).found c.index_mut.result.now)
-    (ap Ok (c.replace.ensures.value ∙ ap (λ p. p.1) c.index_mut.ensures.value))
+    (ap Asleep (c.replace.ensures.value ∙ ap (λ p. p.1) c.index_mut.ensures.value))
 
 pub returns-in-None-clause-items : goal.returns-in-None-clause-items
 returns-in-None-clause-items g c =
