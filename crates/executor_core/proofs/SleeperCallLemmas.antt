@@ -1,5 +1,5 @@
 -- What each call on `Sleepers` makes of the fields.
-use Rattle.std.proofs.Common.{◌≡◌, ◌≢◌, ℕ, ◌+◌, ◌-◌, ◌<◌, ◌≤◌, Bool, true, false, cond, not, ◌&&◌, ◌⊎◌, inl, inr, List, [], ◌∷◌, ◌++◌, length, take, Option, Some, None, refl, sym, ap, ◌∙◌, subst, arith, length-append, append-nil}
+use Rattle.std.proofs.Common.{◌≡◌, ◌≢◌, ℕ, ◌+◌, ◌-◌, ◌<◌, ◌≤◌, Bool, true, false, cond, not, ◌&&◌, ◌⊎◌, inl, inr, List, [], ◌∷◌, ◌++◌, length, take, Option, Some, None, Ok, Err, refl, sym, ap, ◌∙◌, subst, arith, length-append, append-nil}
 use Rattle.std.specs.Prelude.{nat_lt, nat_le, ◌==◌, is_some, unwrap_or, option_to_list, option_map, MatchOption, slice_get}
 use Rattle.std.specs.Option.{option_eq}
 use Rattle.std.specs.List.{list_any}
@@ -12,10 +12,11 @@ use Rattle.std.proofs.lemmas.Bool.Decides.{nat_tests}
 use Rattle.executor_core.specs.States.{times}
 use Rattle.executor_core.specs.Sleepers.{SleeperList, is_notified_number, has_place}
 use Rattle.executor_core.specs.SleepersView.{IsNumbering, in_use, list_of, IsSoundList}
-use Rattle.executor_core.specs.SleepersCalls.{last_of, all_but_last, notice, waker_of, next_number, after_insert, slept_again, update_at, after_update, answer_at, update_answer, after_remove, removed_of, all_unnotified, after_notify, notify_answer}
+use Rattle.executor_core.specs.SleepersCalls.{last_of, all_but_last, again, notice, waker_of, change_of, next_number, inserted, after_insert, insert_answer, slept_again, update_at, after_update, answer_at, update_answer, after_remove, removed_of, all_unnotified, after_notify, notify_answer}
 use Rattle.executor_core.specs.declared.sleepers.list.Removed.{Removed}
 use Rattle.executor_core.specs.declared.sleepers.list.Update.{Update}
-use Rattle.executor_core.specs.declared.sleepers.list.Update.TheVariants.{Asleep, Unknown}
+use Rattle.executor_core.specs.declared.sleepers.list.Update.TheVariants.{Asleep, WasNotified, Unknown}
+use Rattle.executor_core.specs.declared.task.values.Change.{Change}
 use Rattle.executor_core.specs.declared.task.values.Wakeup.{Wakeup}
 use Rattle.executor_core.proofs.ListLemmas.{get-push_last, length-push}
 use Rattle.executor_core.proofs.SleeperNumberLemmas.{times-append, times-cons, any-times, contains-times, push-from_list, remove-from_list, once, regrouped, one-same, one-other}
@@ -45,6 +46,10 @@ module _ {X : Type 0} where
 by_option : {A : Type 0} (P : Type 0) (o : Option A) → (o ≡ None → P) → ((a : A) → o ≡ Some a → P) → P
 by_option P None none some = none refl
 by_option P (Some a) none some = some a refl
+
+-- a change, by equal lists and equal things carried
+pub change_is : {W X : Type 0} {change : Change X} {s t : SleeperList W} {x y : X} → change ≡ change_of s x → s ≡ t → x ≡ y → change ≡ change_of t y
+change_is is lists carried = is ∙ (λ i. change_of (lists i) (carried i))
 
 -- the test of a notified number
 pub is_id : (notified : Option ℕ) (id : ℕ) → option_eq (λ a b. a == b) notified (Some id) ≡ true → notified ≡ Some id
@@ -152,6 +157,10 @@ module _ {W : Type 0} where
 
 module _ {W : Type 0} {notified : Option ℕ} {pairs : List (ℕ × W)} {free : List ℕ} {places pair_room free_room : ℕ}
     (sound : IsSoundList notified pairs free places pair_room free_room) where
+  -- how many numbers are in use, by the list that contracts see
+  pub count_is : {v : SleeperList W} {is_open : Bool} → list_of notified pairs free places is_open ≡ v → {n : ℕ} → n ≡ set.len v.used → n ≡ length (in_use notified pairs)
+  count_is seen is = is ∙ ap (λ s. set.len s.used) (sym seen) ∙ used-len sound
+
   -- release
   pub release_sound : length (in_use notified pairs) < places → IsSoundList notified pairs free (places - 1) pair_room free_room
   release_sound more =
@@ -160,7 +169,7 @@ module _ {W : Type 0} {notified : Option ℕ} {pairs : List (ℕ × W)} {free : 
       record { numbering = sound.numbering; placed = omega arith; pairs_fit = omega arith; places_fit = omega arith; numbers_fit = sound.numbers_fit }
 
   -- insert
-  pub insert_sound : length (in_use notified pairs) < places → (k : ℕ) (w : W) → k ≡ unwrap_or (last_of free) (length (in_use notified pairs) + 1)
+  insert_sound : length (in_use notified pairs) < places → (k : ℕ) (w : W) → k ≡ unwrap_or (last_of free) (length (in_use notified pairs) + 1)
       → IsSoundList notified (pairs ++ (k, w) ∷ []) (all_but_last free) places pair_room free_room
   insert_sound more k w is =
       let now : in_use notified (pairs ++ (k, w) ∷ []) ≡ in_use notified pairs ++ k ∷ [] = in_use-push notified pairs k w in
@@ -175,17 +184,44 @@ module _ {W : Type 0} {notified : Option ℕ} {pairs : List (ℕ × W)} {free : 
         numbers_fit = rw now (took.1 free_room (omega arith) sound.numbers_fit);
       }
 
-  pub insert_list : (is_open : Bool) → length (in_use notified pairs) < places → (k : ℕ) (w : W) → k ≡ unwrap_or (last_of free) (length (in_use notified pairs) + 1)
-      → list_of notified (pairs ++ (k, w) ∷ []) (all_but_last free) places true ≡ after_insert (list_of notified pairs free places is_open) w
+  insert_list : (is_open : Bool) → length (in_use notified pairs) < places → (k : ℕ) (w : W) → k ≡ unwrap_or (last_of free) (length (in_use notified pairs) + 1)
+      → (list_of notified (pairs ++ (k, w) ∷ []) (all_but_last free) places true ≡ after_insert (list_of notified pairs free places is_open) w)
+      × (Ok (k, change_of (after_insert (list_of notified pairs free places is_open) w) again) ≡ insert_answer (list_of notified pairs free places is_open) w)
   insert_list is_open more k w is =
       let s : SleeperList W = list_of notified pairs free places is_open in
       let count = used-len sound in
       let has : has_place s ≡ true = lt-ltb (set.len s.used) places (omega arith) in
       let next : k ≡ next_number s = is ∙ ap (λ l. unwrap_or (last_of free) (l + 1)) (sym count) in
-      let used : set.from_list {R = nat_cmp} (in_use notified (pairs ++ (k, w) ∷ [])) ≡ set.insert s.used k = ap set.from_list (in_use-push notified pairs k w) ∙ push-from_list (in_use notified pairs) k in
-      ap (λ u. record { unnotified = pairs ++ (k, w) ∷ []; used = u; free = all_but_last free; places = places; is_open = true }) used
-      ∙ ap (λ j. record { unnotified = pairs ++ (j, w) ∷ []; used = set.insert s.used j; free = all_but_last free; places = places; is_open = true }) next
-      ∙ sym (cond-true (has_place s) _ s has)
+      let used : set.from_list {R = nat_cmp} (in_use notified (pairs ++ (k, w) ∷ [])) ≡ set.insert s.used k = ap set.from_list (in_use-push notified pairs k w) ∙ push-from_list (in_use notified pairs) k in (
+        ap (λ u. record { unnotified = pairs ++ (k, w) ∷ []; used = u; free = all_but_last free; places = places; is_open = true }) used
+            ∙ ap (λ j. record { unnotified = pairs ++ (j, w) ∷ []; used = set.insert s.used j; free = all_but_last free; places = places; is_open = true }) next
+            ∙ sym (cond-true (has_place s) _ s has),
+        ap (λ u. Ok (k, change_of u again)) (cond-true (has_place s) (inserted s w) s has)
+            ∙ ap (λ j. Ok (j, change_of (inserted s w) again)) next
+            ∙ sym (cond-true (has_place s) (Ok (next_number s, change_of (inserted s w) again)) (Err w) has),
+      )
+
+  -- what an insertion of this number keeps and makes
+  pub record Inserts (v : SleeperList W) (k : ℕ) (w : W) : Type 0 where
+    pub room : length pairs < pair_room
+    pub keeps : IsSoundList notified (pairs ++ (k, w) ∷ []) (all_but_last free) places pair_room free_room
+    pub list : list_of notified (pairs ++ (k, w) ∷ []) (all_but_last free) places true ≡ after_insert v w
+    pub answer : Ok (k, change_of (after_insert v w) again) ≡ insert_answer v w
+
+  pub inserting : {v : SleeperList W} {is_open : Bool} → list_of notified pairs free places is_open ≡ v → {n : ℕ} → n ≡ set.len v.used → n < places → {k : ℕ} → k ≡ unwrap_or (last_of free) (n + 1) → (w : W) → Inserts v k w
+  inserting {v = v} {is_open = is_open} seen count more {k = k} is w =
+      let used = count_is seen count in
+      let within : length (in_use notified pairs) < places = omega arith in
+      let next : k ≡ unwrap_or (last_of free) (length (in_use notified pairs) + 1) = is ∙ ap (λ l. unwrap_or (last_of free) (l + 1)) used in
+      let all = length-in_use notified pairs in
+      let fits = sound.pairs_fit in
+      let lists = insert_list is_open within k w next in
+      record {
+        room = omega arith;
+        keeps = insert_sound within k w next;
+        list = lists.0 ∙ ap (λ s. after_insert s w) seen;
+        answer = subst (λ u. Ok (k, change_of (after_insert u w) again) ≡ insert_answer u w) seen lists.1;
+      }
 
   -- update
   pub slept_list : (is_open : Bool) (id : ℕ) (w : W) → notified ≡ Some id
@@ -193,29 +229,26 @@ module _ {W : Type 0} {notified : Option ℕ} {pairs : List (ℕ × W)} {free : 
   slept_list is_open id w is =
       let s : SleeperList W = list_of notified pairs free places is_open in
       let here = notified_is is_open sound id is in
-      let away = not-true _ (and_parts _ _ here.1).1 in
+      let away : list_any (λ k. k == id) (keys_of pairs) ≡ false = here.1 in
       let none : waker_of s id ≡ None = lookup-away pairs id away in
       let used : set.from_list {R = nat_cmp} (in_use None (pairs ++ (id, w) ∷ [])) ≡ s.used =
       ap set.from_list (keys-push pairs id w) ∙ push-from_list (keys_of pairs) id ∙ ap (λ o. set.from_list {R = nat_cmp} (in_use o pairs)) (sym is) in
       ap (λ u. record { unnotified = pairs ++ (id, w) ∷ []; used = u; free = free; places = places; is_open = true }) used
-      ∙ sym (ap (λ o. update_at s id w o (is_notified_number s id)) none ∙ ap (update_at s id w None) here.1)
+      ∙ sym (ap (λ o. update_at s id w o (is_notified_number s id)) none ∙ ap (update_at s id w None) here.2)
 
-  pub slept_answer : (is_open : Bool) (id : ℕ) (w : W) → notified ≡ Some id
-      → answer_at (list_of notified pairs free places is_open) id w None true ≡ update_answer (list_of notified pairs free places is_open) id w
-  slept_answer is_open id w is =
+  pub slept_answer : {v : SleeperList W} (is_open : Bool) → list_of notified pairs free places is_open ≡ v → (id : ℕ) (w : W) → notified ≡ Some id
+      → WasNotified (change_of (after_update v id w) again) ≡ update_answer v id w
+  slept_answer is_open seen id w is =
       let s : SleeperList W = list_of notified pairs free places is_open in
       let here = notified_is is_open sound id is in
-      let away = not-true _ (and_parts _ _ here.1).1 in
+      let away : list_any (λ k. k == id) (keys_of pairs) ≡ false = here.1 in
       let none : waker_of s id ≡ None = lookup-away pairs id away in
-      sym (ap (λ o. answer_at s id w o (is_notified_number s id)) none ∙ ap (answer_at s id w None) here.1)
-
-  -- the list after a second sleep, as the answer names it
-  pub slept_is : (is_open : Bool) (id : ℕ) (w : W) → notified ≡ Some id
-      → list_of None (pairs ++ (id, w) ∷ []) free places true ≡ slept_again (list_of notified pairs free places is_open) id w
-  slept_is is_open id w is =
-      let used : set.from_list {R = nat_cmp} (in_use None (pairs ++ (id, w) ∷ [])) ≡ set.from_list (in_use notified pairs) =
-      ap set.from_list (keys-push pairs id w) ∙ push-from_list (keys_of pairs) id ∙ ap (λ o. set.from_list {R = nat_cmp} (in_use o pairs)) (sym is) in
-      ap (λ u. record { unnotified = pairs ++ (id, w) ∷ []; used = u; free = free; places = places; is_open = true }) used
+      let listed : after_update s id w ≡ slept_again s id w = ap (λ o. update_at s id w o (is_notified_number s id)) none ∙ ap (update_at s id w None) here.2 in
+      subst (λ u. WasNotified (change_of (after_update u id w) again) ≡ update_answer u id w) seen
+      (
+      ap (λ u. WasNotified (change_of u again)) listed
+      ∙ sym (ap (λ o. answer_at s id w o (is_notified_number s id)) none ∙ ap (answer_at s id w None) here.2)
+      )
 
   pub replaced_sound : (id : ℕ) (w : W) → IsSoundList notified (set_value (λ k. k == id) pairs w) free places pair_room free_room
   replaced_sound id w =
@@ -331,7 +364,7 @@ module _ {W : Type 0} {notified : Option ℕ} {pairs : List (ℕ × W)} {free : 
   notified_removed_list is_open id is =
       let s : SleeperList W = list_of notified pairs free places is_open in
       let here = notified_is is_open sound id is in
-      let away = not-true _ (and_parts _ _ here.1).1 in
+      let away : list_any (λ k. k == id) (keys_of pairs) ≡ false = here.1 in
       let kept : pairs ≡ remove_entry (λ k. k == id) pairs = sym (remove-absent id pairs (lookup-away pairs id away)) in
       let none : times id (keys_of pairs) ≤ 0 = ltb-false 0 _ (sym (any-times id (keys_of pairs)) ∙ away) in
       let used : set.from_list {R = nat_cmp} (keys_of pairs) ≡ set.remove s.used id =
@@ -351,9 +384,9 @@ module _ {W : Type 0} {notified : Option ℕ} {pairs : List (ℕ × W)} {free : 
   removed_of_notified is_open id is =
       let s : SleeperList W = list_of notified pairs free places is_open in
       let here = notified_is is_open sound id is in
-      let away = not-true _ (and_parts _ _ here.1).1 in
+      let away : list_any (λ k. k == id) (keys_of pairs) ≡ false = here.1 in
       ap (λ o. record { notice = Some notice; waker = o }) (sym (lookup-away pairs id away))
-      ∙ ap (λ b. record { notice = cond b (Some notice) None; waker = waker_of s id }) (sym here.1)
+      ∙ ap (λ b. record { notice = cond b (Some notice) None; waker = waker_of s id }) (sym here.2)
 
   pub unknown_removed_list : (is_open : Bool) (id : ℕ) → notified ≢ Some id → lookup (λ k. k == id) pairs ≡ None
       → list_of notified (remove_entry (λ k. k == id) pairs) free places true ≡ after_remove (list_of notified pairs free places is_open) id

@@ -86,7 +86,7 @@ module _ {W : Type 0} where
   -- the notified one is in use, and not in the list
   pub notified_is : {notified : Option ℕ} {pairs : List (ℕ × W)} {free : List ℕ} {places pair_room free_room : ℕ} (b : Bool)
       → IsSoundList notified pairs free places pair_room free_room → (n : ℕ) → notified ≡ Some n
-      → (set.contains (set.from_list {R = nat_cmp} (in_use notified pairs)) n ≡ true) × (is_notified_number (list_of notified pairs free places b) n ≡ true)
+      → (set.contains (set.from_list {R = nat_cmp} (in_use notified pairs)) n ≡ true) × (list_any (λ k. k == n) (keys_of pairs) ≡ false) × (is_notified_number (list_of notified pairs free places b) n ≡ true)
   notified_is {notified = notified} {pairs = pairs} b sound n is =
       let all : times n (in_use notified pairs) ≡ times n (n ∷ keys_of pairs) = ap (λ o. times n (in_use o pairs)) is in
       let split = times-cons n n (keys_of pairs) in
@@ -94,7 +94,7 @@ module _ {W : Type 0} where
       let most = in_use_once sound n in
       let used : set.contains (set.from_list {R = nat_cmp} (in_use notified pairs)) n ≡ true = contains-times (in_use notified pairs) n ∙ lt-ltb 0 (times n (in_use notified pairs)) (omega arith) in
       let away : list_any (λ k. k == n) (keys_of pairs) ≡ false = any-times n (keys_of pairs) ∙ le-ltb 0 (times n (keys_of pairs)) (omega arith) in
-      (used, and_from _ _ used (not_from_false _ away))
+      (used, away, and_from _ _ used (not_from_false _ away))
 
   pub lawful : {notified : Option ℕ} {pairs : List (ℕ × W)} {free : List ℕ} {places pair_room free_room : ℕ} (b : Bool)
       → IsSoundList notified pairs free places pair_room free_room → SleeperLaw (list_of notified pairs free places b)
@@ -152,6 +152,6 @@ module _ {W : Type 0} where
       let here = notified_is b sound m refl in
       sym (first_passing (is_notified_number (list_of (Some m) pairs free places b)) m
       (λ n is. let same : Some m ≡ Some n = is_the_notified (Some m) pairs n is in sym (cc))
-      here.1
+      here.2
       (set.items (set.from_list {R = nat_cmp} (in_use (Some m) pairs)))
       (sym (contains-items (set.from_list {R = nat_cmp} (in_use (Some m) pairs)) m) ∙ here.0))
