@@ -12,6 +12,10 @@ pub mod RemoveLemmas
 pub mod RoomLemmas
 pub mod RowLemmas
 pub mod RunLemmas
+pub mod SleeperCallLemmas
+pub mod SleeperListLemmas
+pub mod SleeperNumberLemmas
+pub mod SleeperPairLemmas
 pub mod SlotLemmas
 pub mod SpawnLemmas
 pub mod StatusLemmas

@@ -11,3 +11,6 @@ pub mod Execution
 pub mod Steps
 pub mod Agreement
 pub mod WorldView
+pub mod Sleepers
+pub mod SleepersView
+pub mod SleepersCalls

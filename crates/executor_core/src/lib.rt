@@ -1,6 +1,8 @@
-//! Tasks, their queue, and a world of all parties in any order: what the executors stand on.
+//! Tasks, their queue, the sleepers, and a world of all parties in any order: what the executors stand on.
 #![tactic(auto)]
 
 pub mod interleave;
+pub mod plain_core;
 pub mod queue;
+pub mod sleepers;
 pub mod task;

@@ -1,0 +1,25 @@
+use Rattle.std.proofs.Common.{◌≡◌, ◌∙◌, ap, length, vec_len, Ok, rules, arith}
+use Rattle.executor_core.specs.SleepersCalls.{again, change_of}
+use Rattle.executor_core.proofs.SleeperCallLemmas.{inserting}
+use Rattle.executor_core.proofs.sleepers.list.Sleepers.insert.Goals as goal
+
+pub push_reserved-requires : goal.push_reserved-requires
+push_reserved-requires g c =
+    let long : vec_len c.self.inside.unnotified ≡ length c.self.inside.unnotified.items = search rules in
+    let room = (inserting c.self.invariant c.self.view_is c.numbers-used.ensures c.if-used-self.false c.take_number-id.ensures.number c.args.waker).room in
+    omega arith
+
+pub invariant_of-self : goal.invariant_of-self
+invariant_of-self g c =
+    rw (c.push_reserved.ensures.items, c.push_reserved.ensures.capacity, c.take_number-id.ensures.free, c.take_number-id.ensures.capacity)
+    (inserting c.self.invariant c.self.view_is c.numbers-used.ensures c.if-used-self.false c.take_number-id.ensures.number c.args.waker).keeps
+
+pub returns-clause-list : goal.returns-clause-list
+returns-clause-list g c =
+    rw (c.push_reserved.ensures.items, c.take_number-id.ensures.free)
+    (inserting c.self.invariant c.self.view_is c.numbers-used.ensures c.if-used-self.false c.take_number-id.ensures.number c.args.waker).list
+
+pub returns-clause-answer : goal.returns-clause-answer
+returns-clause-answer g c =
+    ap (λ x. Ok (c.take_number-id.result, x)) (c.change.ensures ∙ ap (λ s. change_of s again) (returns-clause-list g c))
+    ∙ (inserting c.self.invariant c.self.view_is c.numbers-used.ensures c.if-used-self.false c.take_number-id.ensures.number c.args.waker).answer

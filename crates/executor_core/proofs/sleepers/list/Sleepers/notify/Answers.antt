@@ -1,0 +1,24 @@
+use Rattle.std.proofs.Common.{◌∙◌, ap, sym}
+use Rattle.executor_core.specs.SleepersCalls.{after_notify, notify_answer}
+use Rattle.executor_core.proofs.SleeperCallLemmas.{kept_list, kept_answer, notified_list, notified_answer}
+use Rattle.executor_core.proofs.sleepers.list.Sleepers.notify.Goals as goal
+
+pub returns-then-is_some-clause-list : goal.returns-then-is_some-clause-list
+returns-then-is_some-clause-list g c =
+    sym c.self.view_is
+    ∙ kept_list c.self.invariant c.self.inside.is_open (sym c.is_some.ensures ∙ c.if-is_some.true)
+    ∙ ap after_notify c.self.view_is
+
+pub returns-then-is_some-clause-answer : goal.returns-then-is_some-clause-answer
+returns-then-is_some-clause-answer g c =
+    kept_answer c.self.invariant c.self.inside.is_open (sym c.is_some.ensures ∙ c.if-is_some.true) ∙ ap notify_answer c.self.view_is
+
+pub returns-clause-list : goal.returns-clause-list
+returns-clause-list g c =
+    notified_list c.self.invariant c.self.inside.is_open c.pop.new.self.items c.in_ok-id.id c.in_ok-id.waker (sym c.is_some.ensures ∙ c.if-is_some.false) c.in_ok-id.ensures.items
+    ∙ ap after_notify c.self.view_is
+
+pub returns-clause-answer : goal.returns-clause-answer
+returns-clause-answer g c =
+    notified_answer c.self.invariant c.self.inside.is_open c.pop.new.self.items c.in_ok-id.id c.in_ok-id.waker (sym c.is_some.ensures ∙ c.if-is_some.false) c.in_ok-id.ensures.items
+    ∙ ap notify_answer c.self.view_is

@@ -1,0 +1,9 @@
+use Rattle.std.proofs.Common.{◌≡◌, ◌∙◌, ap, sym, length, arith}
+use Rattle.executor_core.specs.SleepersView.{in_use}
+use Rattle.executor_core.proofs.SleeperCallLemmas.{count_is, release_sound}
+use Rattle.executor_core.proofs.sleepers.list.Sleepers.release.Goals as goal
+
+pub invariant_of-self : goal.invariant_of-self
+invariant_of-self g c =
+    let count : c.numbers.result ≡ length (in_use c.self.inside.notified c.self.inside.unnotified.items) = count_is c.self.invariant c.self.view_is c.numbers.ensures in
+    release_sound c.self.invariant (omega arith)

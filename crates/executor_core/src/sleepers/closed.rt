@@ -1,0 +1,28 @@
+//! What the lock of the sleepers keeps.
+ghost use Rattle.std.specs.Prelude.{◌≡◌, false};
+
+use crate::sleepers::list::Sleepers;
+use std::alloc::Global;
+
+/// Sleepers whose list is closed: for each change of it the flag was stored.
+///
+/// This is the type to be put under a lock. Whoever holds the lock changes the sleepers in it and
+/// stores the flag; to give the lock up between the two is refused, since the list is open there.
+#[derive(Drop)]
+pub struct ClosedSleepers<W> {
+    pub sleepers: Sleepers<W>,
+    ghost closed: { sleepers.is_open ≡ false },
+}
+
+impl<W> ClosedSleepers<W> {
+    ghost use Rattle.executor_core.specs.SleepersCalls.{no_sleepers};
+
+    /// Nobody sleeps, and no place is reserved. It takes no memory.
+    pub fn new(alloc: Global) -> Self
+        ensures { result.sleepers ≡ no_sleepers }
+    {
+        ClosedSleepers {
+            sleepers: Sleepers::new(alloc),
+        }
+    }
+}
