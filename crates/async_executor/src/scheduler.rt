@@ -9,13 +9,12 @@ ghost use Rattle.async_executor.specs.Ends.{EndsToDrop};
 
 use crate::handle::Handle;
 use crate::poller::TaskPoller;
-use crate::state::State;
+use crate::state::{State, wake_any};
 use crate::storage::Storage;
 use crate::store::{Kept, Store};
 use crate::waker::TaskWaker;
 use executor_core::task::{
-    EndPending, EndReady, Future, Held, Notice, Ran, SpawnError, Taken, TaskId, Wake, Wakeup,
-    run_taken,
+    EndPending, EndReady, Future, Held, Notice, Ran, SpawnError, Taken, TaskId, Wake, run_taken,
 };
 use std::sync::{Arc, Wait};
 
@@ -150,7 +149,7 @@ fn end_ready<S: Storage>(
         },
     );
     drop(unwanted);
-    wake_awaiter(awaiter);
+    wake_any(awaiter);
 }
 
 // Ends a task whose future was dropped.
@@ -158,11 +157,5 @@ fn end_dropped<S: Storage>(storage: &S, held: Held)
     requires { held.to_drop ≡ true }
 {
     let awaiter = storage.state().cells().end_dropped(held);
-    wake_awaiter(awaiter);
-}
-
-fn wake_awaiter<W: Wake>(awaiter: Option<Wakeup<W>>) {
-    if let Some(awaiter) = awaiter {
-        awaiter.wake();
-    }
+    wake_any(awaiter);
 }

@@ -18,7 +18,9 @@ use std::sync::Wait;
 use std::time::{Duration, Instant};
 
 const SMALL: u64 = 10;
+
 const RUNS: u64 = 5;
+
 const NANOS: u128 = 1_000_000_000;
 
 fn main(rt: HostRuntime) -> io::Result<ExitCode> {
