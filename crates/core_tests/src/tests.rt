@@ -1,3 +1,5 @@
-//! Worked runs of the table, and of a world.
+//! Worked runs of the table, of the sleepers, and of a world.
 mod cells;
+mod notices;
+mod wakers;
 mod worlds;

@@ -2,12 +2,12 @@
 ghost use Rattle.std.specs.Prelude.{◌≡◌, false, true};
 ghost use Rattle.executor_core.specs.declared.task.polling.Polled.{Polled};
 
+use crate::tests::notices::{is_spent, spend};
+use crate::tests::wakers::{Counter, new_counter};
 use executor_core::task::{
-    Cells, EndPending, EndReady, Held, Notice, OutOfMemory, PollHandle, Polled, Poller, Ran,
-    SpawnError, TaskId, Wake, Wakeup, run_taken,
+    Cells, EndPending, EndReady, Held, PollHandle, Polled, Poller, Ran, SpawnError, TaskId, Wakeup,
+    run_taken,
 };
-use std::cell::Cell;
-use std::rc::Rc;
 use std::test::Fail;
 
 // Polls give this output, or are pending where there is none.
@@ -38,37 +38,7 @@ impl Poller<u8, u64> for Answers {
     }
 }
 
-// Counts its wakes.
-#[derive(Drop)]
-struct Counter {
-    wakes: Rc<Cell<u32>>,
-}
-
-impl Wake for Counter {
-    fn wake(&self) {
-        self.wakes.set(self.wakes.get().saturating_add(1));
-    }
-
-    fn copy(&self) -> Result<Self, OutOfMemory> {
-        match self.wakes.clone() {
-            Ok(wakes) => Ok(Counter { wakes }),
-            Err(_) => Err(OutOfMemory),
-        }
-    }
-}
-
 type Tasks = Cells<u8, u64, Counter>;
-
-// Whether there was a notice.
-fn settled(notice: Option<Notice>) -> bool {
-    match notice {
-        Some(notice) => {
-            notice.settle();
-            true
-        }
-        None => false,
-    }
-}
 
 fn woken(wakeup: Option<Wakeup<Counter>>) -> bool {
     match wakeup {
@@ -83,7 +53,7 @@ fn woken(wakeup: Option<Wakeup<Counter>>) -> bool {
 fn spawn(cells: &mut Tasks, future: u8) -> Result<TaskId, &'static str> {
     match cells.spawn(future) {
         Ok((id, notice)) => {
-            notice.settle();
+            spend(notice);
             Ok(id)
         }
         Err(_) => Err("no task was spawned"),
@@ -105,7 +75,7 @@ fn end_pending(cells: &mut Tasks, held: Held, future: u8, ticked: &mut Ticked)
     requires { held.to_drop ≡ false }
 {
     match cells.end_pending(held, future) {
-        EndPending::Back(notice) => ticked.is_queued = settled(notice),
+        EndPending::Back(notice) => ticked.is_queued = is_spent(notice),
         EndPending::Drop(_, held) => ticked.wakes_awaiter = woken(cells.end_dropped(held)),
     }
 }
@@ -113,7 +83,7 @@ fn end_pending(cells: &mut Tasks, held: Held, future: u8, ticked: &mut Ticked)
 // Takes the front, polls it, or drops it where it is cancelled, and ends it.
 fn tick(cells: &mut Tasks, output: Option<u64>) -> Option<Ticked> {
     let (taken, notice) = cells.take_global(None)?;
-    notice.settle();
+    spend(notice);
     let number = taken.id().number();
     let mut poller = Answers {
         output,
@@ -152,13 +122,6 @@ fn polled(number: u64) -> Ticked {
     }
 }
 
-// A waker, and the count of its wakes.
-fn new_counter(rt: &HostRuntime) -> Result<Counter, Fail> {
-    Ok(Counter {
-        wakes: Rc::new(rt.alloc(), Cell::new(0))?,
-    })
-}
-
 #[test]
 fn an_id_finds_no_other_task_in_its_slot(rt: HostRuntime) -> Result<(), Fail> {
     let mut cells = Tasks::new(rt.alloc())?;
@@ -171,10 +134,10 @@ fn an_id_finds_no_other_task_in_its_slot(rt: HostRuntime) -> Result<(), Fail> {
     let second = spawn(&mut cells, 11)?;
     assert_eq!(rt; second.slot(), first.slot());
     assert_eq!(rt; tick(&mut cells, None), Some(polled(1)));
-    assert!(rt; !settled(cells.wake(first)));
+    assert!(rt; !is_spent(cells.wake(first)));
     assert_eq!(rt; cells.global_len(), 0);
     assert!(rt; cells.keeps(second));
-    assert!(rt; settled(cells.wake(second)), "the second task was idle");
+    assert!(rt; is_spent(cells.wake(second)), "the second task was idle");
     assert_eq!(rt; cells.global_at(0), Some(1));
     assert_eq!(rt; cells.global_at(1), None);
     Ok(())
@@ -186,7 +149,7 @@ fn the_last_number_is_never_given(rt: HostRuntime) -> Result<(), Fail> {
     match none.spawn(10) {
         Err(SpawnError::Exhausted(future)) => assert_eq!(rt; future, 10),
         Ok((_, notice)) => {
-            notice.settle();
+            spend(notice);
             assert!(rt; false, "no number is left");
         }
         Err(SpawnError::OutOfMemory(_)) => assert!(rt; false, "no number is left"),
@@ -196,7 +159,7 @@ fn the_last_number_is_never_given(rt: HostRuntime) -> Result<(), Fail> {
     match one.spawn(11) {
         Err(refused) => assert_eq!(rt; refused.into_inner(), 11),
         Ok((_, notice)) => {
-            notice.settle();
+            spend(notice);
             assert!(rt; false, "no number is left");
         }
     }
@@ -211,7 +174,7 @@ fn a_cancelled_task_is_dropped_unpolled_and_its_awaiter_woken(rt: HostRuntime) -
     let waker = new_counter(&rt)?;
     let wakes = waker.wakes.clone()?;
     assert!(rt; matches!(cells.poll_handle(id, waker), PollHandle::Pending(None)));
-    assert!(rt; !settled(cells.cancel(id)), "it is queued already");
+    assert!(rt; !is_spent(cells.cancel(id)), "it is queued already");
     assert!(rt; cells.is_finished(id));
     assert!(rt; !cells.is_empty());
     let ticked = Ticked {
@@ -241,7 +204,7 @@ fn a_handle_that_ends_lets_its_output_go(rt: HostRuntime) -> Result<(), Fail> {
     assert_eq!(rt; tick(&mut cells, Some(7)), Some(polled(0)));
     assert!(rt; matches!(cells.detach(kept), (Some(7), None)));
     let (notice, output, waker) = cells.drop_handle(dropped);
-    assert!(rt; !settled(notice) && output.is_none() && waker.is_none());
+    assert!(rt; !is_spent(notice) && output.is_none() && waker.is_none());
     assert!(rt; matches!(cells.detach(detached), (None, None)));
     let disposed = Ticked {
         polls: 0,
