@@ -7,8 +7,8 @@ use Rattle.executor_core.specs.declared.interleave.World.TheInside.{Inside}
 
 module _ {P T : Type 0} where
   abbrev pub execution_of : Inside P T → Execution T
-  execution_of a = record { log = a.log.items; accepted = a.accepted; limit = a.limit; global = a.cells.global; notices = a.notices; tasks = a.tasks.items }
+  execution_of a = record { log = a.log.items; accepted = a.accepted; limit = a.limit; global = a.core.cells.global; notices = a.notices; tasks = a.tasks.items }
 
   pub record IsWorld (a : Inside P T) : Type 0 where
-    pub agree : Agree a.cells a.log.items a.tasks.items a.out.items
+    pub agree : Agree a.core.cells a.log.items a.tasks.items a.out.items
     pub room : HasRoom a.accepted a.limit a.notices (length a.tasks.items) (length a.log.items) (vec_capacity a.log)

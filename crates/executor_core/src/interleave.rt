@@ -2,7 +2,7 @@
 //!
 //! A party may spawn, wake, take a task, end its poll, say that its future was dropped, or poll,
 //! cancel, detach or drop its handle. A `World` takes any list of such steps, of all parties, with
-//! steps of others between a take and the end of its poll. It makes each on its `Cells`, and logs
+//! steps of others between a take and the end of its poll. It makes each on its `Core`, and logs
 //! what happened to which task. A step that is not enabled is answered and changes nothing.
 //!
 //! The log alone says where a task stands: whether it was dropped, is held, is owed a poll or a
@@ -21,6 +21,7 @@ pub(crate) mod script;
 pub(crate) mod steps;
 pub(crate) mod tasks;
 
+use crate::plain_core::Core;
 use crate::task::{Cells, EndPending, Held, OutOfMemory, Taken};
 pub use events::{Event, Purpose};
 use script::{drop_future, poll_pending, poll_ready};
@@ -40,7 +41,7 @@ pub struct World<P, T> {
     alloc: Global,
     limit: u32,
     accepted: u32,
-    cells: Cells<P, T, ()>,
+    core: Core<P, T, ()>,
     log: Vec<Event<T>>,
     tasks: Vec<TaskInfo>,
     // The futures that are out, each in the place of its task.
@@ -72,13 +73,13 @@ impl<P: Drop, T: Copy> World<P, T> {
         requires { limit ≤ 1000000 }
         ensures { IfOk result (λ world. world ≡ opening limit) }
     {
-        let cells = Cells::new(alloc)?;
+        let core = Core::new(alloc)?;
         let log = Vec::with_capacity(alloc, 3 * limit as usize)?;
         Ok(World {
             alloc,
             limit,
             accepted: 0,
-            cells,
+            core,
             log,
             tasks: Vec::new(alloc),
             out: Vec::new(alloc),
@@ -143,7 +144,7 @@ impl<P: Drop, T: Copy> World<P, T> {
         if self.out.try_reserve(1).is_err() {
             return Reply::OutOfMemory;
         }
-        let (id, notice) = match self.cells.spawn(future) {
+        let (id, notice) = match self.core.spawn(future) {
             Ok(spawned) => spawned,
             Err(refused) => {
                 refused.into_inner();
@@ -175,11 +176,11 @@ impl<P: Drop, T: Copy> World<P, T> {
             None => unreachable!(),
         };
         let id = info.id(n);
-        if !self.cells.is_undropped(id) {
+        if !self.core.cells.is_undropped(id) {
             return Reply::Nothing;
         }
         self.log.push_reserved(Event::Woken(n));
-        match self.cells.wake(id) {
+        match self.core.wake(id) {
             Some(notice) => {
                 notice.keep();
                 self.notices += 1;
@@ -194,7 +195,7 @@ impl<P: Drop, T: Copy> World<P, T> {
         ensures { row (tick_row self.old.global self.old) result self.new }
     {
         self.accepted += 1;
-        let Some((taken, notice)) = self.cells.take_global(None) else {
+        let Some((taken, notice)) = self.core.take_global(None) else {
             return Reply::NoTask;
         };
         notice.keep();
@@ -235,7 +236,7 @@ impl<P: Drop, T: Copy> World<P, T> {
         let future = take_unpolled(&mut self.out, n);
         let id = info.id(n);
         let (held, future) = poll_pending::<P, T>(id, future);
-        match self.cells.end_pending(held, future) {
+        match self.core.end_pending(held, future) {
             EndPending::Back(Some(notice)) => {
                 notice.keep();
                 self.notices += 1;
@@ -269,8 +270,8 @@ impl<P: Drop, T: Copy> World<P, T> {
         set_info(&mut self.tasks, n, info.with_awaited(false));
         let id = info.id(n);
         let (held, output) = poll_ready(id, future, output);
-        let cancelled = self.cells.is_cancelled(id);
-        let ended = self.cells.end_ready(held, output);
+        let cancelled = self.core.cells.is_cancelled(id);
+        let ended = self.core.end_ready(held, output);
         if cancelled {
             self.log.push_reserved(Event::Dropped(n));
             return reply_of(ended);
@@ -295,7 +296,7 @@ impl<P: Drop, T: Copy> World<P, T> {
         };
         set_info(&mut self.tasks, n, info.with_awaited(false));
         let held = drop_future::<P, T>(info.id(n), out);
-        let awaiter = self.cells.end_dropped(held);
+        let awaiter = self.core.end_dropped(held);
         self.log.push_reserved(Event::Dropped(n));
         Reply::Gone {
             awaiter: has_awaiter(awaiter),
@@ -308,7 +309,7 @@ impl<P: Drop, T: Copy> World<P, T> {
         ensures in_order { InOrder self.now.log }
         ensures few_polls { FewPolls self.now.log }
     {
-        self.cells.keeps_law();
+        self.core.cells.keeps_law();
     }
 
     fn take_step(&mut self, step: Step<P, T>) -> Reply<T>
@@ -381,7 +382,7 @@ impl<P: Drop, T: Copy> World<P, T> {
         ensures { result ≡ (owed n self.now.log || idle n self.now.log) }
     {
         match find_info(&self.tasks, n) {
-            Some(info) => self.cells.keeps(info.id(n)),
+            Some(info) => self.core.cells.keeps(info.id(n)),
             None => false,
         }
     }
@@ -400,7 +401,17 @@ impl<P: Drop, T: Copy> World<P, T> {
         ensures empty { AllDropped result.now ↔ EachDropped self.now.log }
         ensures handles { HandlesAgree result.now self.now.log self.now.tasks }
     {
-        &self.cells
+        &self.core.cells
+    }
+
+    /// The shared state on which the steps were made. Its cells are those that `cells` lends.
+    pub fn state(&self) -> &Core<P, T, ()>
+        ensures next { result.now.cells.next ≡ length self.now.tasks }
+        ensures global { result.now.cells.global ≡ self.now.global }
+        ensures empty { AllDropped result.now.cells ↔ EachDropped self.now.log }
+        ensures handles { HandlesAgree result.now.cells self.now.log self.now.tasks }
+    {
+        &self.core
     }
 
     /// The events, in order.

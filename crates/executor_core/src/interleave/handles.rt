@@ -20,7 +20,7 @@ impl<P: Drop, T: Copy> World<P, T> {
             None => unreachable!(),
         };
         let id = info.id(n);
-        match self.cells.poll_handle(id, ()) {
+        match self.core.poll_handle(id, ()) {
             PollHandle::Output(output, _) => {
                 self.log.push_reserved(Event::Got(n, output));
                 set_info(&mut self.tasks, n, info.without_handle());
@@ -48,8 +48,8 @@ impl<P: Drop, T: Copy> World<P, T> {
             None => unreachable!(),
         };
         let id = info.id(n);
-        let undropped = self.cells.is_undropped(id);
-        match self.cells.cancel(id) {
+        let undropped = self.core.cells.is_undropped(id);
+        match self.core.cancel(id) {
             Some(notice) => {
                 notice.keep();
                 self.notices += 1;
@@ -81,7 +81,7 @@ impl<P: Drop, T: Copy> World<P, T> {
             n,
             info.without_handle().with_awaited(false),
         );
-        let (output, _) = self.cells.detach(info.id(n));
+        let (output, _) = self.core.detach(info.id(n));
         reply_of_output(output)
     }
 
@@ -101,8 +101,8 @@ impl<P: Drop, T: Copy> World<P, T> {
             info.without_handle().with_awaited(false),
         );
         let id = info.id(n);
-        let undropped = self.cells.is_undropped(id);
-        let (notice, output, _) = self.cells.drop_handle(id);
+        let undropped = self.core.cells.is_undropped(id);
+        let (notice, output, _) = self.core.drop_handle(id);
         match notice {
             Some(notice) => {
                 notice.keep();

@@ -12,8 +12,8 @@ invariant_of-self g c =
     let found = sym c.in-Some.ensures in
     let there : c.in-Some.info.has_handle ≡ true = sym (ap (λ o. (info_or o).has_handle) found) ∙ subst (λ w. (info c.args.n w).has_handle ≡ true) (sym c.self.view_is) c.requires.enabled in
     let same = c.id-id.ensures in
-    let table = c.cancel.ensures.table ∙ ap (λ i. after_cancel c.self.inside.cells i) same in
-    let queues = sym (cancel_notice c.self.invariant.agree c.args.n c.in-Some.info found there) ∙ ap (λ i. cancel_queues c.self.inside.cells i) (sym same) ∙ sym c.in-Some-cancel.ensures.notice in
+    let table = c.cancel.ensures.table ∙ ap (λ i. after_cancel c.self.inside.core.cells i) same in
+    let queues = sym (cancel_notice c.self.invariant.agree c.args.n c.in-Some.info found there) ∙ ap (λ i. cancel_queues c.self.inside.core.cells i) (sym same) ∙ sym c.in-Some-cancel.ensures.notice in
     record {
       agree = rw (table, c.push_reserved.ensures.items) (cancel_step c.self.invariant.agree c.args.n c.in-Some.info found there (idle_undropped _ _ _ _ queues));
       room = room_step c.self.invariant.room (subst (λ w. w.accepted ≢ w.limit) (sym c.self.view_is) c.requires.room) _ _ _ _ (same_le _) (more _) (one_event _ _ _ c.push_reserved.ensures.items) (sym c.push_reserved.ensures.capacity);
@@ -24,8 +24,8 @@ returns-in-Some-cancel g c =
     let found = sym c.in-Some.ensures in
     let there : c.in-Some.info.has_handle ≡ true = sym (ap (λ o. (info_or o).has_handle) found) ∙ subst (λ w. (info c.args.n w).has_handle ≡ true) (sym c.self.view_is) c.requires.enabled in
     let same = c.id-id.ensures in
-    let table = c.cancel.ensures.table ∙ ap (λ i. after_cancel c.self.inside.cells i) same in
-    let queues = sym (cancel_notice c.self.invariant.agree c.args.n c.in-Some.info found there) ∙ ap (λ i. cancel_queues c.self.inside.cells i) (sym same) ∙ sym c.in-Some-cancel.ensures.notice in
+    let table = c.cancel.ensures.table ∙ ap (λ i. after_cancel c.self.inside.core.cells i) same in
+    let queues = sym (cancel_notice c.self.invariant.agree c.args.n c.in-Some.info found there) ∙ ap (λ i. cancel_queues c.self.inside.core.cells i) (sym same) ∙ sym c.in-Some-cancel.ensures.notice in
     rw (← c.self.view_is) (mark_queued _ _ _ _ _ _ c.args.n c.in-Some.info found _ _ _ queues (ap (λ s. s.global) table ∙ cancel_global c.self.invariant.agree c.args.n c.in-Some.info found there) c.push_reserved.ensures.items)
 
 pub invariant_of-self-then-not-undropped : goal.invariant_of-self-then-not-undropped
@@ -33,8 +33,8 @@ invariant_of-self-then-not-undropped g c =
     let found = sym c.in-Some.ensures in
     let there : c.in-Some.info.has_handle ≡ true = sym (ap (λ o. (info_or o).has_handle) found) ∙ subst (λ w. (info c.args.n w).has_handle ≡ true) (sym c.self.view_is) c.requires.enabled in
     let same = c.id-id.ensures in
-    let table = c.cancel.ensures.table ∙ ap (λ i. after_cancel c.self.inside.cells i) same in
-    let gone = dropped_by c.self.invariant.agree c.args.n c.in-Some.info found _ (ap (λ i. undropped_in (cell_at c.self.inside.cells i)) (sym same) ∙ sym c.is_undropped-undropped.ensures ∙ c.if-not-undropped.true) in
+    let table = c.cancel.ensures.table ∙ ap (λ i. after_cancel c.self.inside.core.cells i) same in
+    let gone = dropped_by c.self.invariant.agree c.args.n c.in-Some.info found _ (ap (λ i. undropped_in (cell_at c.self.inside.core.cells i)) (sym same) ∙ sym c.is_undropped-undropped.ensures ∙ c.if-not-undropped.true) in
     record {
       agree = rw table (cancel_ended c.self.invariant.agree c.args.n c.in-Some.info found there gone);
       room = room_step c.self.invariant.room (subst (λ w. w.accepted ≢ w.limit) (sym c.self.view_is) c.requires.room) _ _ _ _ (more _) (more _) (more_two _) refl;
@@ -45,9 +45,9 @@ returns-then-not-undropped g c =
     let found = sym c.in-Some.ensures in
     let there : c.in-Some.info.has_handle ≡ true = sym (ap (λ o. (info_or o).has_handle) found) ∙ subst (λ w. (info c.args.n w).has_handle ≡ true) (sym c.self.view_is) c.requires.enabled in
     let same = c.id-id.ensures in
-    let table = c.cancel.ensures.table ∙ ap (λ i. after_cancel c.self.inside.cells i) same in
-    let queues = sym (cancel_notice c.self.invariant.agree c.args.n c.in-Some.info found there) ∙ ap (λ i. cancel_queues c.self.inside.cells i) (sym same) ∙ sym c.in-None-cancel.ensures.notice in
-    let gone = dropped_by c.self.invariant.agree c.args.n c.in-Some.info found _ (ap (λ i. undropped_in (cell_at c.self.inside.cells i)) (sym same) ∙ sym c.is_undropped-undropped.ensures ∙ c.if-not-undropped.true) in
+    let table = c.cancel.ensures.table ∙ ap (λ i. after_cancel c.self.inside.core.cells i) same in
+    let queues = sym (cancel_notice c.self.invariant.agree c.args.n c.in-Some.info found there) ∙ ap (λ i. cancel_queues c.self.inside.core.cells i) (sym same) ∙ sym c.in-None-cancel.ensures.notice in
+    let gone = dropped_by c.self.invariant.agree c.args.n c.in-Some.info found _ (ap (λ i. undropped_in (cell_at c.self.inside.core.cells i)) (sym same) ∙ sym c.is_undropped-undropped.ensures ∙ c.if-not-undropped.true) in
     rw (← c.self.view_is) (mark_dropped _ _ _ _ _ _ c.args.n c.in-Some.info found _ _ queues gone (ap (λ s. s.global) table ∙ cancel_global c.self.invariant.agree c.args.n c.in-Some.info found there))
 
 pub invariant_of-self-in-None-cancel : goal.invariant_of-self-in-None-cancel
@@ -55,8 +55,8 @@ invariant_of-self-in-None-cancel g c =
     let found = sym c.in-Some.ensures in
     let there : c.in-Some.info.has_handle ≡ true = sym (ap (λ o. (info_or o).has_handle) found) ∙ subst (λ w. (info c.args.n w).has_handle ≡ true) (sym c.self.view_is) c.requires.enabled in
     let same = c.id-id.ensures in
-    let table = c.cancel.ensures.table ∙ ap (λ i. after_cancel c.self.inside.cells i) same in
-    let gone = dropped_by c.self.invariant.agree c.args.n c.in-Some.info found _ (ap (λ i. undropped_in (cell_at c.self.inside.cells i)) (sym same) ∙ sym c.is_undropped-undropped.ensures ∙ c.if-not-undropped.false) in
+    let table = c.cancel.ensures.table ∙ ap (λ i. after_cancel c.self.inside.core.cells i) same in
+    let gone = dropped_by c.self.invariant.agree c.args.n c.in-Some.info found _ (ap (λ i. undropped_in (cell_at c.self.inside.core.cells i)) (sym same) ∙ sym c.is_undropped-undropped.ensures ∙ c.if-not-undropped.false) in
     record {
       agree = rw (table, c.push_reserved-in-None-cancel.ensures.items) (cancel_step c.self.invariant.agree c.args.n c.in-Some.info found there gone);
       room = room_step c.self.invariant.room (subst (λ w. w.accepted ≢ w.limit) (sym c.self.view_is) c.requires.room) _ _ _ _ (more _) (more _) (one_event _ _ _ c.push_reserved-in-None-cancel.ensures.items) (sym c.push_reserved-in-None-cancel.ensures.capacity);
@@ -67,7 +67,7 @@ returns-else-not-undropped g c =
     let found = sym c.in-Some.ensures in
     let there : c.in-Some.info.has_handle ≡ true = sym (ap (λ o. (info_or o).has_handle) found) ∙ subst (λ w. (info c.args.n w).has_handle ≡ true) (sym c.self.view_is) c.requires.enabled in
     let same = c.id-id.ensures in
-    let table = c.cancel.ensures.table ∙ ap (λ i. after_cancel c.self.inside.cells i) same in
-    let queues = sym (cancel_notice c.self.invariant.agree c.args.n c.in-Some.info found there) ∙ ap (λ i. cancel_queues c.self.inside.cells i) (sym same) ∙ sym c.in-None-cancel.ensures.notice in
-    let gone = dropped_by c.self.invariant.agree c.args.n c.in-Some.info found _ (ap (λ i. undropped_in (cell_at c.self.inside.cells i)) (sym same) ∙ sym c.is_undropped-undropped.ensures ∙ c.if-not-undropped.false) in
+    let table = c.cancel.ensures.table ∙ ap (λ i. after_cancel c.self.inside.core.cells i) same in
+    let queues = sym (cancel_notice c.self.invariant.agree c.args.n c.in-Some.info found there) ∙ ap (λ i. cancel_queues c.self.inside.core.cells i) (sym same) ∙ sym c.in-None-cancel.ensures.notice in
+    let gone = dropped_by c.self.invariant.agree c.args.n c.in-Some.info found _ (ap (λ i. undropped_in (cell_at c.self.inside.core.cells i)) (sym same) ∙ sym c.is_undropped-undropped.ensures ∙ c.if-not-undropped.false) in
     rw (← c.self.view_is) (mark_stays _ _ _ _ _ _ c.args.n c.in-Some.info found _ _ _ queues gone (ap (λ s. s.global) table ∙ cancel_global c.self.invariant.agree c.args.n c.in-Some.info found there) c.push_reserved-in-None-cancel.ensures.items)

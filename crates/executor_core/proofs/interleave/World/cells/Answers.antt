@@ -12,4 +12,4 @@ returns-clause-empty g c = (
 )
 
 pub returns-clause-handles : goal.returns-clause-handles
-returns-clause-handles g c = subst (λ w. HandlesAgree c.self.inside.cells w.log w.tasks) c.self.view_is (λ n i found there. handle_agrees c.self.invariant.agree n i found there)
+returns-clause-handles g c = subst (λ w. HandlesAgree c.self.inside.core.cells w.log w.tasks) c.self.view_is (λ n i found there. handle_agrees c.self.invariant.agree n i found there)

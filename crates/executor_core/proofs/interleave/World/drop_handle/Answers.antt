@@ -15,8 +15,8 @@ invariant_of-self g c =
     let there : c.in-Some.info.has_handle ≡ true = sym (ap (λ o. (info_or o).has_handle) found) ∙ subst (λ w. (info c.args.n w).has_handle ≡ true) (sym c.self.view_is) c.requires.enabled in
     let set = c.set_info.ensures ∙ ap (λ i. slice_set c.self.inside.tasks.items c.args.n i) (c.with_awaited.ensures ∙ ap (λ (i : TaskInfo). record i { awaited = false }) c.without_handle.ensures) in
     let same = c.id-id.ensures in
-    let table = c.drop_handle-notice.ensures.table ∙ ap (λ i. after_detach (after_cancel c.self.inside.cells i) i) same in
-    let queues = sym (cancel_notice c.self.invariant.agree c.args.n c.in-Some.info found there) ∙ ap (λ i. cancel_queues c.self.inside.cells i) (sym same) ∙ sym c.drop_handle-notice.ensures.notice ∙ ap is_some c.in-Some-notice.is in
+    let table = c.drop_handle-notice.ensures.table ∙ ap (λ i. after_detach (after_cancel c.self.inside.core.cells i) i) same in
+    let queues = sym (cancel_notice c.self.invariant.agree c.args.n c.in-Some.info found there) ∙ ap (λ i. cancel_queues c.self.inside.core.cells i) (sym same) ∙ sym c.drop_handle-notice.ensures.notice ∙ ap is_some c.in-Some-notice.is in
     let cancelled = cancel_step c.self.invariant.agree c.args.n c.in-Some.info found there (idle_undropped _ _ _ _ queues) in
     record {
       agree = rw (table, c.push_reserved.ensures.items) (detach_step cancelled c.args.n c.in-Some.info found there _ set);
@@ -29,8 +29,8 @@ returns-in-Some-notice g c =
     let there : c.in-Some.info.has_handle ≡ true = sym (ap (λ o. (info_or o).has_handle) found) ∙ subst (λ w. (info c.args.n w).has_handle ≡ true) (sym c.self.view_is) c.requires.enabled in
     let set = c.set_info.ensures ∙ ap (λ i. slice_set c.self.inside.tasks.items c.args.n i) (c.with_awaited.ensures ∙ ap (λ (i : TaskInfo). record i { awaited = false }) c.without_handle.ensures) in
     let same = c.id-id.ensures in
-    let table = c.drop_handle-notice.ensures.table ∙ ap (λ i. after_detach (after_cancel c.self.inside.cells i) i) same in
-    let queues = sym (cancel_notice c.self.invariant.agree c.args.n c.in-Some.info found there) ∙ ap (λ i. cancel_queues c.self.inside.cells i) (sym same) ∙ sym c.drop_handle-notice.ensures.notice ∙ ap is_some c.in-Some-notice.is in
+    let table = c.drop_handle-notice.ensures.table ∙ ap (λ i. after_detach (after_cancel c.self.inside.core.cells i) i) same in
+    let queues = sym (cancel_notice c.self.invariant.agree c.args.n c.in-Some.info found there) ∙ ap (λ i. cancel_queues c.self.inside.core.cells i) (sym same) ∙ sym c.drop_handle-notice.ensures.notice ∙ ap is_some c.in-Some-notice.is in
     let cancelled = cancel_step c.self.invariant.agree c.args.n c.in-Some.info found there (idle_undropped _ _ _ _ queues) in
     rw (← c.self.view_is) (drop_handle_queued _ _ _ _ _ _ c.args.n c.in-Some.info found _ _ _ queues (ap (λ s. s.global) table ∙ detach_global cancelled c.args.n c.in-Some.info found there ∙ cancel_global c.self.invariant.agree c.args.n c.in-Some.info found there) c.push_reserved.ensures.items set)
 
@@ -40,8 +40,8 @@ invariant_of-self-then-not-undropped g c =
     let there : c.in-Some.info.has_handle ≡ true = sym (ap (λ o. (info_or o).has_handle) found) ∙ subst (λ w. (info c.args.n w).has_handle ≡ true) (sym c.self.view_is) c.requires.enabled in
     let set = c.set_info.ensures ∙ ap (λ i. slice_set c.self.inside.tasks.items c.args.n i) (c.with_awaited.ensures ∙ ap (λ (i : TaskInfo). record i { awaited = false }) c.without_handle.ensures) in
     let same = c.id-id.ensures in
-    let table = c.drop_handle-notice.ensures.table ∙ ap (λ i. after_detach (after_cancel c.self.inside.cells i) i) same in
-    let gone = dropped_by c.self.invariant.agree c.args.n c.in-Some.info found _ (ap (λ i. undropped_in (cell_at c.self.inside.cells i)) (sym same) ∙ sym c.is_undropped-undropped.ensures ∙ c.if-not-undropped.true) in
+    let table = c.drop_handle-notice.ensures.table ∙ ap (λ i. after_detach (after_cancel c.self.inside.core.cells i) i) same in
+    let gone = dropped_by c.self.invariant.agree c.args.n c.in-Some.info found _ (ap (λ i. undropped_in (cell_at c.self.inside.core.cells i)) (sym same) ∙ sym c.is_undropped-undropped.ensures ∙ c.if-not-undropped.true) in
     let cancelled = cancel_ended c.self.invariant.agree c.args.n c.in-Some.info found there gone in
     record {
       agree = rw table (detach_step cancelled c.args.n c.in-Some.info found there _ set);
@@ -54,11 +54,11 @@ returns-then-not-undropped g c =
     let there : c.in-Some.info.has_handle ≡ true = sym (ap (λ o. (info_or o).has_handle) found) ∙ subst (λ w. (info c.args.n w).has_handle ≡ true) (sym c.self.view_is) c.requires.enabled in
     let set = c.set_info.ensures ∙ ap (λ i. slice_set c.self.inside.tasks.items c.args.n i) (c.with_awaited.ensures ∙ ap (λ (i : TaskInfo). record i { awaited = false }) c.without_handle.ensures) in
     let same = c.id-id.ensures in
-    let table = c.drop_handle-notice.ensures.table ∙ ap (λ i. after_detach (after_cancel c.self.inside.cells i) i) same in
-    let queues = sym (cancel_notice c.self.invariant.agree c.args.n c.in-Some.info found there) ∙ ap (λ i. cancel_queues c.self.inside.cells i) (sym same) ∙ sym c.drop_handle-notice.ensures.notice ∙ ap is_some c.in-None-notice.is in
-    let gone = dropped_by c.self.invariant.agree c.args.n c.in-Some.info found _ (ap (λ i. undropped_in (cell_at c.self.inside.cells i)) (sym same) ∙ sym c.is_undropped-undropped.ensures ∙ c.if-not-undropped.true) in
+    let table = c.drop_handle-notice.ensures.table ∙ ap (λ i. after_detach (after_cancel c.self.inside.core.cells i) i) same in
+    let queues = sym (cancel_notice c.self.invariant.agree c.args.n c.in-Some.info found there) ∙ ap (λ i. cancel_queues c.self.inside.core.cells i) (sym same) ∙ sym c.drop_handle-notice.ensures.notice ∙ ap is_some c.in-None-notice.is in
+    let gone = dropped_by c.self.invariant.agree c.args.n c.in-Some.info found _ (ap (λ i. undropped_in (cell_at c.self.inside.core.cells i)) (sym same) ∙ sym c.is_undropped-undropped.ensures ∙ c.if-not-undropped.true) in
     let cancelled = cancel_ended c.self.invariant.agree c.args.n c.in-Some.info found there gone in
-    let answer = c.drop_handle-notice.ensures.answer ∙ ap (λ i. detach_answer (cell_at c.self.inside.cells i)) same in
+    let answer = c.drop_handle-notice.ensures.answer ∙ ap (λ i. detach_answer (cell_at c.self.inside.core.cells i)) same in
     let output = ap (λ p. p.0) answer ∙ detach_output c.self.invariant.agree c.args.n c.in-Some.info found there in
     rw (← c.self.view_is, c.reply_of_output.ensures) (drop_handle_gives _ _ _ _ _ _ c.args.n c.in-Some.info found _ _ _ queues gone output (ap (λ s. s.global) table ∙ detach_global cancelled c.args.n c.in-Some.info found there ∙ cancel_global c.self.invariant.agree c.args.n c.in-Some.info found there) set)
 
@@ -68,8 +68,8 @@ invariant_of-self-in-None-notice g c =
     let there : c.in-Some.info.has_handle ≡ true = sym (ap (λ o. (info_or o).has_handle) found) ∙ subst (λ w. (info c.args.n w).has_handle ≡ true) (sym c.self.view_is) c.requires.enabled in
     let set = c.set_info.ensures ∙ ap (λ i. slice_set c.self.inside.tasks.items c.args.n i) (c.with_awaited.ensures ∙ ap (λ (i : TaskInfo). record i { awaited = false }) c.without_handle.ensures) in
     let same = c.id-id.ensures in
-    let table = c.drop_handle-notice.ensures.table ∙ ap (λ i. after_detach (after_cancel c.self.inside.cells i) i) same in
-    let gone = dropped_by c.self.invariant.agree c.args.n c.in-Some.info found _ (ap (λ i. undropped_in (cell_at c.self.inside.cells i)) (sym same) ∙ sym c.is_undropped-undropped.ensures ∙ c.if-not-undropped.false) in
+    let table = c.drop_handle-notice.ensures.table ∙ ap (λ i. after_detach (after_cancel c.self.inside.core.cells i) i) same in
+    let gone = dropped_by c.self.invariant.agree c.args.n c.in-Some.info found _ (ap (λ i. undropped_in (cell_at c.self.inside.core.cells i)) (sym same) ∙ sym c.is_undropped-undropped.ensures ∙ c.if-not-undropped.false) in
     let cancelled = cancel_step c.self.invariant.agree c.args.n c.in-Some.info found there gone in
     record {
       agree = rw (table, c.push_reserved-in-None-notice.ensures.items) (detach_step cancelled c.args.n c.in-Some.info found there _ set);
@@ -82,9 +82,9 @@ returns-else-not-undropped g c =
     let there : c.in-Some.info.has_handle ≡ true = sym (ap (λ o. (info_or o).has_handle) found) ∙ subst (λ w. (info c.args.n w).has_handle ≡ true) (sym c.self.view_is) c.requires.enabled in
     let set = c.set_info.ensures ∙ ap (λ i. slice_set c.self.inside.tasks.items c.args.n i) (c.with_awaited.ensures ∙ ap (λ (i : TaskInfo). record i { awaited = false }) c.without_handle.ensures) in
     let same = c.id-id.ensures in
-    let table = c.drop_handle-notice.ensures.table ∙ ap (λ i. after_detach (after_cancel c.self.inside.cells i) i) same in
-    let queues = sym (cancel_notice c.self.invariant.agree c.args.n c.in-Some.info found there) ∙ ap (λ i. cancel_queues c.self.inside.cells i) (sym same) ∙ sym c.drop_handle-notice.ensures.notice ∙ ap is_some c.in-None-notice.is in
-    let gone = dropped_by c.self.invariant.agree c.args.n c.in-Some.info found _ (ap (λ i. undropped_in (cell_at c.self.inside.cells i)) (sym same) ∙ sym c.is_undropped-undropped.ensures ∙ c.if-not-undropped.false) in
+    let table = c.drop_handle-notice.ensures.table ∙ ap (λ i. after_detach (after_cancel c.self.inside.core.cells i) i) same in
+    let queues = sym (cancel_notice c.self.invariant.agree c.args.n c.in-Some.info found there) ∙ ap (λ i. cancel_queues c.self.inside.core.cells i) (sym same) ∙ sym c.drop_handle-notice.ensures.notice ∙ ap is_some c.in-None-notice.is in
+    let gone = dropped_by c.self.invariant.agree c.args.n c.in-Some.info found _ (ap (λ i. undropped_in (cell_at c.self.inside.core.cells i)) (sym same) ∙ sym c.is_undropped-undropped.ensures ∙ c.if-not-undropped.false) in
     let cancelled = cancel_step c.self.invariant.agree c.args.n c.in-Some.info found there gone in
     let none = no_output c.self.invariant.agree c.args.n c.in-Some.info found there gone in
     rw (← c.self.view_is) (drop_handle_stays _ _ _ _ _ _ c.args.n c.in-Some.info found _ _ _ queues gone none (ap (λ s. s.global) table ∙ detach_global cancelled c.args.n c.in-Some.info found there ∙ cancel_global c.self.invariant.agree c.args.n c.in-Some.info found there) c.push_reserved-in-None-notice.ensures.items set)

@@ -18,8 +18,8 @@ invariant_of-self g c =
     let found = sym c.in-Some.ensures in
     let held_now : held c.args.n c.self.inside.log.items ≡ true = subst (λ w. held c.args.n w.log ≡ true) (sym c.self.view_is) (and_left _ _ c.requires.enabled) in
     let same = ap (λ h. h.id) c.poll_pending-future.ensures ∙ c.id-id.ensures in
-    let ours = ap (λ i. takes_back_in (cell_at c.self.inside.cells i)) (sym same) ∙ c.in-Back-Some.ensures.answer.0 in
-    let table = c.end_pending.ensures.table ∙ ap (λ i. after_end_pending c.self.inside.cells i c.poll_pending-future.result.1) same in
+    let ours = ap (λ i. takes_back_in (cell_at c.self.inside.core.cells i)) (sym same) ∙ c.in-Back-Some.ensures.answer.0 in
+    let table = c.end_pending.ensures.table ∙ ap (λ i. after_end_pending c.self.inside.core.cells i c.poll_pending-future.result.1) same in
     let step = pend_step c.self.invariant.agree c.args.n c.in-Some.info found held_now c.poll_pending-future.result.1 _ c.take_unpolled-future.ensures ours in
     record {
       agree = rw (table, c.push_reserved.ensures.items) step.holds;
@@ -31,8 +31,8 @@ invariant_of-self-in-Back-None g c =
     let found = sym c.in-Some.ensures in
     let held_now : held c.args.n c.self.inside.log.items ≡ true = subst (λ w. held c.args.n w.log ≡ true) (sym c.self.view_is) (and_left _ _ c.requires.enabled) in
     let same = ap (λ h. h.id) c.poll_pending-future.ensures ∙ c.id-id.ensures in
-    let ours = ap (λ i. takes_back_in (cell_at c.self.inside.cells i)) (sym same) ∙ c.in-Back-None.ensures.answer.0 in
-    let table = c.end_pending.ensures.table ∙ ap (λ i. after_end_pending c.self.inside.cells i c.poll_pending-future.result.1) same in
+    let ours = ap (λ i. takes_back_in (cell_at c.self.inside.core.cells i)) (sym same) ∙ c.in-Back-None.ensures.answer.0 in
+    let table = c.end_pending.ensures.table ∙ ap (λ i. after_end_pending c.self.inside.core.cells i c.poll_pending-future.result.1) same in
     let step = pend_step c.self.invariant.agree c.args.n c.in-Some.info found held_now c.poll_pending-future.result.1 _ c.take_unpolled-future.ensures ours in
     record {
       agree = rw (table, c.push_reserved-in-Back-None.ensures.items) step.holds;
@@ -54,8 +54,8 @@ invariant_of-self-in-Drop g c =
     let same = ap (λ h. h.id) c.poll_pending-future.ensures ∙ c.id-id.ensures in
     let outs = set_again _ _ _ _ _ _ c.take_unpolled-future.ensures c.replace_future.ensures.out in
     let set = c.set_info.ensures ∙ ap (λ i. slice_set c.self.inside.tasks.items c.args.n i) c.with_to_drop.ensures in
-    let ours = ap (λ i. takes_back_in (cell_at c.self.inside.cells i)) (sym same) ∙ c.in-Drop.ensures.answer.0 in
-    let table = c.end_pending.ensures.table ∙ ap (λ i. after_end_pending c.self.inside.cells i c.poll_pending-future.result.1) same in
+    let ours = ap (λ i. takes_back_in (cell_at c.self.inside.core.cells i)) (sym same) ∙ c.in-Drop.ensures.answer.0 in
+    let table = c.end_pending.ensures.table ∙ ap (λ i. after_end_pending c.self.inside.core.cells i c.poll_pending-future.result.1) same in
     let step = pend_drop c.self.invariant.agree c.args.n c.in-Some.info found held_now c.poll_pending-future.result.1 _ _ _ set outs ours in
     record {
       agree = rw table step.holds;
@@ -67,10 +67,10 @@ returns-in-Back-Some g c =
     let found = sym c.in-Some.ensures in
     let held_now : held c.args.n c.self.inside.log.items ≡ true = subst (λ w. held c.args.n w.log ≡ true) (sym c.self.view_is) (and_left _ _ c.requires.enabled) in
     let same = ap (λ h. h.id) c.poll_pending-future.ensures ∙ c.id-id.ensures in
-    let ours = ap (λ i. takes_back_in (cell_at c.self.inside.cells i)) (sym same) ∙ c.in-Back-Some.ensures.answer.0 in
-    let table = c.end_pending.ensures.table ∙ ap (λ i. after_end_pending c.self.inside.cells i c.poll_pending-future.result.1) same in
+    let ours = ap (λ i. takes_back_in (cell_at c.self.inside.core.cells i)) (sym same) ∙ c.in-Back-Some.ensures.answer.0 in
+    let table = c.end_pending.ensures.table ∙ ap (λ i. after_end_pending c.self.inside.core.cells i c.poll_pending-future.result.1) same in
     let step = pend_step c.self.invariant.agree c.args.n c.in-Some.info found held_now c.poll_pending-future.result.1 _ c.take_unpolled-future.ensures ours in
-    let woken = sym step.woken ∙ ap (λ i. woken_in (cell_at c.self.inside.cells i)) (sym same) ∙ sym c.in-Back-Some.ensures.answer.1 ∙ ap is_some c.in-Back-Some.field-0-is in
+    let woken = sym step.woken ∙ ap (λ i. woken_in (cell_at c.self.inside.core.cells i)) (sym same) ∙ sym c.in-Back-Some.ensures.answer.1 ∙ ap is_some c.in-Back-Some.field-0-is in
     rw (← c.self.view_is) (pend_queued _ _ _ _ _ _ c.args.n c.in-Some.info found _ _ step.cancelled woken (ap (λ s. s.global) table ∙ step.global) c.push_reserved.ensures.items)
 
 pub returns-in-Back-None : goal.returns-in-Back-None
@@ -78,10 +78,10 @@ returns-in-Back-None g c =
     let found = sym c.in-Some.ensures in
     let held_now : held c.args.n c.self.inside.log.items ≡ true = subst (λ w. held c.args.n w.log ≡ true) (sym c.self.view_is) (and_left _ _ c.requires.enabled) in
     let same = ap (λ h. h.id) c.poll_pending-future.ensures ∙ c.id-id.ensures in
-    let ours = ap (λ i. takes_back_in (cell_at c.self.inside.cells i)) (sym same) ∙ c.in-Back-None.ensures.answer.0 in
-    let table = c.end_pending.ensures.table ∙ ap (λ i. after_end_pending c.self.inside.cells i c.poll_pending-future.result.1) same in
+    let ours = ap (λ i. takes_back_in (cell_at c.self.inside.core.cells i)) (sym same) ∙ c.in-Back-None.ensures.answer.0 in
+    let table = c.end_pending.ensures.table ∙ ap (λ i. after_end_pending c.self.inside.core.cells i c.poll_pending-future.result.1) same in
     let step = pend_step c.self.invariant.agree c.args.n c.in-Some.info found held_now c.poll_pending-future.result.1 _ c.take_unpolled-future.ensures ours in
-    let woken = sym step.woken ∙ ap (λ i. woken_in (cell_at c.self.inside.cells i)) (sym same) ∙ sym c.in-Back-None.ensures.answer.1 ∙ ap is_some c.in-Back-None.field-0-is in
+    let woken = sym step.woken ∙ ap (λ i. woken_in (cell_at c.self.inside.core.cells i)) (sym same) ∙ sym c.in-Back-None.ensures.answer.1 ∙ ap is_some c.in-Back-None.field-0-is in
     rw (← c.self.view_is) (pend_idle _ _ _ _ _ _ c.args.n c.in-Some.info found _ _ step.cancelled woken (ap (λ s. s.global) table ∙ step.global) c.push_reserved-in-Back-None.ensures.items)
 
 pub returns-in-Drop : goal.returns-in-Drop
@@ -91,7 +91,7 @@ returns-in-Drop g c =
     let same = ap (λ h. h.id) c.poll_pending-future.ensures ∙ c.id-id.ensures in
     let outs = set_again _ _ _ _ _ _ c.take_unpolled-future.ensures c.replace_future.ensures.out in
     let set = c.set_info.ensures ∙ ap (λ i. slice_set c.self.inside.tasks.items c.args.n i) c.with_to_drop.ensures in
-    let ours = ap (λ i. takes_back_in (cell_at c.self.inside.cells i)) (sym same) ∙ c.in-Drop.ensures.answer.0 in
-    let table = c.end_pending.ensures.table ∙ ap (λ i. after_end_pending c.self.inside.cells i c.poll_pending-future.result.1) same in
+    let ours = ap (λ i. takes_back_in (cell_at c.self.inside.core.cells i)) (sym same) ∙ c.in-Drop.ensures.answer.0 in
+    let table = c.end_pending.ensures.table ∙ ap (λ i. after_end_pending c.self.inside.core.cells i c.poll_pending-future.result.1) same in
     let step = pend_drop c.self.invariant.agree c.args.n c.in-Some.info found held_now c.poll_pending-future.result.1 _ _ _ set outs ours in
     rw (← c.self.view_is) (pend_dropped _ _ _ _ _ _ c.args.n c.in-Some.info found _ _ step.cancelled (ap (λ s. s.global) table ∙ step.global) set)

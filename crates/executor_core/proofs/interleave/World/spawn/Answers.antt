@@ -21,5 +21,5 @@ pub returns : goal.returns
 returns g c =
     let tasks_is = push_items _ _ _ _ c.push_reserved.ensures.items c.try_reserve.ensures.items in
     let last = c.in-Ok.ensures.id ∙ c.self.invariant.agree.next in
-    let queue = ap (λ s. s.global) c.in-Ok.ensures.ok ∙ ap (λ k. c.self.inside.cells.global ++ k ∷ []) (sym c.in-Ok.ensures.id) in
+    let queue = ap (λ s. s.global) c.in-Ok.ensures.ok ∙ ap (λ k. c.self.inside.core.cells.global ++ k ∷ []) (sym c.in-Ok.ensures.id) in
     rw (← c.self.view_is) (inr (c.in-Ok.spawned.0.slot, free_slot c.self.invariant.agree c.in-Ok.spawned.0.slot c.in-Ok.ensures.free, ap Task last, spawn_row_is _ _ _ _ _ _ c.in-Ok.spawned.0.slot _ _ _ _ last queue c.push_reserved-3.ensures.items tasks_is))
