@@ -3,6 +3,7 @@ use Rattle.std.proofs.Common.{◌≡◌, ℕ, ◌+◌, Bool, true, false, List, 
 use Rattle.std.proofs.lemmas.Bool.{cases_Bool}
 use Rattle.std.specs.Prelude.{slice_get, slice_set}
 use Rattle.executor_core.specs.Execution.{Execution}
+use Rattle.executor_core.specs.Sleepers.{SleeperList}
 use Rattle.executor_core.specs.Log.{dropped, cancelled, idle, woken, outputs}
 use Rattle.executor_core.specs.Steps.{ready_reply, new_info, spawn_row, row, counted, mark_row, tick_row, pend_row, ready_row, dropped_row, handle_row, output_reply, detach_row, drop_handle_row}
 use Rattle.executor_core.specs.declared.interleave.tasks.TaskInfo.{TaskInfo}
@@ -11,12 +12,12 @@ use Rattle.executor_core.specs.declared.interleave.events.Event.{Event}
 use Rattle.executor_core.specs.declared.interleave.events.Event.TheVariants.{Spawned, Cancelled, Took, Returned, Finished, Dropped, Got}
 use Rattle.executor_core.specs.declared.interleave.steps.Reply.TheVariants as reply
 
-module _ {T : Type 0} (log : List (Event T)) (accepted limit : ℕ) (global : List ℕ) (notices : ℕ) (tasks : List TaskInfo) (n : ℕ) (i : TaskInfo) (found : slice_get tasks n ≡ Some i) where
+module _ {T : Type 0} (log : List (Event T)) (accepted limit : ℕ) (global : List ℕ) (notices picks : ℕ) (flag : Bool) (sleepers : SleeperList (Unit {0})) (tasks : List TaskInfo) (n : ℕ) (i : TaskInfo) (found : slice_get tasks n ≡ Some i) where
   abbrev pub world : Execution T
-  world = record { log = log; accepted = accepted; limit = limit; global = global; notices = notices; tasks = tasks }
+  world = record { log = log; accepted = accepted; limit = limit; global = global; notices = notices; picks = picks; flag = flag; sleepers = sleepers; tasks = tasks }
 
   abbrev pub then : List (Event T) → List ℕ → ℕ → List TaskInfo → Execution T
-  then more queue count later = record { log = more; accepted = accepted + 1; limit = limit; global = queue; notices = count; tasks = later }
+  then more queue count later = record { log = more; accepted = accepted + 1; limit = limit; global = queue; notices = count; picks = picks; flag = flag; sleepers = sleepers; tasks = later }
 
   pub mark_queued : (e : Event T) (queue : List ℕ) (more : List (Event T)) → idle n log ≡ true → queue ≡ cond (idle n log) (global ++ n ∷ []) global → more ≡ log ++ e ∷ []
       → row (mark_row e n world) reply.Notice (then more queue (notices + 1) tasks)
@@ -99,8 +100,8 @@ module _ {T : Type 0} (log : List (Event T)) (accepted limit : ℕ) (global : Li
       → later ≡ slice_set tasks n (record i { has_handle = false; awaited = false }) → row (drop_handle_row n world) (output_reply output) (then log queue notices later)
   drop_handle_gives output queue later now gone out queued set = rw (queued, now, gone, out, set, found) (refl, refl)
 
-module _ {T : Type 0} (log : List (Event T)) (accepted limit : ℕ) (global : List ℕ) (notices : ℕ) (tasks : List TaskInfo) where
+module _ {T : Type 0} (log : List (Event T)) (accepted limit : ℕ) (global : List ℕ) (notices picks : ℕ) (flag : Bool) (sleepers : SleeperList (Unit {0})) (tasks : List TaskInfo) where
   pub spawn_row_is : (slot k : ℕ) (queue : List ℕ) (more : List (Event T)) (later : List TaskInfo) → k ≡ length tasks → queue ≡ global ++ k ∷ [] → more ≡ log ++ Spawned k ∷ [] → later ≡ tasks ++ new_info slot ∷ []
-      → ◌≡◌ {A = Execution T} (record { log = more; accepted = accepted + 1; limit = limit; global = queue; notices = notices + 1; tasks = later })
-      (counted (spawn_row slot (record { log = log; accepted = accepted; limit = limit; global = global; notices = notices; tasks = tasks })))
+      → ◌≡◌ {A = Execution T} (record { log = more; accepted = accepted + 1; limit = limit; global = queue; notices = notices + 1; picks = picks; flag = flag; sleepers = sleepers; tasks = later })
+      (counted (spawn_row slot (record { log = log; accepted = accepted; limit = limit; global = global; notices = notices; picks = picks; flag = flag; sleepers = sleepers; tasks = tasks })))
   spawn_row_is slot k queue more later last queued is set = rw (queued, is, set, last) refl

@@ -160,10 +160,10 @@ module _ {P T : Type 0} where
   HandlesAgree table log tasks = (n : ℕ) (i : TaskInfo) → slice_get tasks n ≡ Some i → i.has_handle ≡ true → HandleAgrees table log (record { number = n; slot = i.slot })
 
 -- there is room for what the steps to come add
-pub record HasRoom (accepted limit notices tasks events room : ℕ) : Type 0 where
+pub record HasRoom (accepted limit unspent tasks events room : ℕ) : Type 0 where
   pub within : accepted ≤ limit
   pub bounded : limit ≤ 1000000
-  pub few_notices : notices ≤ accepted
+  pub few_unspent : unspent ≤ accepted
   pub few_tasks : tasks ≤ accepted
   pub few_events : events ≤ 2 * accepted
   pub enough : 3 * limit ≤ room

@@ -1,13 +1,15 @@
 -- Which step a world takes at a request, row by row.
-use Rattle.std.specs.Prelude.{◌≡◌, ◌≢◌, ◌⊎◌, ℕ, ◌+◌, Bool, true, false, List, [], ◌∷◌, ◌++◌, length, Option, Some, None, cond, ◌&&◌, ◌||◌, not, slice_get, slice_set}
+use Rattle.std.specs.Prelude.{◌≡◌, ◌≢◌, ◌⊎◌, ℕ, ◌+◌, ◌-◌, nat_lt, Bool, true, false, List, [], ◌∷◌, ◌++◌, length, Option, Some, None, cond, ◌&&◌, ◌||◌, not, slice_get, slice_set}
 use Rattle.executor_core.specs.Log.{spawned, dropped, cancelled, held, woken, idle, outputs}
+use Rattle.std.specs.Map.{keys_of}
 use Rattle.executor_core.specs.Execution.{Execution}
+use Rattle.executor_core.specs.SleepersCalls.{no_sleepers, last_of, all_unnotified, after_notify}
 use Rattle.executor_core.specs.declared.interleave.tasks.TaskInfo.{TaskInfo}
 use Rattle.executor_core.specs.declared.interleave.events.Purpose.TheVariants.{ToPoll, ToDrop}
 use Rattle.executor_core.specs.declared.interleave.events.Event.{Event}
 use Rattle.executor_core.specs.declared.interleave.events.Event.TheVariants.{Spawned, Woken, Cancelled, Took, Returned, Finished, Dropped, Got}
 use Rattle.executor_core.specs.declared.interleave.steps.Step.{Step}
-use Rattle.executor_core.specs.declared.interleave.steps.Step.TheVariants.{Spawn, Wake, TryTick, Pend, Ready, PollHandle, Cancel, Detach, DropHandle, Dropped as DropDone}
+use Rattle.executor_core.specs.declared.interleave.steps.Step.TheVariants.{Spawn, Wake, TryTick, Pend, Ready, PollHandle, Cancel, Detach, DropHandle, Dropped as DropDone, Exchange, Notify}
 use Rattle.executor_core.specs.declared.interleave.steps.Reply.{Reply}
 use Rattle.executor_core.specs.declared.interleave.steps.Reply.TheVariants as reply
 
@@ -25,7 +27,7 @@ new_info slot = record { slot = slot; has_handle = true; awaited = false; to_dro
 
 -- a world before its first step
 abbrev pub opening : {T : Type 0} → ℕ → Execution T
-opening limit = record { log = []; accepted = 0; limit = limit; global = []; notices = 0; tasks = [] }
+opening limit = record { log = []; accepted = 0; limit = limit; global = []; notices = 0; picks = 0; flag = true; sleepers = no_sleepers; tasks = [] }
 
 -- the words of the rows
 module _ {T : Type 0} where
@@ -123,6 +125,21 @@ module _ {T : Type 0} where
   abbrev pub drop_handle_row : ℕ → Execution T → Reply T × Execution T
   drop_handle_row n w = (cond (idle n w.log) reply.Notice (detach_row n w).0, (detach_row n (cancel_row n w).1).1)
 
+  -- exchange: a notice is spent, and a pick is out where the flag was false
+  abbrev pub exchange_row : Execution T → Reply T × Execution T
+  exchange_row w =
+      let spent = record w { notices = w.notices - 1; flag = true } in
+      cond w.flag (reply.Nothing, spent) (reply.Pick, record spent { picks = w.picks + 1 })
+
+  abbrev pub notify_reply : Option ℕ → Reply T
+  notify_reply None = reply.Nobody
+  notify_reply (Some i) = reply.Sleeper i
+
+  -- notify: a pick is spent, and the one who went to sleep last is notified, unless somebody is already
+  abbrev pub notify_row : Execution T → Reply T × Execution T
+  notify_row w =
+      (cond (all_unnotified w.sleepers) (notify_reply (last_of (keys_of w.sleepers.unnotified))) reply.Nobody, record w { picks = w.picks - 1; sleepers = after_notify w.sleepers })
+
 -- what a step does
 module _ {T : Type 0} where
   -- no task that is undropped or has its handle has this slot
@@ -151,6 +168,8 @@ module _ {P T : Type 0} where
   enabled (Detach n) w = (info n w).has_handle
   enabled (DropHandle n) w = (info n w).has_handle
   enabled (DropDone n) w = held n w.log && (info n w).to_drop
+  enabled Exchange w = nat_lt 0 w.notices
+  enabled Notify w = nat_lt 0 w.picks
 
   -- what an enabled step does
   abbrev pub Does : Step P T → Execution T → Reply T → Execution T → Type 0
@@ -164,6 +183,8 @@ module _ {P T : Type 0} where
   Does (Detach n) old answer new = row (detach_row n old) answer new
   Does (DropHandle n) old answer new = row (drop_handle_row n old) answer new
   Does (DropDone n) old answer new = row (dropped_row n old) answer new
+  Does Exchange old answer new = row (exchange_row old) answer new
+  Does Notify old answer new = row (notify_row old) answer new
 
   -- a step: refused where the log is full, else where it is not enabled, else done
   pub record StepTo (old : Execution T) (step : Step P T) (answer : Reply T) (new : Execution T) : Type 0 where

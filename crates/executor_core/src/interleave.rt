@@ -1,9 +1,12 @@
 //! A world: the steps of all parties of an executor in any order, and the log of what they did.
 //!
 //! A party may spawn, wake, take a task, end its poll, say that its future was dropped, or poll,
-//! cancel, detach or drop its handle. A `World` takes any list of such steps, of all parties, with
+//! cancel, detach or drop its handle, exchange the flag, or notify a sleeper. A `World` takes any list of such steps, of all parties, with
 //! steps of others between a take and the end of its poll. It makes each on its `Core`, and logs
 //! what happened to which task. A step that is not enabled is answered and changes nothing.
+//!
+//! The notices and the picks that the steps leave to be spent are kept as counts. Any party may spend
+//! one that is out, at any time: a notice by an exchange, a pick by a notification.
 //!
 //! The log alone says where a task stands: whether it was dropped, is held, is owed a poll or a
 //! drop, or is idle is read off the events. The contracts of `World::step` and `World::run` say
@@ -17,6 +20,7 @@ ghost use Rattle.executor_core.specs.Steps.{info, enabled, Spawns, row, wake_row
 
 pub(crate) mod events;
 pub(crate) mod handles;
+pub(crate) mod notices;
 pub(crate) mod script;
 pub(crate) mod steps;
 pub(crate) mod tasks;
@@ -35,7 +39,8 @@ use tasks::{FutureOut, find_info, has_future, replace_future, set_info, take_unp
 /// All parties of an executor, and the log of what they did.
 ///
 /// Futures are of type P and outputs of type T; wakers are units. A contract sees it as an
-/// `Execution`: the log, the global queue, and what the log does not say of a task.
+/// `Execution`: the log, the global queue, what is out to be spent, the flag and the sleepers, and
+/// what the log does not say of a task.
 #[derive(Drop)]
 pub struct World<P, T> {
     alloc: Global,
@@ -47,6 +52,7 @@ pub struct World<P, T> {
     // The futures that are out, each in the place of its task.
     out: Vec<Option<FutureOut<P>>>,
     notices: u32,
+    picks: u32,
 }
 
 impl<P, T> Model for World<P, T> {
@@ -84,6 +90,7 @@ impl<P: Drop, T: Copy> World<P, T> {
             tasks: Vec::new(alloc),
             out: Vec::new(alloc),
             notices: 0,
+            picks: 0,
         })
     }
 
@@ -131,6 +138,8 @@ impl<P: Drop, T: Copy> World<P, T> {
             Step::Detach(n) => self.has_handle(*n),
             Step::DropHandle(n) => self.has_handle(*n),
             Step::Dropped(n) => self.may_drop(*n),
+            Step::Exchange => self.notices > 0,
+            Step::Notify => self.picks > 0,
         }
     }
 
@@ -332,6 +341,8 @@ impl<P: Drop, T: Copy> World<P, T> {
             Step::Detach(n) => self.detach(n),
             Step::DropHandle(n) => self.drop_handle(n),
             Step::Dropped(n) => self.dropped(n),
+            Step::Exchange => self.exchange(),
+            Step::Notify => self.notify(),
         }
     }
 
@@ -410,6 +421,8 @@ impl<P: Drop, T: Copy> World<P, T> {
         ensures global { result.now.cells.global ≡ self.now.global }
         ensures empty { AllDropped result.now.cells ↔ EachDropped self.now.log }
         ensures handles { HandlesAgree result.now.cells self.now.log self.now.tasks }
+        ensures flag { result.now.flag ≡ self.now.flag }
+        ensures sleepers { result.now.sleepers ≡ self.now.sleepers }
     {
         &self.core
     }
@@ -421,17 +434,17 @@ impl<P: Drop, T: Copy> World<P, T> {
         &self.log
     }
 
-    /// How many notices were given out. No step spends one yet.
+    /// How many notices are out, still to be spent by an exchange of the flag.
     pub fn notices(&self) -> u32
         ensures { result ≡ self.now.notices }
     {
         self.notices
     }
 
-    /// How many picks are out. No step makes one yet.
+    /// How many picks are out, still to be spent by a notification of the sleepers.
     pub fn picks(&self) -> u32
-        ensures { result ≡ 0 }
+        ensures { result ≡ self.now.picks }
     {
-        0
+        self.picks
     }
 }

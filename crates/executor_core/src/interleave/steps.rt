@@ -1,6 +1,6 @@
 //! What a party asks of a world, and what is answered.
 ghost use Rattle.std.specs.Prelude.{◌≡◌, is_some};
-ghost use Rattle.executor_core.specs.Steps.{ready_reply, output_reply};
+ghost use Rattle.executor_core.specs.Steps.{ready_reply, output_reply, notify_reply};
 
 use crate::task::{EndReady, Wakeup};
 
@@ -27,6 +27,10 @@ pub enum Step<P, T> {
     DropHandle(u64),
     /// The future of this task, which was out to be dropped, was dropped.
     Dropped(u64),
+    /// A notice is spent: the flag is exchanged.
+    Exchange,
+    /// A pick is spent: a sleeper is notified.
+    Notify,
 }
 
 /// What a step answers.
@@ -61,6 +65,12 @@ pub enum Reply<T> {
     Cancelled,
     /// The handle is to be polled again.
     Pending,
+    /// The exchange turned the flag from false to true, and a pick is out.
+    Pick,
+    /// The sleeper of this number was notified.
+    Sleeper(u64),
+    /// Nobody was notified.
+    Nobody,
     /// Refused: the world took as many steps as it may.
     LogFull,
     /// Refused: the step is not enabled.
@@ -101,5 +111,15 @@ pub(crate) fn reply_of_output<T>(output: Option<T>) -> Reply<T>
     match output {
         Some(output) => Reply::Output(output),
         None => Reply::Nothing,
+    }
+}
+
+// The reply that says who was notified.
+pub(crate) fn reply_of_number<T>(number: Option<usize>) -> Reply<T>
+    ensures { result ≡ notify_reply number }
+{
+    match number {
+        Some(i) => Reply::Sleeper(i as u64),
+        None => Reply::Nobody,
     }
 }

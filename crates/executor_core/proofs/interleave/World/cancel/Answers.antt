@@ -4,7 +4,7 @@ use Rattle.executor_core.specs.Steps.{info, info_or}
 use Rattle.executor_core.proofs.StepLemmas.{dropped_by}
 use Rattle.executor_core.proofs.HandleLemmas.{idle_undropped, cancel_notice, cancel_global, cancel_step, cancel_ended}
 use Rattle.executor_core.proofs.RowLemmas.{mark_queued, mark_stays, mark_dropped}
-use Rattle.executor_core.proofs.RoomLemmas.{room_step, one_event, more, more_two, same_le}
+use Rattle.executor_core.proofs.RoomLemmas.{room_step, one_event, more, more_two, one_notice}
 use Rattle.executor_core.proofs.interleave.World.cancel.Goals as goal
 
 pub invariant_of-self : goal.invariant_of-self
@@ -16,7 +16,8 @@ invariant_of-self g c =
     let queues = sym (cancel_notice c.self.invariant.agree c.args.n c.in-Some.info found there) ∙ ap (λ i. cancel_queues c.self.inside.core.cells i) (sym same) ∙ sym c.in-Some-cancel.ensures.notice in
     record {
       agree = rw (table, c.push_reserved.ensures.items) (cancel_step c.self.invariant.agree c.args.n c.in-Some.info found there (idle_undropped _ _ _ _ queues));
-      room = room_step c.self.invariant.room (subst (λ w. w.accepted ≢ w.limit) (sym c.self.view_is) c.requires.room) _ _ _ _ (same_le _) (more _) (one_event _ _ _ c.push_reserved.ensures.items) (sym c.push_reserved.ensures.capacity);
+      nobody = c.cancel.ensures.rest.1 ∙ c.self.invariant.nobody;
+      room = room_step c.self.invariant.room (subst (λ w. w.accepted ≢ w.limit) (sym c.self.view_is) c.requires.room) _ _ _ _ (one_notice _ _) (more _) (one_event _ _ _ c.push_reserved.ensures.items) (sym c.push_reserved.ensures.capacity);
     }
 
 pub returns-in-Some-cancel : goal.returns-in-Some-cancel
@@ -26,7 +27,7 @@ returns-in-Some-cancel g c =
     let same = c.id-id.ensures in
     let table = c.cancel.ensures.table ∙ ap (λ i. after_cancel c.self.inside.core.cells i) same in
     let queues = sym (cancel_notice c.self.invariant.agree c.args.n c.in-Some.info found there) ∙ ap (λ i. cancel_queues c.self.inside.core.cells i) (sym same) ∙ sym c.in-Some-cancel.ensures.notice in
-    rw (← c.self.view_is) (mark_queued _ _ _ _ _ _ c.args.n c.in-Some.info found _ _ _ queues (ap (λ s. s.global) table ∙ cancel_global c.self.invariant.agree c.args.n c.in-Some.info found there) c.push_reserved.ensures.items)
+    rw (← c.self.view_is, c.cancel.ensures.rest.0, c.cancel.ensures.rest.1) (mark_queued _ _ _ _ _ _ _ _ _ c.args.n c.in-Some.info found _ _ _ queues (ap (λ s. s.global) table ∙ cancel_global c.self.invariant.agree c.args.n c.in-Some.info found there) c.push_reserved.ensures.items)
 
 pub invariant_of-self-then-not-undropped : goal.invariant_of-self-then-not-undropped
 invariant_of-self-then-not-undropped g c =
@@ -37,6 +38,7 @@ invariant_of-self-then-not-undropped g c =
     let gone = dropped_by c.self.invariant.agree c.args.n c.in-Some.info found _ (ap (λ i. undropped_in (cell_at c.self.inside.core.cells i)) (sym same) ∙ sym c.is_undropped-undropped.ensures ∙ c.if-not-undropped.true) in
     record {
       agree = rw table (cancel_ended c.self.invariant.agree c.args.n c.in-Some.info found there gone);
+      nobody = c.cancel.ensures.rest.1 ∙ c.self.invariant.nobody;
       room = room_step c.self.invariant.room (subst (λ w. w.accepted ≢ w.limit) (sym c.self.view_is) c.requires.room) _ _ _ _ (more _) (more _) (more_two _) refl;
     }
 
@@ -48,7 +50,7 @@ returns-then-not-undropped g c =
     let table = c.cancel.ensures.table ∙ ap (λ i. after_cancel c.self.inside.core.cells i) same in
     let queues = sym (cancel_notice c.self.invariant.agree c.args.n c.in-Some.info found there) ∙ ap (λ i. cancel_queues c.self.inside.core.cells i) (sym same) ∙ sym c.in-None-cancel.ensures.notice in
     let gone = dropped_by c.self.invariant.agree c.args.n c.in-Some.info found _ (ap (λ i. undropped_in (cell_at c.self.inside.core.cells i)) (sym same) ∙ sym c.is_undropped-undropped.ensures ∙ c.if-not-undropped.true) in
-    rw (← c.self.view_is) (mark_dropped _ _ _ _ _ _ c.args.n c.in-Some.info found _ _ queues gone (ap (λ s. s.global) table ∙ cancel_global c.self.invariant.agree c.args.n c.in-Some.info found there))
+    rw (← c.self.view_is, c.cancel.ensures.rest.0, c.cancel.ensures.rest.1) (mark_dropped _ _ _ _ _ _ _ _ _ c.args.n c.in-Some.info found _ _ queues gone (ap (λ s. s.global) table ∙ cancel_global c.self.invariant.agree c.args.n c.in-Some.info found there))
 
 pub invariant_of-self-in-None-cancel : goal.invariant_of-self-in-None-cancel
 invariant_of-self-in-None-cancel g c =
@@ -59,6 +61,7 @@ invariant_of-self-in-None-cancel g c =
     let gone = dropped_by c.self.invariant.agree c.args.n c.in-Some.info found _ (ap (λ i. undropped_in (cell_at c.self.inside.core.cells i)) (sym same) ∙ sym c.is_undropped-undropped.ensures ∙ c.if-not-undropped.false) in
     record {
       agree = rw (table, c.push_reserved-in-None-cancel.ensures.items) (cancel_step c.self.invariant.agree c.args.n c.in-Some.info found there gone);
+      nobody = c.cancel.ensures.rest.1 ∙ c.self.invariant.nobody;
       room = room_step c.self.invariant.room (subst (λ w. w.accepted ≢ w.limit) (sym c.self.view_is) c.requires.room) _ _ _ _ (more _) (more _) (one_event _ _ _ c.push_reserved-in-None-cancel.ensures.items) (sym c.push_reserved-in-None-cancel.ensures.capacity);
     }
 
@@ -70,4 +73,4 @@ returns-else-not-undropped g c =
     let table = c.cancel.ensures.table ∙ ap (λ i. after_cancel c.self.inside.core.cells i) same in
     let queues = sym (cancel_notice c.self.invariant.agree c.args.n c.in-Some.info found there) ∙ ap (λ i. cancel_queues c.self.inside.core.cells i) (sym same) ∙ sym c.in-None-cancel.ensures.notice in
     let gone = dropped_by c.self.invariant.agree c.args.n c.in-Some.info found _ (ap (λ i. undropped_in (cell_at c.self.inside.core.cells i)) (sym same) ∙ sym c.is_undropped-undropped.ensures ∙ c.if-not-undropped.false) in
-    rw (← c.self.view_is) (mark_stays _ _ _ _ _ _ c.args.n c.in-Some.info found _ _ _ queues gone (ap (λ s. s.global) table ∙ cancel_global c.self.invariant.agree c.args.n c.in-Some.info found there) c.push_reserved-in-None-cancel.ensures.items)
+    rw (← c.self.view_is, c.cancel.ensures.rest.0, c.cancel.ensures.rest.1) (mark_stays _ _ _ _ _ _ _ _ _ c.args.n c.in-Some.info found _ _ _ queues gone (ap (λ s. s.global) table ∙ cancel_global c.self.invariant.agree c.args.n c.in-Some.info found there) c.push_reserved-in-None-cancel.ensures.items)

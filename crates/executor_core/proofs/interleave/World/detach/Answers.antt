@@ -16,6 +16,7 @@ invariant_of-self g c =
     let table = c.detach-output.ensures.table ∙ ap (λ i. after_detach c.self.inside.core.cells i) c.id.ensures in
     record {
       agree = rw table (detach_step c.self.invariant.agree c.args.n c.in-Some.info found there _ set);
+      nobody = c.detach-output.ensures.rest.1 ∙ c.self.invariant.nobody;
       room = room_step c.self.invariant.room (subst (λ w. w.accepted ≢ w.limit) (sym c.self.view_is) c.requires.room) _ _ _ _ (more _) (tasks_same _ _ _ _ set) (more_two _) refl;
     }
 
@@ -27,4 +28,4 @@ returns g c =
     let table = c.detach-output.ensures.table ∙ ap (λ i. after_detach c.self.inside.core.cells i) c.id.ensures in
     let answer = c.detach-output.ensures.answer ∙ ap (λ i. detach_answer (cell_at c.self.inside.core.cells i)) c.id.ensures in
     let output = ap (λ p. p.0) answer ∙ detach_output c.self.invariant.agree c.args.n c.in-Some.info found there in
-    rw (← c.self.view_is, c.reply_of_output.ensures) (detach_gives _ _ _ _ _ _ c.args.n c.in-Some.info found _ _ _ output (ap (λ s. s.global) table ∙ detach_global c.self.invariant.agree c.args.n c.in-Some.info found there) set)
+    rw (← c.self.view_is, c.detach-output.ensures.rest.0, c.detach-output.ensures.rest.1, c.reply_of_output.ensures) (detach_gives _ _ _ _ _ _ _ _ _ c.args.n c.in-Some.info found _ _ _ output (ap (λ s. s.global) table ∙ detach_global c.self.invariant.agree c.args.n c.in-Some.info found there) set)

@@ -18,6 +18,7 @@ invariant_of-self g c =
     let step = drop_step c.self.invariant.agree c.args.n c.in-Some.info found held_now _ _ set c.replace_future.ensures.out in
     record {
       agree = rw (table, c.push_reserved.ensures.items) step.holds;
+      nobody = c.end_dropped-awaiter.ensures.rest.1 ∙ c.self.invariant.nobody;
       room = room_step c.self.invariant.room (subst (λ w. w.accepted ≢ w.limit) (sym c.self.view_is) c.requires.room) _ _ _ _ (more _) (tasks_same _ _ _ _ set) (one_event _ _ _ c.push_reserved.ensures.items) (sym c.push_reserved.ensures.capacity);
     }
 
@@ -30,4 +31,4 @@ returns g c =
     let table = c.end_dropped-awaiter.ensures.table ∙ ap (λ i. after_end_dropped c.self.inside.core.cells i) same in
     let answer = c.end_dropped-awaiter.ensures.answer ∙ ap (λ i. dropped_answer (cell_at c.self.inside.core.cells i)) same in
     let step = drop_step c.self.invariant.agree c.args.n c.in-Some.info found held_now _ _ set c.replace_future.ensures.out in
-    rw (← c.self.view_is) (dropped_gone _ _ _ _ _ _ c.args.n c.in-Some.info found _ _ _ _ (c.has_awaiter.ensures ∙ ap is_some answer ∙ step.awaiter) (ap (λ s. s.global) table ∙ step.global) c.push_reserved.ensures.items set)
+    rw (← c.self.view_is, c.end_dropped-awaiter.ensures.rest.0, c.end_dropped-awaiter.ensures.rest.1) (dropped_gone _ _ _ _ _ _ _ _ _ c.args.n c.in-Some.info found _ _ _ _ (c.has_awaiter.ensures ∙ ap is_some answer ∙ step.awaiter) (ap (λ s. s.global) table ∙ step.global) c.push_reserved.ensures.items set)

@@ -6,7 +6,7 @@ use Rattle.executor_core.specs.Calls.{cell_at, takes_back_in, woken_in, after_en
 use Rattle.executor_core.proofs.ListLemmas.{set_again, within_get, length-slice_set}
 use Rattle.executor_core.proofs.StepLemmas.{pend_step, pend_drop, and_left, unpolled_there, place_there}
 use Rattle.executor_core.proofs.RowLemmas.{pend_queued, pend_idle, pend_dropped}
-use Rattle.executor_core.proofs.RoomLemmas.{room_step, one_event, more, more_two, same_le, tasks_same}
+use Rattle.executor_core.proofs.RoomLemmas.{room_step, one_event, more, more_two, one_notice, tasks_same}
 use Rattle.executor_core.proofs.interleave.World.pend.Goals as goal
 
 pub take_unpolled-future-requires : goal.take_unpolled-future-requires
@@ -23,7 +23,8 @@ invariant_of-self g c =
     let step = pend_step c.self.invariant.agree c.args.n c.in-Some.info found held_now c.poll_pending-future.result.1 _ c.take_unpolled-future.ensures ours in
     record {
       agree = rw (table, c.push_reserved.ensures.items) step.holds;
-      room = room_step c.self.invariant.room (subst (λ w. w.accepted ≢ w.limit) (sym c.self.view_is) c.requires.room) _ _ _ _ (same_le _) (more _) (one_event _ _ _ c.push_reserved.ensures.items) (sym c.push_reserved.ensures.capacity);
+      nobody = c.end_pending.ensures.rest.1 ∙ c.self.invariant.nobody;
+      room = room_step c.self.invariant.room (subst (λ w. w.accepted ≢ w.limit) (sym c.self.view_is) c.requires.room) _ _ _ _ (one_notice _ _) (more _) (one_event _ _ _ c.push_reserved.ensures.items) (sym c.push_reserved.ensures.capacity);
     }
 
 pub invariant_of-self-in-Back-None : goal.invariant_of-self-in-Back-None
@@ -36,6 +37,7 @@ invariant_of-self-in-Back-None g c =
     let step = pend_step c.self.invariant.agree c.args.n c.in-Some.info found held_now c.poll_pending-future.result.1 _ c.take_unpolled-future.ensures ours in
     record {
       agree = rw (table, c.push_reserved-in-Back-None.ensures.items) step.holds;
+      nobody = c.end_pending.ensures.rest.1 ∙ c.self.invariant.nobody;
       room = room_step c.self.invariant.room (subst (λ w. w.accepted ≢ w.limit) (sym c.self.view_is) c.requires.room) _ _ _ _ (more _) (more _) (one_event _ _ _ c.push_reserved-in-Back-None.ensures.items) (sym c.push_reserved-in-Back-None.ensures.capacity);
     }
 
@@ -59,6 +61,7 @@ invariant_of-self-in-Drop g c =
     let step = pend_drop c.self.invariant.agree c.args.n c.in-Some.info found held_now c.poll_pending-future.result.1 _ _ _ set outs ours in
     record {
       agree = rw table step.holds;
+      nobody = c.end_pending.ensures.rest.1 ∙ c.self.invariant.nobody;
       room = room_step c.self.invariant.room (subst (λ w. w.accepted ≢ w.limit) (sym c.self.view_is) c.requires.room) _ _ _ _ (more _) (tasks_same _ _ _ _ set) (more_two _) refl;
     }
 
@@ -71,7 +74,7 @@ returns-in-Back-Some g c =
     let table = c.end_pending.ensures.table ∙ ap (λ i. after_end_pending c.self.inside.core.cells i c.poll_pending-future.result.1) same in
     let step = pend_step c.self.invariant.agree c.args.n c.in-Some.info found held_now c.poll_pending-future.result.1 _ c.take_unpolled-future.ensures ours in
     let woken = sym step.woken ∙ ap (λ i. woken_in (cell_at c.self.inside.core.cells i)) (sym same) ∙ sym c.in-Back-Some.ensures.answer.1 ∙ ap is_some c.in-Back-Some.field-0-is in
-    rw (← c.self.view_is) (pend_queued _ _ _ _ _ _ c.args.n c.in-Some.info found _ _ step.cancelled woken (ap (λ s. s.global) table ∙ step.global) c.push_reserved.ensures.items)
+    rw (← c.self.view_is, c.end_pending.ensures.rest.0, c.end_pending.ensures.rest.1) (pend_queued _ _ _ _ _ _ _ _ _ c.args.n c.in-Some.info found _ _ step.cancelled woken (ap (λ s. s.global) table ∙ step.global) c.push_reserved.ensures.items)
 
 pub returns-in-Back-None : goal.returns-in-Back-None
 returns-in-Back-None g c =
@@ -82,7 +85,7 @@ returns-in-Back-None g c =
     let table = c.end_pending.ensures.table ∙ ap (λ i. after_end_pending c.self.inside.core.cells i c.poll_pending-future.result.1) same in
     let step = pend_step c.self.invariant.agree c.args.n c.in-Some.info found held_now c.poll_pending-future.result.1 _ c.take_unpolled-future.ensures ours in
     let woken = sym step.woken ∙ ap (λ i. woken_in (cell_at c.self.inside.core.cells i)) (sym same) ∙ sym c.in-Back-None.ensures.answer.1 ∙ ap is_some c.in-Back-None.field-0-is in
-    rw (← c.self.view_is) (pend_idle _ _ _ _ _ _ c.args.n c.in-Some.info found _ _ step.cancelled woken (ap (λ s. s.global) table ∙ step.global) c.push_reserved-in-Back-None.ensures.items)
+    rw (← c.self.view_is, c.end_pending.ensures.rest.0, c.end_pending.ensures.rest.1) (pend_idle _ _ _ _ _ _ _ _ _ c.args.n c.in-Some.info found _ _ step.cancelled woken (ap (λ s. s.global) table ∙ step.global) c.push_reserved-in-Back-None.ensures.items)
 
 pub returns-in-Drop : goal.returns-in-Drop
 returns-in-Drop g c =
@@ -94,4 +97,4 @@ returns-in-Drop g c =
     let ours = ap (λ i. takes_back_in (cell_at c.self.inside.core.cells i)) (sym same) ∙ c.in-Drop.ensures.answer.0 in
     let table = c.end_pending.ensures.table ∙ ap (λ i. after_end_pending c.self.inside.core.cells i c.poll_pending-future.result.1) same in
     let step = pend_drop c.self.invariant.agree c.args.n c.in-Some.info found held_now c.poll_pending-future.result.1 _ _ _ set outs ours in
-    rw (← c.self.view_is) (pend_dropped _ _ _ _ _ _ c.args.n c.in-Some.info found _ _ step.cancelled (ap (λ s. s.global) table ∙ step.global) set)
+    rw (← c.self.view_is, c.end_pending.ensures.rest.0, c.end_pending.ensures.rest.1) (pend_dropped _ _ _ _ _ _ _ _ _ c.args.n c.in-Some.info found _ _ step.cancelled (ap (λ s. s.global) table ∙ step.global) set)

@@ -29,6 +29,7 @@ invariant_of-self g c =
     let step = ready_cancelled c.self.invariant.agree c.args.n c.in-Some.info found held_now c.args.output _ _ set c.take_unpolled-future.ensures cancel in
     record {
       agree = rw (table, c.push_reserved.ensures.items) step.holds;
+      nobody = c.end_ready-ended.ensures.rest.1 ∙ c.self.invariant.nobody;
       room = room_step c.self.invariant.room (subst (λ w. w.accepted ≢ w.limit) (sym c.self.view_is) c.requires.room) _ _ _ _ (more _) (tasks_same _ _ _ _ set) (one_event _ _ _ c.push_reserved.ensures.items) (sym c.push_reserved.ensures.capacity);
     }
 
@@ -45,6 +46,7 @@ invariant_of-self-2 g c =
     let same = ap (λ p. p.1) c.poll_ready-output.ensures in
     record {
       agree = rw (table, c.push_reserved-3.ensures.items, c.push_reserved-2.ensures.items, same) step.holds;
+      nobody = c.end_ready-ended.ensures.rest.1 ∙ c.self.invariant.nobody;
       room = room_step c.self.invariant.room (subst (λ w. w.accepted ≢ w.limit) (sym c.self.view_is) c.requires.room) _ _ _ _ (more _) (tasks_same _ _ _ _ set) (two_events _ _ _ _ _ c.push_reserved-2.ensures.items c.push_reserved-3.ensures.items) (sym (c.push_reserved-3.ensures.capacity ∙ c.push_reserved-2.ensures.capacity));
     }
 
@@ -58,7 +60,7 @@ returns-then-cancelled g c =
     let answer = c.end_ready-ended.ensures.answer ∙ ap (λ p. ready_answer p.1 (cell_at c.self.inside.core.cells p.0.id)) handed in
     let cancel = sym (cancelled_is c.self.invariant.agree c.args.n c.in-Some.info found held_now) ∙ ap (λ i. cancelled_in (cell_at c.self.inside.core.cells i)) (sym c.id-id.ensures) ∙ sym c.is_cancelled-cancelled.ensures ∙ c.if-cancelled.true in
     let step = ready_cancelled c.self.invariant.agree c.args.n c.in-Some.info found held_now c.args.output _ _ set c.take_unpolled-future.ensures cancel in
-    rw (← c.self.view_is, c.reply_of.ensures) (ready_unwanted _ _ _ _ _ _ c.args.n c.in-Some.info found c.args.output _ _ _ _ _ cancel (ap (λ a. is_some a.awaiter) answer ∙ step.awaiter) (ap (λ a. a.unwanted) answer ∙ step.unwanted) (ap (λ s. s.global) table ∙ step.global) c.push_reserved.ensures.items set)
+    rw (← c.self.view_is, c.end_ready-ended.ensures.rest.0, c.end_ready-ended.ensures.rest.1, c.reply_of.ensures) (ready_unwanted _ _ _ _ _ _ _ _ _ c.args.n c.in-Some.info found c.args.output _ _ _ _ _ cancel (ap (λ a. is_some a.awaiter) answer ∙ step.awaiter) (ap (λ a. a.unwanted) answer ∙ step.unwanted) (ap (λ s. s.global) table ∙ step.global) c.push_reserved.ensures.items set)
 
 pub returns : goal.returns
 returns g c =
@@ -72,4 +74,4 @@ returns g c =
     let step = ready_step c.self.invariant.agree c.args.n c.in-Some.info found held_now c.args.output _ _ set c.take_unpolled-future.ensures cancel in
     let same = ap (λ p. p.1) c.poll_ready-output.ensures in
     let log_is = push_items _ _ _ _ c.push_reserved-3.ensures.items c.push_reserved-2.ensures.items in
-    rw (← c.self.view_is, c.reply_of-2.ensures) (ready_finished _ _ _ _ _ _ c.args.n c.in-Some.info found c.args.output _ _ _ _ _ cancel (ap (λ a. is_some a.awaiter) answer ∙ step.awaiter) (ap (λ a. a.unwanted) answer ∙ step.unwanted) (ap (λ s. s.global) table ∙ step.global) (log_is ∙ ap (λ t. (c.self.inside.log.items ++ Finished c.args.n t ∷ []) ++ Dropped c.args.n ∷ []) same) set)
+    rw (← c.self.view_is, c.end_ready-ended.ensures.rest.0, c.end_ready-ended.ensures.rest.1, c.reply_of-2.ensures) (ready_finished _ _ _ _ _ _ _ _ _ c.args.n c.in-Some.info found c.args.output _ _ _ _ _ cancel (ap (λ a. is_some a.awaiter) answer ∙ step.awaiter) (ap (λ a. a.unwanted) answer ∙ step.unwanted) (ap (λ s. s.global) table ∙ step.global) (log_is ∙ ap (λ t. (c.self.inside.log.items ++ Finished c.args.n t ∷ []) ++ Dropped c.args.n ∷ []) same) set)
