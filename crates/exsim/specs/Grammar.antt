@@ -22,6 +22,8 @@ word_of (Step (step.Cancel _)) = codes "cancel"
 word_of (Step (step.Detach _)) = codes "detach"
 word_of (Step (step.DropHandle _)) = codes "drophandle"
 word_of (Step (step.Dropped _)) = codes "dropped"
+word_of (Step step.Exchange) = codes "exchange"
+word_of (Step step.Notify) = codes "notify"
 
 -- the numbers behind it
 abbrev pub numbers_of : Command → List ℕ
@@ -36,6 +38,8 @@ numbers_of (Step (step.Cancel n)) = n ∷ []
 numbers_of (Step (step.Detach n)) = n ∷ []
 numbers_of (Step (step.DropHandle n)) = n ∷ []
 numbers_of (Step (step.Dropped n)) = n ∷ []
+numbers_of (Step step.Exchange) = []
+numbers_of (Step step.Notify) = []
 
 -- each number in decimal, after one space
 abbrev pub spaced : List ℕ → List ℕ

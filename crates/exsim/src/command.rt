@@ -52,6 +52,8 @@ fn command_from(word: &str, arguments: Arguments) -> Option<Command>
         ("detach", Arguments::One(n)) => Step::Detach(n),
         ("drophandle", Arguments::One(n)) => Step::DropHandle(n),
         ("dropped", Arguments::One(n)) => Step::Dropped(n),
+        ("exchange", Arguments::None) => Step::Exchange,
+        ("notify", Arguments::None) => Step::Notify,
         _ => return None,
     };
     Some(Command::Step(step))
