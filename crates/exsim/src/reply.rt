@@ -34,6 +34,9 @@ impl fmt::Display for ReplyText {
             } => write!(f, "unwanted {output} awaiter"),
             Reply::Gone { awaiter: false } => f.write_str("gone"),
             Reply::Gone { awaiter: true } => f.write_str("gone awaiter"),
+            Reply::Pick => f.write_str("pick"),
+            Reply::Sleeper(i) => write!(f, "sleeper {i}"),
+            Reply::Nobody => f.write_str("nobody"),
             Reply::Output(output) => write!(f, "output {output}"),
             Reply::Cancelled => f.write_str("cancelled"),
             Reply::Pending => f.write_str("pending"),
@@ -44,8 +47,8 @@ impl fmt::Display for ReplyText {
     }
 }
 
-/// The state of a world as `show` prints it. Local queues, the flag and the sleepers aren't part of
-/// a world yet, and stand as they open.
+/// The state of a world as `show` prints it. Local queues aren't part of a world yet, and stand as
+/// they open.
 #[derive(Drop)]
 pub struct StateText<'a>(pub &'a World<(), u64>);
 
@@ -62,10 +65,14 @@ impl fmt::Display for StateText<'_> {
                 write!(f, "{n}")?;
             }
         }
-        let (notices, picks, undropped) = (world.notices(), world.picks(), cells.undropped());
+        let state = world.state();
+        let (flag, sleepers) = (state.flag().get(), state.sleepers());
+        let (numbers, notified) = (sleepers.numbers(), sleepers.notified());
         write!(
             f,
-            "] locals [] flag true numbers 0 notified 0 notices {notices} picks {picks} undropped {undropped}"
-        )
+            "] locals [] flag {flag} numbers {numbers} notified {notified} "
+        )?;
+        let (notices, picks, undropped) = (world.notices(), world.picks(), cells.undropped());
+        write!(f, "notices {notices} picks {picks} undropped {undropped}")
     }
 }
