@@ -8,6 +8,7 @@ pub mod EndReadyLemmas
 pub mod HandleLemmas
 pub mod ListLemmas
 pub mod LogLemmas
+pub mod NoticeLemmas
 pub mod RemoveLemmas
 pub mod RoomLemmas
 pub mod RowLemmas

@@ -1,6 +1,8 @@
--- What holds of every log, and of the queue beside it.
-use Rattle.std.specs.Prelude.{◌≡◌, ℕ, ◌+◌, ◌≤◌, true, false, List, [], ◌∷◌, ◌++◌, cond}
+-- What holds of every log, and of the queue, the flag and the sleepers beside it.
+use Rattle.std.specs.Prelude.{◌≡◌, ◌≢◌, ℕ, ◌+◌, ◌<◌, ◌≤◌, nat_lt, Bool, true, false, ◌||◌, List, [], ◌∷◌, ◌++◌, length, cond}
+use Rattle.std.specs.FinSet as set
 use Rattle.executor_core.specs.States.{times}
+use Rattle.executor_core.specs.Sleepers.{SleeperList, is_notified}
 use Rattle.executor_core.specs.Log.{cancelled, held, dropped, owed, outputs, given, polls, wakes}
 use Rattle.executor_core.specs.declared.interleave.events.Purpose.TheVariants.{ToPoll, ToDrop}
 use Rattle.executor_core.specs.declared.interleave.events.Event.{Event}
@@ -31,3 +33,17 @@ module _ {T : Type 0} where
   -- a task is polled at most once more than it was woken
   abbrev pub FewPolls : List (Event T) → Type 0
   FewPolls log = (n : ℕ) → polls n log ≤ 1 + wakes n log
+
+-- no notice is lost
+module _ {W : Type 0} where
+  -- where the flag is true, no number is in use, or one is notified, or a pick is out
+  abbrev pub FlagLaw : Bool → SleeperList W → ℕ → Type 0
+  FlagLaw flag sleepers picks = flag ≡ true → is_notified sleepers || nat_lt 0 picks ≡ true
+
+  -- more numbers are in use than stand in the list
+  abbrev pub some_notified : SleeperList W → Bool
+  some_notified sleepers = nat_lt (length sleepers.unnotified) (set.len sleepers.used)
+
+  -- where the queue is not empty and a number is in use, one is notified, or a notice or a pick is out
+  abbrev pub Covered : List ℕ → SleeperList W → ℕ → ℕ → Type 0
+  Covered queue sleepers notices picks = queue ≢ [] → 0 < set.len sleepers.used → some_notified sleepers || nat_lt 0 notices || nat_lt 0 picks ≡ true

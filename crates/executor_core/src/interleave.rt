@@ -10,12 +10,14 @@
 //!
 //! The log alone says where a task stands: whether it was dropped, is held, is owed a poll or a
 //! drop, or is idle is read off the events. The contracts of `World::step` and `World::run` say
-//! that the queue and the futures that are out agree with the log after every list of steps.
+//! that the queue and the futures that are out agree with the log after every list of steps, and that
+//! no notice is lost: where a task is queued and somebody sleeps, one is notified, or a notice or a
+//! pick is out.
 ghost use Rattle.std.specs.Prelude.{◌≡◌, ◌≢◌, ◌≤◌, ◌&&◌, ◌||◌, ◌↔◌, not, ℕ, true, length, IfOk, OnErr, slice_get, Some};
 ghost use Rattle.executor_core.specs.Agreement.{HandlesAgree};
 ghost use Rattle.executor_core.specs.Calls.{AllDropped};
 ghost use Rattle.executor_core.specs.Log.{spawned, held, owed, idle, EachDropped};
-ghost use Rattle.executor_core.specs.Promises.{OnePlace, InOrder, FewPolls};
+ghost use Rattle.executor_core.specs.Promises.{OnePlace, InOrder, FewPolls, FlagLaw, Covered};
 ghost use Rattle.executor_core.specs.Steps.{info, enabled, Spawns, row, wake_row, tick_row, pend_row, ready_row, dropped_row, StepTo, RunTo, opening};
 
 pub(crate) mod events;
@@ -317,6 +319,8 @@ impl<P: Drop, T: Copy> World<P, T> {
         ensures one_place { OnePlace self.now.log self.now.global }
         ensures in_order { InOrder self.now.log }
         ensures few_polls { FewPolls self.now.log }
+        ensures flag_law { FlagLaw self.now.flag self.now.sleepers self.now.picks }
+        ensures covered { Covered self.now.global self.now.sleepers self.now.notices self.now.picks }
     {
         self.core.cells.keeps_law();
     }
@@ -359,6 +363,8 @@ impl<P: Drop, T: Copy> World<P, T> {
         ensures one_place { OnePlace self.new.log self.new.global }
         ensures in_order { InOrder self.new.log }
         ensures few_polls { FewPolls self.new.log }
+        ensures flag_law { FlagLaw self.new.flag self.new.sleepers self.new.picks }
+        ensures covered { Covered self.new.global self.new.sleepers self.new.notices self.new.picks }
     {
         let reply = self.take_step(step);
         self.keeps_promises();
@@ -377,6 +383,8 @@ impl<P: Drop, T: Copy> World<P, T> {
         ensures one_place { OnePlace self.new.log self.new.global }
         ensures in_order { InOrder self.new.log }
         ensures few_polls { FewPolls self.new.log }
+        ensures flag_law { FlagLaw self.new.flag self.new.sleepers self.new.picks }
+        ensures covered { Covered self.new.global self.new.sleepers self.new.notices self.new.picks }
     {
         self.keeps_promises();
         let mut replies = Vec::with_capacity(self.alloc, steps.len())?;

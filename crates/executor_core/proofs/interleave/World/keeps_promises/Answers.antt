@@ -1,6 +1,7 @@
 use Rattle.std.proofs.Common.{subst}
-use Rattle.executor_core.specs.Promises.{OnePlace, FewPolls}
+use Rattle.executor_core.specs.Promises.{OnePlace, FewPolls, FlagLaw, Covered}
 use Rattle.executor_core.proofs.AgreementLemmas.{one_place, few_polls}
+use Rattle.executor_core.proofs.NoticeLemmas.{flag_law, covered}
 use Rattle.executor_core.proofs.interleave.World.keeps_promises.Goals as goal
 
 pub returns-clause-one_place : goal.returns-clause-one_place
@@ -8,3 +9,9 @@ returns-clause-one_place g c = subst (λ w. OnePlace w.log w.global) c.self.view
 
 pub returns-clause-few_polls : goal.returns-clause-few_polls
 returns-clause-few_polls g c = subst (λ w. FewPolls w.log) c.self.view_is (few_polls c.self.invariant.agree)
+
+pub returns-clause-flag_law : goal.returns-clause-flag_law
+returns-clause-flag_law g c = subst (λ w. FlagLaw w.flag w.sleepers w.picks) c.self.view_is (flag_law c.self.invariant.nobody _ _)
+
+pub returns-clause-covered : goal.returns-clause-covered
+returns-clause-covered g c = subst (λ w. Covered w.global w.sleepers w.notices w.picks) c.self.view_is (covered c.self.invariant.nobody _ _ _)
