@@ -1,19 +1,14 @@
 #!/bin/sh
 # Misuse that must not compile. Each block of lines of a file NAME.rt.txt is, under the file's head,
 # a crate above executor_core: each line that ends in '//~ ERROR' has to be refused with that error,
-# and no other line. A file NAME.edit changes one line of a crate of the repository: the crate has to
-# be refused with the error that it names.
+# and no other line. A file NAME.edit changes a crate of the repository, which then has to be
+# refused with the error that it names.
 # Usage: checks/uncompiled.sh, anywhere. RT names the command rt. Its last line counts the files.
 set -eu
-rt=${RT:-rt}
-top=$(cd "$(dirname "$0")/.." && pwd)
-copy=$(mktemp -d)
-trap 'rm -rf "$copy"' EXIT
-(cd "$top" && tar cf - --exclude=.git .) | (cd "$copy" && tar xf -)
+. "$(dirname "$0")/edits"
+copy_repository
 mkdir -p "$copy/crates/misuse/src"
 echo 'misuse: executor_core' >> "$copy/crates.txt"
-passed=0
-failed=0
 check() { (cd "$copy/crates/$1" && "$rt" check) > "$copy/log" 2>&1; }
 
 # The head is what stands above the first line that is marked; a block ends at an empty line.
@@ -44,32 +39,21 @@ for file in "$top"/checks/uncompiled/*.rt.txt; do
         fi
     done
     if [ "$wrong" = 0 ] && [ "$lines" != 0 ]; then
-        echo "$(basename "$file"): $lines lines refused, as they must be"
-        passed=$((passed + 1))
+        pass "$(basename "$file"): $lines lines refused, as they must be"
     else
-        failed=$((failed + 1))
+        fail "$(basename "$file"): not refused as marked"
     fi
 done
 
-field() { sed -n "s/^$2: //p" "$1"; }
 for edit in "$top"/checks/uncompiled/*.edit; do
     [ -f "$edit" ] || continue
-    crate=$(field "$edit" crate)
-    file=crates/$crate/$(field "$edit" file)
-    OLD=$(field "$edit" old) NEW=$(field "$edit" new) python3 -c 'import os, sys
-text = open(sys.argv[1]).read()
-assert text.count(os.environ["OLD"]) == 1, "the old text does not stand once"
-open(sys.argv[2], "w").write(text.replace(os.environ["OLD"], os.environ["NEW"]))' "$top/$file" "$copy/$file"
-    check "$crate" && status=0 || status=$?
-    cp "$top/$file" "$copy/$file"
+    apply_edit "$edit"
+    check "$(field "$edit" crate)" && status=0 || status=$?
+    undo_edit "$edit"
     if [ "$status" != 0 ] && grep -q "^src/.*error\[$(field "$edit" error)\]" "$copy/log"; then
-        echo "$(basename "$edit"): refused, as it must be"
-        passed=$((passed + 1))
+        pass "$(basename "$edit"): refused, as it must be"
     else
-        echo "$(basename "$edit"): not refused as $(field "$edit" error), status $status:"
-        cat "$copy/log"
-        failed=$((failed + 1))
+        fail "$(basename "$edit"): not refused as $(field "$edit" error), status $status:" "$copy/log"
     fi
 done
-echo "$passed passed, $failed failed"
-[ "$failed" = 0 ]
+count

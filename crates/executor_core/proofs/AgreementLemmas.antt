@@ -8,7 +8,7 @@ use Rattle.executor_core.specs.States.{is_idle, is_scheduled, is_held, is_undrop
 use Rattle.executor_core.specs.Calls.{cell_at, in_slot, AllDropped}
 use Rattle.executor_core.specs.Log.{spawned, dropped, held, polls, wakes, EachDropped}
 use Rattle.executor_core.specs.Promises.{OnePlace, InOrder, FewPolls}
-use Rattle.executor_core.specs.Agreement.{Status, status, FewPollsFor, StateAgrees, CellAgrees, NumberAgrees, is_out, Agree}
+use Rattle.executor_core.specs.Agreement.{Status, status, FewPollsFor, StateAgrees, CellAgrees, NumberAgrees, is_out, PolledAgrees, Agree}
 use Rattle.executor_core.proofs.StatusLemmas.{task_of}
 use Rattle.executor_core.proofs.LogLemmas.{status_other}
 use Rattle.executor_core.proofs.ListLemmas.{get-set_same, get-set_other, length-slice_set}
@@ -18,6 +18,7 @@ use Rattle.executor_core.specs.declared.task.cell.State.{State}
 use Rattle.executor_core.specs.declared.task.cell.State.TheVariants.{Idle, Scheduled, Held, Finished, Gone}
 use Rattle.executor_core.specs.declared.task.values.TaskId.{TaskId}
 use Rattle.executor_core.specs.declared.interleave.tasks.TaskInfo.{TaskInfo}
+use Rattle.executor_core.specs.declared.interleave.tasks.FutureOut.{FutureOut}
 use Rattle.executor_core.specs.declared.interleave.events.Event.{Event}
 
 pub not-not : (b : Bool) → not (not b) ≡ b
@@ -79,6 +80,12 @@ out_set out later n before future is set =
       longer = ap length set ∙ length-slice_set out n future;
     }
 
+-- a future that is put out in this place
+pub polled_set : {P : Type 0} (out later : List (Option (FutureOut P))) (n : ℕ) (before future : Option (FutureOut P)) (to_drop : Bool) → slice_get out n ≡ Some before → later ≡ slice_set out n future
+    → PolledAgrees (Some future) to_drop → PolledAgrees (slice_get later n) to_drop
+polled_set out later n before future to_drop is set h =
+    subst (λ o. PolledAgrees o to_drop) (sym (ap (λ l. slice_get l n) set ∙ get-set_same out n future before is)) h
+
 module _ {P T : Type 0} where
   -- where the cells change at a number
   pub record CellChange (table later : Table P T (Unit {0})) (n : ℕ) (o : Option (Slotted P T (Unit {0}))) : Type 0 where
@@ -109,16 +116,23 @@ module _ {P T : Type 0} where
   number_agrees_by o p s u i k a b c h =
       subst (λ x. NumberAgrees x s i) (sym a) (subst (λ x. NumberAgrees p x i) (sym b) (subst (λ x. NumberAgrees p u x) (sym c) h))
 
-  pub agree_again : {table later : Table P T (Unit {0})} {log more : List (Event T)} {tasks anew : List TaskInfo} {out outs : List (Option P)} {n : ℕ} {o : Option (Slotted P T (Unit {0}))} {s : Status T} {i : TaskInfo}
-      → Agree table log tasks out → CellChange table later n o → LogChange log more n s → InfoChange tasks anew n i → OutChange out outs n s.held
+  pub agree_again : {table later : Table P T (Unit {0})} {log more : List (Event T)} {tasks anew : List TaskInfo} {out outs : List (Option (FutureOut P))} {n : ℕ} {o : Option (Slotted P T (Unit {0}))} {s : Status T} {i : TaskInfo}
+      → Agree table log tasks out → CellChange table later n o → LogChange log more n s → InfoChange tasks anew n i → OutChange out outs n s.held → PolledAgrees (slice_get outs n) i.to_drop
       → NumberAgrees o s (Some i) → FewPollsFor s → InOrder more → Agree later more anew outs
-  agree_again {table} {later} {log} {more} {tasks} {anew} {out} {outs} {n} {o} {s} {i} agree cell_change log_change info_change out_change here few_polls order =
+  agree_again {table} {later} {log} {more} {tasks} {anew} {out} {outs} {n} {o} {s} {i} agree cell_change log_change info_change out_change polled here few_polls order =
       record {
         next = cell_change.next ∙ agree.next ∙ sym info_change.longer;
         as_many = out_change.longer ∙ agree.as_many ∙ sym info_change.longer;
         out = λ q. elim (cases_eq q n) [
           | inl same ↦ ap (λ k. is_out (slice_get outs k)) same ∙ out_change.here ∙ sym (ap (λ k. held k more) same ∙ ap (λ x. x.held) log_change.here)
           | inr far ↦ ap is_out (out_change.others q far) ∙ agree.out q ∙ sym (ap (λ x. x.held) (log_change.others q far))
+        ];
+        polled = λ q j is. elim (cases_eq q n) [
+          | inl same ↦
+              let now : Some i ≡ Some j = sym info_change.here ∙ ap (slice_get anew) (sym same) ∙ is in
+              let this : i ≡ j = cc in
+              subst (λ k. PolledAgrees (slice_get outs k) j.to_drop) (sym same) (subst (λ x. PolledAgrees (slice_get outs n) x.to_drop) this polled)
+          | inr far ↦ subst (λ o. PolledAgrees o j.to_drop) (sym (out_change.others q far)) (agree.polled q j (sym (info_change.others q far) ∙ is))
         ];
         each = λ q. elim (cases_eq q n) [
           | inl same ↦ subst (λ k. NumberAgrees (map.get later.cells k) (status k more) (slice_get anew k)) (sym same) (number_agrees_by _ o _ s _ (Some i) cell_change.here log_change.here info_change.here here)
@@ -135,25 +149,25 @@ module _ {P T : Type 0} where
   cell_of None = None
   cell_of (Some slotted) = Some slotted.cell
 
-  pub agreed_at : {table : Table P T (Unit {0})} {log : List (Event T)} {tasks : List TaskInfo} {out : List (Option P)} → Agree table log tasks out → (n : ℕ) (i : TaskInfo) → slice_get tasks n ≡ Some i → (o : Option (Slotted P T (Unit {0}))) → map.get table.cells n ≡ o → NumberAgrees o (status n log) (Some i)
+  pub agreed_at : {table : Table P T (Unit {0})} {log : List (Event T)} {tasks : List TaskInfo} {out : List (Option (FutureOut P))} → Agree table log tasks out → (n : ℕ) (i : TaskInfo) → slice_get tasks n ≡ Some i → (o : Option (Slotted P T (Unit {0}))) → map.get table.cells n ≡ o → NumberAgrees o (status n log) (Some i)
   agreed_at {table} {log} {tasks} agree n i found o here = number_agrees_by _ _ _ _ _ _ (sym here) refl (sym found) (agree.each n)
 
   in_slot_of : (s : Status T) (i : TaskInfo) (o : Option (Slotted P T (Unit {0}))) → NumberAgrees o s (Some i) → in_slot i.slot o ≡ cell_of o
   in_slot_of s i None h = refl
   in_slot_of s i (Some slotted) h = ap (λ b. cond b (Some slotted.cell) None) (eq-eqb slotted.slot i.slot h.slot)
 
-  pub cell_agreed : {table : Table P T (Unit {0})} {log : List (Event T)} {tasks : List TaskInfo} {out : List (Option P)} → Agree table log tasks out → (n : ℕ) (i : TaskInfo) → slice_get tasks n ≡ Some i → (o : Option (Slotted P T (Unit {0}))) → map.get table.cells n ≡ o → cell_at table (id_of n i) ≡ cell_of o
+  pub cell_agreed : {table : Table P T (Unit {0})} {log : List (Event T)} {tasks : List TaskInfo} {out : List (Option (FutureOut P))} → Agree table log tasks out → (n : ℕ) (i : TaskInfo) → slice_get tasks n ≡ Some i → (o : Option (Slotted P T (Unit {0}))) → map.get table.cells n ≡ o → cell_at table (id_of n i) ≡ cell_of o
   cell_agreed agree n i found o here = ap (in_slot i.slot) here ∙ in_slot_of _ i o (agreed_at agree n i found o here)
 
   pub owed_state : (st : State P T) (w : Bool) (s : Status T) → StateAgrees st w s → owed_of s ≡ is_scheduled st
-  owed_state (Idle p) w s h = rw (h.0.spawned, h.0.dropped, h.0.held, h.1, h.2, h.3) refl
+  owed_state (Idle p) w s h = rw (h.0.spawned, h.0.dropped, h.0.held, h.1, h.2, h.4) refl
   owed_state (Scheduled p) w s h = rw (h.0.spawned, h.0.dropped, h.0.held, h.1) refl
   owed_state Held w s h = rw (h.0.spawned, h.0.dropped, h.0.held) refl
   owed_state (Finished t) w s h = rw (h.spawned, h.dropped) refl
   owed_state Gone w s h = rw (h.spawned, h.dropped) refl
 
   pub idle_state : (st : State P T) (w : Bool) (s : Status T) → StateAgrees st w s → idle_of s ≡ is_idle st
-  idle_state (Idle p) w s h = rw (h.0.spawned, h.0.dropped, h.0.held, h.1, h.2, h.3) refl
+  idle_state (Idle p) w s h = rw (h.0.spawned, h.0.dropped, h.0.held, h.1, h.2, h.4) refl
   idle_state (Scheduled p) w s h = rw (h.0.spawned, h.0.dropped, h.0.held, h.1) refl
   idle_state Held w s h = rw (h.0.spawned, h.0.dropped, h.0.held) refl
   idle_state (Finished t) w s h = rw (h.spawned, h.dropped) refl
@@ -179,10 +193,10 @@ module _ {P T : Type 0} where
   owed_match (Some slotted) s (Some i) h = owed_state slotted.cell.state slotted.cell.woken s h.state
   owed_match (Some slotted) s None h = absurd h
 
-  pub one_place : {table : Table P T (Unit {0})} {log : List (Event T)} {tasks : List TaskInfo} {out : List (Option P)} → Agree table log tasks out → LockLaw table.cells table.global → OnePlace log table.global
+  pub one_place : {table : Table P T (Unit {0})} {log : List (Event T)} {tasks : List TaskInfo} {out : List (Option (FutureOut P))} → Agree table log tasks out → LockLaw table.cells table.global → OnePlace log table.global
   one_place {table} {log} {tasks} agree law n = law n ∙ ap (λ b. cond b 1 0) (sym (owed_match (map.get table.cells n) (status n log) (slice_get tasks n) (agree.each n)))
 
-  pub few_polls : {table : Table P T (Unit {0})} {log : List (Event T)} {tasks : List TaskInfo} {out : List (Option P)} → Agree table log tasks out → FewPolls log
+  pub few_polls : {table : Table P T (Unit {0})} {log : List (Event T)} {tasks : List TaskInfo} {out : List (Option (FutureOut P))} → Agree table log tasks out → FewPolls log
   few_polls {log = log} agree n = drop_part (polls n log) _ (wakes n log) (agree.few_polls n)
     where
       drop_part : (a b w : ℕ) → a + b ≤ 1 + w → a ≤ 1 + w
@@ -202,7 +216,7 @@ module _ {P T : Type 0} where
       by_state (Finished t) w h = h.spawned
       by_state Gone w h = h.spawned
 
-  pub spawned_is : {table : Table P T (Unit {0})} {log : List (Event T)} {tasks : List TaskInfo} {out : List (Option P)} → Agree table log tasks out → (n : ℕ) → spawned n log ≡ is_some (slice_get tasks n)
+  pub spawned_is : {table : Table P T (Unit {0})} {log : List (Event T)} {tasks : List TaskInfo} {out : List (Option (FutureOut P))} → Agree table log tasks out → (n : ℕ) → spawned n log ≡ is_some (slice_get tasks n)
   spawned_is {table} {log} {tasks} agree n = spawned_match _ _ _ (agree.each n)
 
   -- what the log says of a cell in this state
@@ -210,7 +224,7 @@ module _ {P T : Type 0} where
   state_agrees slotted s i st is h = subst (λ x. StateAgrees x slotted.cell.woken s) is h.state
 
   -- every future was dropped by the cells exactly where it was by the log
-  pub each_dropped : {table : Table P T (Unit {0})} {log : List (Event T)} {tasks : List TaskInfo} {out : List (Option P)} → Agree table log tasks out → AllDropped table → EachDropped log
+  pub each_dropped : {table : Table P T (Unit {0})} {log : List (Event T)} {tasks : List TaskInfo} {out : List (Option (FutureOut P))} → Agree table log tasks out → AllDropped table → EachDropped log
   each_dropped {table} {log} {tasks} agree all n is = by_slotted (map.get table.cells n) (slice_get tasks n) refl (agree.each n)
     where
       by_slotted : (o : Option (Slotted P T (Unit {0}))) (i : Option TaskInfo) → map.get table.cells n ≡ o → NumberAgrees o (status n log) i → dropped n log ≡ true
@@ -219,7 +233,7 @@ module _ {P T : Type 0} where
       by_slotted (Some slotted) None here h = absurd h
       by_slotted (Some slotted) (Some i) here h = dropped_state slotted.cell.state slotted.cell.woken (status n log) h.state ∙ ap not (all n slotted here)
 
-  pub all_dropped : {table : Table P T (Unit {0})} {log : List (Event T)} {tasks : List TaskInfo} {out : List (Option P)} → Agree table log tasks out → EachDropped log → AllDropped table
+  pub all_dropped : {table : Table P T (Unit {0})} {log : List (Event T)} {tasks : List TaskInfo} {out : List (Option (FutureOut P))} → Agree table log tasks out → EachDropped log → AllDropped table
   all_dropped {table} {log} {tasks} agree each n slotted here = by_info (slice_get tasks n) (subst (λ o. NumberAgrees o (status n log) (slice_get tasks n)) here (agree.each n))
     where
       by_info : (i : Option TaskInfo) → NumberAgrees (Some slotted) (status n log) i → is_undropped slotted.cell.state ≡ false

@@ -2,8 +2,10 @@ pub mod AgreementLemmas
 pub mod CancelLemmas
 pub mod CountLemmas
 pub mod DetachLemmas
+pub mod DropLemmas
 pub mod EndPendingLemmas
 pub mod EndReadyLemmas
+pub mod HandleLemmas
 pub mod ListLemmas
 pub mod LogLemmas
 pub mod RemoveLemmas

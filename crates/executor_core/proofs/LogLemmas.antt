@@ -189,6 +189,9 @@ module _ {T : Type 0} where
   pub on_wake : (n : ℕ) (log : List (Event T)) → status n (log ++ Woken n ∷ []) ≡ record (status n log) { woken = true; wakes = 1 + wakes n log }
   on_wake n log = status-push n log _ ∙ rw (self n) refl
 
+  pub on_cancel : (n : ℕ) (log : List (Event T)) → status n (log ++ Cancelled n ∷ []) ≡ record (status n log) { cancelled = true; cancelled_since = true }
+  on_cancel n log = status-push n log _ ∙ rw (self n) refl
+
   pub on_poll : (n : ℕ) (log : List (Event T)) → status n (log ++ Took n ToPoll ∷ []) ≡ record (status n log) { taken = true; held = true; woken = false; cancelled_since = false; polls = 1 + polls n log }
   on_poll n log = status-push n log _ ∙ rw (self n) refl
 

@@ -8,21 +8,23 @@ use Rattle.executor_core.specs.Table.{Slotted, Table}
 use Rattle.executor_core.specs.States.{is_idle, is_held, is_undropped}
 use Rattle.executor_core.specs.Calls.{cell_at, undropped_in, cancelled_in, wakes, idle_in, after_wake, wake_at, after_take, take_first, take_at, takes_back_in, woken_in, after_end_pending, end_pending_at, queued_if, with_cell, without_cell, after_end_ready, end_ready_at, ready_answer, after_poll_handle, poll_handle_at, poll_answer, ended_answer, after_spawn, IsFree, empty_table}
 use Rattle.executor_core.specs.CellChanges.{woken, state_woken, taken, takes_back, pended, readied, wakeup_of, awaited, output_of, new_cell}
-use Rattle.executor_core.specs.Steps.{new_info}
+use Rattle.executor_core.specs.Steps.{info_or, new_info}
 use Rattle.executor_core.specs.Log.{unfollowed, is_cancel, is_take, spawned, dropped, cancelled, held, woken as woken_log, idle, outputs, given}
 use Rattle.std.specs.List.{list_any}
 use Rattle.executor_core.specs.Promises.{InOrder}
-use Rattle.executor_core.specs.Agreement.{Status, status, no_status, FewPollsFor, StateAgrees, NumberAgrees, is_out, Agree}
+use Rattle.executor_core.specs.Agreement.{Status, status, no_status, FewPollsFor, StateAgrees, NumberAgrees, is_out, is_unpolled, PolledAgrees, Agree}
 use Rattle.executor_core.proofs.LogLemmas.{on_spawn, on_wake, on_poll, on_take, on_return, on_drop, on_finish, on_give, order-push, status_other}
 use Rattle.executor_core.proofs.ListLemmas.{get-push_last, get-push_other, get_past, within_get, get_within, length-push}
 use Rattle.executor_core.proofs.SlotLemmas.{insert_same, insert_other}
-use Rattle.executor_core.proofs.AgreementLemmas.{LogChange, log_same, log_pushed, info_same, info_set, OutChange, out_same, out_set, cell_put, cell_removed, cell_same, agree_again, agreed_at, id_of, cell_agreed, idle_state, dropped_state, held_state, state_agrees, number_agrees_by, not-not}
+use Rattle.executor_core.proofs.AgreementLemmas.{LogChange, log_same, log_pushed, info_same, info_set, OutChange, out_same, out_set, polled_set, cell_put, cell_removed, cell_same, agree_again, agreed_at, id_of, cell_agreed, idle_state, dropped_state, held_state, state_agrees, number_agrees_by, not-not}
 use Rattle.executor_core.specs.declared.task.cell.Cell.{Cell}
 use Rattle.executor_core.specs.declared.task.cell.State.{State}
 use Rattle.executor_core.specs.declared.task.cell.State.TheVariants.{Idle, Scheduled, Held, Finished, Gone}
 use Rattle.executor_core.specs.declared.task.handles.PollHandle.{PollHandle}
 use Rattle.executor_core.specs.declared.task.handles.PollHandle.TheVariants as handle
 use Rattle.executor_core.specs.declared.interleave.tasks.TaskInfo.{TaskInfo}
+use Rattle.executor_core.specs.declared.interleave.tasks.FutureOut.{FutureOut}
+use Rattle.executor_core.specs.declared.interleave.tasks.FutureOut.TheVariants.{Unpolled, Polled}
 use Rattle.executor_core.specs.declared.interleave.events.Purpose.TheVariants.{ToPoll, ToDrop}
 use Rattle.executor_core.specs.declared.interleave.events.Event.{Event}
 use Rattle.executor_core.specs.declared.interleave.events.Event.TheVariants.{Spawned, Woken, Took, Returned, Finished as Finish, Dropped, Got}
@@ -49,7 +51,7 @@ unfollowed-list_any f g (x ∷ rest) h =
       | inr is ↦ ap (λ b. (b && not (list_any g rest)) || unfollowed f g rest) is ∙ unfollowed-list_any f g rest (sym (ap (λ b. b || list_any f rest) is) ∙ h)
     ]
 
-or-any : (a b c : Bool) → b ≡ true → a || b || c ≡ true
+pub or-any : (a b c : Bool) → b ≡ true → a || b || c ≡ true
 or-any true b c h = refl
 or-any false true c h = refl
 or-any false false c h = absurd (cc)
@@ -63,21 +65,33 @@ and-left : (a b : Bool) → a && b ≡ true → a ≡ true
 and-left true b h = refl
 and-left false b h = absurd (cc)
 
-not-true : (b : Bool) → not b ≡ true → b ≡ false
+and-right : (a b : Bool) → a && b ≡ true → b ≡ true
+and-right true b h = h
+and-right false b h = absurd (cc)
+
+pub not-true : (b : Bool) → not b ≡ true → b ≡ false
 not-true false h = refl
 not-true true h = absurd (cc)
 
-if-true : {X : Type 0} (b : Bool) (x y : X) → b ≡ true → cond b x y ≡ x
+pub if-true : {X : Type 0} (b : Bool) (x y : X) → b ≡ true → cond b x y ≡ x
 if-true true x y h = refl
 if-true false x y h = absurd (cc)
 
-if-false : {X : Type 0} (b : Bool) (x y : X) → b ≡ false → cond b x y ≡ y
+pub if-false : {X : Type 0} (b : Bool) (x y : X) → b ≡ false → cond b x y ≡ y
 if-false false x y h = refl
 if-false true x y h = absurd (cc)
 
 -- the futures that are out, where that is what the log says
-out_change : {P : Type 0} {before later : List (Option P)} {n : ℕ} {b d : Bool} → OutChange before later n b → d ≡ b → OutChange before later n d
+pub out_change : {P : Type 0} {before later : List (Option P)} {n : ℕ} {b d : Bool} → OutChange before later n b → d ≡ b → OutChange before later n d
 out_change change is = record { here = change.here ∙ sym is; others = change.others; longer = change.longer }
+
+pub wakeup_some : (o : Option (Unit {0})) → is_some (wakeup_of o) ≡ is_some o
+wakeup_some None = refl
+wakeup_some (Some w) = refl
+
+polled_to_drop : {P : Type 0} (q : FutureOut P) → PolledAgrees (Some (Some q)) true
+polled_to_drop (Unpolled p) = tt
+polled_to_drop (Polled p) = refl
 
 abbrev spawned_now : {T : Type 0} → Status T → Status T
 spawned_now s = record s { spawned = true }
@@ -88,7 +102,15 @@ spawned_only = spawned_now no_status
 abbrev dropped_now : {T : Type 0} → Status T → Status T
 dropped_now s = record s { dropped = true; held = false }
 
-module _ {P T : Type 0} {table : Table P T (Unit {0})} {log : List (Event T)} {tasks : List TaskInfo} {out : List (Option P)} (agree : Agree table log tasks out) (n : ℕ) where
+-- the future was dropped, so nobody holds it
+pub ended_past : {P T : Type 0} (st : State P T) (w : Bool) (s : Status T) → StateAgrees st w s → is_undropped st ≡ false → (s.spawned ≡ true) × (s.held ≡ false)
+ended_past (Idle p) w s h e = absurd (cc)
+ended_past (Scheduled p) w s h e = absurd (cc)
+ended_past Held w s h e = absurd (cc)
+ended_past (Finished t) w s h e = (h.spawned, h.held)
+ended_past Gone w s h e = (h.spawned, h.held)
+
+module _ {P T : Type 0} {table : Table P T (Unit {0})} {log : List (Event T)} {tasks : List TaskInfo} {out : List (Option (FutureOut P))} (agree : Agree table log tasks out) (n : ℕ) where
   -- whether the future is dropped is what the log says
   pub undropped_is : (i : TaskInfo) → slice_get tasks n ≡ Some i → undropped_in (cell_at table (id_of n i)) ≡ not (dropped n log)
   undropped_is i found = by_slotted (map.get table.cells n) refl
@@ -99,6 +121,9 @@ module _ {P T : Type 0} {table : Table P T (Unit {0})} {log : List (Event T)} {t
           let h = agreed_at agree n i found (Some slotted) here in
           ap undropped_in (cell_agreed agree n i found (Some slotted) here)
           ∙ sym (ap not (dropped_state slotted.cell.state slotted.cell.woken (status n log) h.state) ∙ not-not (is_undropped slotted.cell.state))
+
+  pub dropped_by : (i : TaskInfo) → slice_get tasks n ≡ Some i → (b : Bool) → undropped_in (cell_at table (id_of n i)) ≡ b → dropped n log ≡ not b
+  dropped_by i found b h = sym (not-not (dropped n log)) ∙ ap not (sym (undropped_is i found) ∙ h)
 
   pub record Woke (i : TaskInfo) : Type 0 where
     pub holds : Agree (after_wake table (id_of n i)) (log ++ Woken n ∷ []) tasks out
@@ -129,6 +154,7 @@ module _ {P T : Type 0} {table : Table P T (Unit {0})} {log : List (Event T)} {t
                 (log_pushed log n (Woken n) _ refl (on_wake n log))
                 (info_same tasks n i found)
                 (out_same out n _ (agree.out n))
+                (agree.polled n i found)
                 (record { slot = refl; has_handle = h.has_handle; awaited = h.awaited; cancelled = h.cancelled; state = woken_state slotted.cell.state slotted.cell.woken (status n log) _ alive h.state })
                 (few_wake _ _ _ _ (agree.few_polls n))
                 (order-push log (Woken n) agree.order tt);
@@ -137,8 +163,20 @@ module _ {P T : Type 0} {table : Table P T (Unit {0})} {log : List (Event T)} {t
           }
 
   -- a task that is known has a place for its future
-  pub place_there : (i : TaskInfo) → slice_get tasks n ≡ Some i → (before : Option P) × (slice_get out n ≡ Some before)
+  pub place_there : (i : TaskInfo) → slice_get tasks n ≡ Some i → (before : Option (FutureOut P)) × (slice_get out n ≡ Some before)
   place_there i found = get_within out n (subst (λ k. n < k) (sym agree.as_many) (within_get tasks n i found))
+
+  -- where a poll of a task may end, its future is out and was not polled
+  pub unpolled_there : (i : TaskInfo) → slice_get tasks n ≡ Some i → (held n log && not (info_or (slice_get tasks n)).to_drop) ≡ true → is_unpolled (slice_get out n) ≡ true
+  unpolled_there i found enabled =
+      let fresh : i.to_drop ≡ false = sym (ap (λ o. (info_or o).to_drop) found) ∙ not-true _ (and-right _ _ enabled) in
+      by_entry (slice_get out n) fresh (agree.out n ∙ and-left _ _ enabled) (agree.polled n i found)
+    where
+      by_entry : (o : Option (Option (FutureOut P))) → i.to_drop ≡ false → is_out o ≡ true → PolledAgrees o i.to_drop → is_unpolled o ≡ true
+      by_entry None fresh h p = absurd (cc)
+      by_entry (Some None) fresh h p = absurd (cc)
+      by_entry (Some (Some (Unpolled q))) fresh h p = refl
+      by_entry (Some (Some (Polled q))) fresh h p = absurd (cc)
 
   -- the front of the queue is taken
   pub taken_info : (slotted : Slotted P T (Unit {0})) → map.get table.cells n ≡ Some slotted → (i : TaskInfo) × (slice_get tasks n ≡ Some i)
@@ -158,7 +196,7 @@ module _ {P T : Type 0} {table : Table P T (Unit {0})} {log : List (Event T)} {t
     pub rest_front : (after_take table).global ≡ rest
     rest_front = ap (λ s. s.global) took_is
 
-    pub take_to_poll : cell.cancelled ≡ false → Agree (after_take table) (log ++ Took n ToPoll ∷ []) (slice_set tasks n (record i { to_drop = false })) (slice_set out n (Some p))
+    pub take_to_poll : cell.cancelled ≡ false → Agree (after_take table) (log ++ Took n ToPoll ∷ []) (slice_set tasks n (record i { to_drop = false })) (slice_set out n (Some (Unpolled p)))
     take_to_poll fresh =
         let h = agreed_at agree n i found (Some (record { slot = slot; cell = cell })) here in
         let alive = state_agrees (record { slot = slot; cell = cell }) (status n log) i (Scheduled p) state h in
@@ -169,7 +207,8 @@ module _ {P T : Type 0} {table : Table P T (Unit {0})} {log : List (Event T)} {t
         (cell_put table (after_take table) n (record { slot = slot; cell = taken cell }) (ap (λ s. s.next) took_is) (ap (λ s. s.cells) took_is))
         (log_pushed log n (Took n ToPoll) _ refl (on_poll n log))
         (info_set tasks _ n i _ found refl)
-        (out_set out _ n (place_there i found).0 (Some p) (place_there i found).1 refl)
+        (out_set out _ n (place_there i found).0 (Some (Unpolled p)) (place_there i found).1 refl)
+        (polled_set out _ n (place_there i found).0 (Some (Unpolled p)) _ (place_there i found).1 refl tt)
         (record {
           slot = h.slot;
           has_handle = h.has_handle;
@@ -180,7 +219,7 @@ module _ {P T : Type 0} {table : Table P T (Unit {0})} {log : List (Event T)} {t
         (few_poll _ _ _ due (agree.few_polls n))
         (order-push log (Took n ToPoll) agree.order (un, alive.0.held, alive.0.dropped))
 
-    pub take_to_drop : cell.cancelled ≡ true → Agree (after_take table) (log ++ Took n ToDrop ∷ []) (slice_set tasks n (record i { to_drop = true })) (slice_set out n (Some p))
+    pub take_to_drop : cell.cancelled ≡ true → Agree (after_take table) (log ++ Took n ToDrop ∷ []) (slice_set tasks n (record i { to_drop = true })) (slice_set out n (Some (Unpolled p)))
     take_to_drop fresh =
         let h = agreed_at agree n i found (Some (record { slot = slot; cell = cell })) here in
         let alive = state_agrees (record { slot = slot; cell = cell }) (status n log) i (Scheduled p) state h in
@@ -188,7 +227,8 @@ module _ {P T : Type 0} {table : Table P T (Unit {0})} {log : List (Event T)} {t
         (cell_put table (after_take table) n (record { slot = slot; cell = taken cell }) (ap (λ s. s.next) took_is) (ap (λ s. s.cells) took_is))
         (log_pushed log n (Took n ToDrop) _ refl (on_take n log))
         (info_set tasks _ n i _ found refl)
-        (out_set out _ n (place_there i found).0 (Some p) (place_there i found).1 refl)
+        (out_set out _ n (place_there i found).0 (Some (Unpolled p)) (place_there i found).1 refl)
+        (polled_set out _ n (place_there i found).0 (Some (Unpolled p)) _ (place_there i found).1 refl tt)
         (record {
           slot = h.slot;
           has_handle = h.has_handle;
@@ -218,17 +258,17 @@ module _ {P T : Type 0} {table : Table P T (Unit {0})} {log : List (Event T)} {t
 
   module _ (i : TaskInfo) (found : slice_get tasks n ≡ Some i) (now_held : held n log ≡ true) where
     -- a poll ended pending, and the future went back
-    pub record Pended (p : P) (outs : List (Option P)) : Type 0 where
+    pub record Pended (p : P) (outs : List (Option (FutureOut P))) : Type 0 where
       pub holds : Agree (after_end_pending table (id_of n i) p) (log ++ Returned n ∷ []) tasks outs
       pub cancelled : cancelled n log ≡ false
       pub woken : woken_in (cell_at table (id_of n i)) ≡ woken_log n log
       pub global : (after_end_pending table (id_of n i) p).global ≡ cond (woken_log n log) (table.global ++ n ∷ []) table.global
 
-    pended_state : (w : Bool) (p : P) (s : Status T) → s.cancelled_since ≡ false → StateAgrees {P = P} Held w s → StateAgrees (cond w (Scheduled p) (Idle p)) w (record s { held = false })
-    pended_state true p s r h = (record { spawned = h.0.spawned; dropped = h.0.dropped; held = refl; outputs = h.0.outputs; given = h.0.given }, or-any (not s.taken) s.woken s.cancelled_since h.2)
-    pended_state false p s r h = (record { spawned = h.0.spawned; dropped = h.0.dropped; held = refl; outputs = h.0.outputs; given = h.0.given }, h.1, h.2, r)
+    pended_state : (w : Bool) (p : P) (s : Status T) → s.cancelled ≡ false → s.cancelled_since ≡ false → StateAgrees {P = P} Held w s → StateAgrees (cond w (Scheduled p) (Idle p)) w (record s { held = false })
+    pended_state true p s u r h = (record { spawned = h.0.spawned; dropped = h.0.dropped; held = refl; outputs = h.0.outputs; given = h.0.given }, or-any (not s.taken) s.woken s.cancelled_since h.2)
+    pended_state false p s u r h = (record { spawned = h.0.spawned; dropped = h.0.dropped; held = refl; outputs = h.0.outputs; given = h.0.given }, h.1, h.2, u, r)
 
-    pub pend_step : (p : P) (outs : List (Option P)) → outs ≡ slice_set out n None → takes_back_in (cell_at table (id_of n i)) ≡ true → Pended p outs
+    pub pend_step : (p : P) (outs : List (Option (FutureOut P))) → outs ≡ slice_set out n None → takes_back_in (cell_at table (id_of n i)) ≡ true → Pended p outs
     pend_step p outs set ours =
         let s = held_cell i found now_held in
         let slotted = s.0 in
@@ -248,7 +288,8 @@ module _ {P T : Type 0} {table : Table P T (Unit {0})} {log : List (Event T)} {t
               (log_pushed log n (Returned n) _ refl (on_return n log))
               (info_same tasks n i found)
               (out_set out outs n (place_there i found).0 None (place_there i found).1 set)
-              (record { slot = refl; has_handle = h.has_handle; awaited = h.awaited; cancelled = h.cancelled; state = pended_state slotted.cell.woken p (status n log) uncancelled alive })
+              (polled_set out outs n (place_there i found).0 None _ (place_there i found).1 set tt)
+              (record { slot = refl; has_handle = h.has_handle; awaited = h.awaited; cancelled = h.cancelled; state = pended_state slotted.cell.woken p (status n log) un uncancelled alive })
               (agree.few_polls n)
               (order-push log (Returned n) agree.order tt);
           cancelled = un;
@@ -257,12 +298,12 @@ module _ {P T : Type 0} {table : Table P T (Unit {0})} {log : List (Event T)} {t
         }
 
     -- a poll ended pending on a cancelled task
-    pub record StaysOut (p : P) (later : List TaskInfo) (outs : List (Option P)) : Type 0 where
+    pub record StaysOut (p : P) (later : List TaskInfo) (outs : List (Option (FutureOut P))) : Type 0 where
       pub holds : Agree (after_end_pending table (id_of n i) p) log later outs
       pub cancelled : cancelled n log ≡ true
       pub global : (after_end_pending table (id_of n i) p).global ≡ table.global
 
-    pub pend_drop : (p q : P) (later : List TaskInfo) (outs : List (Option P)) → later ≡ slice_set tasks n (record i { to_drop = true }) → outs ≡ slice_set out n (Some q) → takes_back_in (cell_at table (id_of n i)) ≡ false → StaysOut p later outs
+    pub pend_drop : (p : P) (q : FutureOut P) (later : List TaskInfo) (outs : List (Option (FutureOut P))) → later ≡ slice_set tasks n (record i { to_drop = true }) → outs ≡ slice_set out n (Some q) → takes_back_in (cell_at table (id_of n i)) ≡ false → StaysOut p later outs
     pend_drop p q later outs set set_out ours =
         let s = held_cell i found now_held in
         let slotted = s.0 in
@@ -278,6 +319,7 @@ module _ {P T : Type 0} {table : Table P T (Unit {0})} {log : List (Event T)} {t
               (log_same log n)
               (info_set tasks later n i _ found set)
               (out_change (out_set out outs n (place_there i found).0 (Some q) (place_there i found).1 set_out) now_held)
+              (polled_set out outs n (place_there i found).0 (Some q) _ (place_there i found).1 set_out (polled_to_drop q))
               (record { slot = h.slot; has_handle = h.has_handle; awaited = h.awaited; cancelled = h.cancelled; state = h.state })
               (agree.few_polls n)
               agree.order);
@@ -286,15 +328,11 @@ module _ {P T : Type 0} {table : Table P T (Unit {0})} {log : List (Event T)} {t
         }
 
     -- a poll ended ready
-    pub record Readied (t : T) (more : List (Event T)) (later : List TaskInfo) (outs : List (Option P)) : Type 0 where
+    pub record Readied (t : T) (more : List (Event T)) (later : List TaskInfo) (outs : List (Option (FutureOut P))) : Type 0 where
       pub holds : Agree (after_end_ready table (id_of n i) t) more later outs
       pub awaiter : is_some (ready_answer t (cell_at table (id_of n i))).awaiter ≡ i.awaited
       pub unwanted : (ready_answer t (cell_at table (id_of n i))).unwanted ≡ cond (i.has_handle && not (cancelled n log)) None (Some t)
       pub global : (after_end_ready table (id_of n i) t).global ≡ table.global
-
-    wakeup_some : (o : Option (Unit {0})) → is_some (wakeup_of o) ≡ is_some o
-    wakeup_some None = refl
-    wakeup_some (Some w) = refl
 
     pub cancelled_is : cancelled_in (cell_at table (id_of n i)) ≡ cancelled n log
     cancelled_is =
@@ -305,7 +343,7 @@ module _ {P T : Type 0} {table : Table P T (Unit {0})} {log : List (Event T)} {t
     kept true w s t spawn drop hold output here = record { spawned = spawn; dropped = drop; held = hold; outputs = output; given = here }
     kept false w s t spawn drop hold output here = record { spawned = spawn; dropped = drop; held = hold; outputs = output; given = here }
 
-    ready_with : (s : Status T) (t : T) (more : List (Event T)) (later : List TaskInfo) (outs : List (Option P)) → later ≡ slice_set tasks n (record i { awaited = false }) → outs ≡ slice_set out n None
+    ready_with : (s : Status T) (t : T) (more : List (Event T)) (later : List TaskInfo) (outs : List (Option (FutureOut P))) → later ≡ slice_set tasks n (record i { awaited = false }) → outs ≡ slice_set out n None
         → LogChange log more n s → InOrder more → FewPollsFor s
         → s.spawned ≡ true → s.dropped ≡ true → s.held ≡ false → s.cancelled ≡ cancelled n log → s.outputs ≡ cond (cancelled n log) [] (t ∷ []) → s.given ≡ []
         → Readied t more later outs
@@ -326,6 +364,7 @@ module _ {P T : Type 0} {table : Table P T (Unit {0})} {log : List (Event T)} {t
                 log_change
                 (info_set tasks later n i _ found set)
                 (out_change (out_set out outs n (place_there i found).0 None (place_there i found).1 set_out) hold)
+                (polled_set out outs n (place_there i found).0 None _ (place_there i found).1 set_out tt)
                 (record { slot = refl; has_handle = h.has_handle; awaited = refl; cancelled = h.cancelled ∙ sym cancel; state = kept slotted.cell.cancelled slotted.cell.woken s t spawn drop hold (output ∙ ap (λ b. cond b [] (t ∷ [])) (sym h.cancelled)) gave })
                 few_polls order
             | inr gone ↦
@@ -335,6 +374,7 @@ module _ {P T : Type 0} {table : Table P T (Unit {0})} {log : List (Event T)} {t
                 log_change
                 (info_set tasks later n i _ found set)
                 (out_change (out_set out outs n (place_there i found).0 None (place_there i found).1 set_out) hold)
+                (polled_set out outs n (place_there i found).0 None _ (place_there i found).1 set_out tt)
                 (record { spawned = spawn; dropped = drop; held = hold; has_handle = sym h.has_handle ∙ gone })
                 few_polls order
           ];
@@ -346,7 +386,7 @@ module _ {P T : Type 0} {table : Table P T (Unit {0})} {log : List (Event T)} {t
           ];
         }
 
-    pub ready_step : (t : T) (later : List TaskInfo) (outs : List (Option P)) → later ≡ slice_set tasks n (record i { awaited = false }) → outs ≡ slice_set out n None → cancelled n log ≡ false → Readied t ((log ++ Finish n t ∷ []) ++ Dropped n ∷ []) later outs
+    pub ready_step : (t : T) (later : List TaskInfo) (outs : List (Option (FutureOut P))) → later ≡ slice_set tasks n (record i { awaited = false }) → outs ≡ slice_set out n None → cancelled n log ≡ false → Readied t ((log ++ Finish n t ∷ []) ++ Dropped n ∷ []) later outs
     ready_step t later outs set set_out fresh =
         let at = held_cell i found now_held in
         let alive = state_agrees at.0 (status n log) i Held at.2 (agreed_at agree n i found (Some at.0) at.1) in
@@ -360,7 +400,7 @@ module _ {P T : Type 0} {table : Table P T (Unit {0})} {log : List (Event T)} {t
         (ap (λ l. l ++ t ∷ []) alive.0.outputs ∙ ap (λ b. cond b [] (t ∷ [])) (sym fresh))
         alive.0.given
 
-    pub ready_cancelled : (t : T) (later : List TaskInfo) (outs : List (Option P)) → later ≡ slice_set tasks n (record i { awaited = false }) → outs ≡ slice_set out n None → cancelled n log ≡ true → Readied t (log ++ Dropped n ∷ []) later outs
+    pub ready_cancelled : (t : T) (later : List TaskInfo) (outs : List (Option (FutureOut P))) → later ≡ slice_set tasks n (record i { awaited = false }) → outs ≡ slice_set out n None → cancelled n log ≡ true → Readied t (log ++ Dropped n ∷ []) later outs
     ready_cancelled t later outs set set_out was_cancelled =
         let at = held_cell i found now_held in
         let alive = state_agrees at.0 (status n log) i Held at.2 (agreed_at agree n i found (Some at.0) at.1) in
@@ -373,7 +413,7 @@ module _ {P T : Type 0} {table : Table P T (Unit {0})} {log : List (Event T)} {t
         alive.0.given
 
   module _ (i : TaskInfo) (found : slice_get tasks n ≡ Some i) (there : i.has_handle ≡ true) where
-    handle_cell : (slotted : Slotted P T (Unit {0})) × (map.get table.cells n ≡ Some slotted) × (slotted.cell.has_handle ≡ true)
+    pub handle_cell : (slotted : Slotted P T (Unit {0})) × (map.get table.cells n ≡ Some slotted) × (slotted.cell.has_handle ≡ true)
     handle_cell = by_slotted (map.get table.cells n) refl
       where
         by_slotted : (o : Option (Slotted P T (Unit {0}))) → map.get table.cells n ≡ o → (slotted : Slotted P T (Unit {0})) × (o ≡ Some slotted) × (slotted.cell.has_handle ≡ true)
@@ -406,6 +446,7 @@ module _ {P T : Type 0} {table : Table P T (Unit {0})} {log : List (Event T)} {t
         (log_same log n)
         (info_set tasks later n i _ found set)
         (out_same out n _ (agree.out n))
+        (agree.polled n i found)
         (record { slot = refl; has_handle = h.has_handle; awaited = refl; cancelled = h.cancelled; state = h.state })
         (agree.few_polls n)
         agree.order
@@ -420,21 +461,15 @@ module _ {P T : Type 0} {table : Table P T (Unit {0})} {log : List (Event T)} {t
         let cell = cell_agreed agree n i found (Some slotted) at.1 in
         let dead : is_undropped slotted.cell.state ≡ false = sym (not-not _) ∙ ap not (sym (dropped_state slotted.cell.state slotted.cell.woken (status n log) h.state) ∙ gone) in
         let is : after_poll_handle table (id_of n i) tt ≡ without_cell table (id_of n i) = ap (poll_handle_at table (id_of n i) tt) cell ∙ if-true slotted.cell.has_handle _ _ at.2 ∙ if-false (is_undropped slotted.cell.state) _ _ dead in
-        let removed = ended_past slotted.cell.state slotted.cell.woken h.state dead in
+        let removed = ended_past slotted.cell.state slotted.cell.woken (status n log) h.state dead in
         agree_again agree
         (cell_removed table (after_poll_handle table (id_of n i) tt) n (ap (λ x. x.next) is) (ap (λ x. x.cells) is))
         log_change
         (info_set tasks later n i _ found set)
         (out_same out n _ (agree.out n ∙ sym hold))
+        (agree.polled n i found)
         (record { spawned = spawn ∙ removed.0; dropped = drop; held = hold ∙ removed.1; has_handle = refl })
         few_polls order
-      where
-        ended_past : (st : State P T) (w : Bool) → StateAgrees st w (status n log) → is_undropped st ≡ false → (spawned n log ≡ true) × (held n log ≡ false)
-        ended_past (Idle p) w h e = absurd (cc)
-        ended_past (Scheduled p) w h e = absurd (cc)
-        ended_past Held w h e = absurd (cc)
-        ended_past (Finished t) w h e = (h.spawned, h.held)
-        ended_past Gone w h e = (h.spawned, h.held)
 
     -- what the answer says of the log
     abbrev pub AnswerTells : PollHandle T (Unit {0}) → Type 0
@@ -463,7 +498,7 @@ module _ {P T : Type 0} {table : Table P T (Unit {0})} {log : List (Event T)} {t
     pub handle_output : (t : T) (later : List TaskInfo) → later ≡ slice_set tasks n (record i { has_handle = false }) → dropped n log ≡ true → outputs n log ≡ t ∷ [] → given n log ≡ [] → Agree (after_poll_handle table (id_of n i) tt) (log ++ Got n t ∷ []) later out
     handle_output t later set gone output fresh = ended_with _ _ later set (log_pushed log n (Got n t) _ refl (on_give n t log)) (order-push log (Got n t) agree.order (output, fresh)) (agree.few_polls n) refl gone refl gone
 
-module _ {P T : Type 0} {table : Table P T (Unit {0})} {log : List (Event T)} {tasks : List TaskInfo} {out : List (Option P)} (agree : Agree table log tasks out) where
+module _ {P T : Type 0} {table : Table P T (Unit {0})} {log : List (Event T)} {tasks : List TaskInfo} {out : List (Option (FutureOut P))} (agree : Agree table log tasks out) where
   pub spawn_step : (slot : ℕ) (p : P) → Agree (after_spawn table slot p) (log ++ Spawned table.next ∷ []) (tasks ++ new_info slot ∷ []) (out ++ None ∷ [])
   spawn_step slot p =
       let n = table.next in
@@ -478,6 +513,10 @@ module _ {P T : Type 0} {table : Table P T (Unit {0})} {log : List (Event T)} {t
         out = λ q. elim (cases_eq q n) [
           | inl same ↦ ap (λ k. is_out (slice_get (out ++ None ∷ []) k)) (same ∙ last) ∙ ap is_out (get-push_last out None) ∙ sym (ap (λ k. held k (log ++ Spawned n ∷ [])) same ∙ ap (λ s. s.held) here)
           | inr far ↦ ap is_out (get-push_other out None q (λ same. far (same ∙ sym last))) ∙ agree.out q ∙ sym (ap (λ s. s.held) (status_other q log (Spawned n) far))
+        ];
+        polled = λ q i is. elim (cases_eq q n) [
+          | inl same ↦ subst (λ o. PolledAgrees o i.to_drop) (sym (ap (slice_get (out ++ None ∷ [])) (same ∙ last) ∙ get-push_last out None)) tt
+          | inr far ↦ subst (λ o. PolledAgrees o i.to_drop) (sym (get-push_other out None q (λ same. far (same ∙ sym last)))) (agree.polled q i (sym (get-push_other tasks (new_info slot) q (λ same. far (same ∙ sym agree.next))) ∙ is))
         ];
         each = λ q. elim (cases_eq q n) [
           | inl same ↦ subst (λ k. NumberAgrees (map.get (after_spawn table slot p).cells k) (status k (log ++ Spawned n ∷ [])) (slice_get (tasks ++ new_info slot ∷ []) k)) (sym same)
@@ -514,6 +553,7 @@ opening_agrees =
       next = refl;
       as_many = refl;
       out = λ n. refl;
+      polled = λ n i is. tt;
       each = λ n. number_agrees_by _ None _ no_status _ None (map.get-empty nat_cmp n) refl refl refl;
       few_polls = λ n. omega arith;
       order = λ before e after is. absurd (none before e after is);
@@ -526,5 +566,5 @@ opening_agrees =
 pub and_left : (a b : Bool) → a && b ≡ true → a ≡ true
 and_left a b h = and-left a b h
 
-pub opening_at : {P T : Type 0} (table : Table P T (Unit {0})) (log : List (Event T)) (tasks : List TaskInfo) (out : List (Option P)) → table ≡ empty_table 0 → log ≡ [] → tasks ≡ [] → out ≡ [] → Agree table log tasks out
+pub opening_at : {P T : Type 0} (table : Table P T (Unit {0})) (log : List (Event T)) (tasks : List TaskInfo) (out : List (Option (FutureOut P))) → table ≡ empty_table 0 → log ≡ [] → tasks ≡ [] → out ≡ [] → Agree table log tasks out
 opening_at {P} {T} table log tasks out a b c d = rw (a, b, c, d) opening_agrees

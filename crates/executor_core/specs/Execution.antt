@@ -2,20 +2,24 @@
 use Rattle.std.specs.Prelude.{◌≡◌, ℕ, zero, suc, Bool, List, refl, true, false, ◌⊎◌}
 use Rattle.std.proofs.Common.{inl, inr}
 use Rattle.std.specs.Coded.{Coded, code_by, coded×, coded⊎, coded_ℕ, coded_list, coded_bool}
+use Rattle.executor_core.specs.Sleepers.{SleeperList, sleeper_list_code}
 use Rattle.executor_core.specs.declared.interleave.events.Purpose.{Purpose}
 use Rattle.executor_core.specs.declared.interleave.events.Purpose.TheVariants.{ToPoll, ToDrop}
 use Rattle.executor_core.specs.declared.interleave.tasks.TaskInfo.{TaskInfo}
 use Rattle.executor_core.specs.declared.interleave.events.Event.{Event}
 use Rattle.executor_core.specs.declared.interleave.events.Event.TheVariants.{Spawned, Woken, Cancelled, Took, Returned, Finished, Dropped, Got}
 
--- the log, how many steps were accepted and may be, the global queue, the notices that float,
--- and by number what the log does not say of a task
+-- the log, how many steps were accepted and may be, the global queue, the notices and the picks that are out, the flag
+-- and the sleepers, and by number what the log does not say of a task
 pub record Execution (T : Type 0) : Type 0 where
   pub log : List (Event T)
   pub accepted : ℕ
   pub limit : ℕ
   pub global : List ℕ
   pub notices : ℕ
+  pub picks : ℕ
+  pub flag : Bool
+  pub sleepers : SleeperList (Unit {0})
   pub tasks : List TaskInfo
 
 purpose_bool : Purpose → Bool
@@ -62,6 +66,9 @@ module _ {T : Type 0} where
   parts_event-event_parts (Finished n t) = refl
   parts_event-event_parts (Got n t) = refl
 
+abbrev pub unit_code : Coded (Unit {0})
+unit_code = code_by ℕ coded_ℕ (λ _. 0) (λ _. tt) (λ _. refl)
+
 abbrev pub info_code : Coded TaskInfo
 info_code =
     code_by
@@ -78,8 +85,8 @@ module _ {T : Type 0} (t : Coded T) where
   abbrev pub execution_code : Coded (Execution T)
   execution_code =
       code_by
-      (List (Event T) × (ℕ × (ℕ × (List ℕ × (ℕ × List TaskInfo)))))
-      (coded× (coded_list event_code) (coded× coded_ℕ (coded× coded_ℕ (coded× (coded_list coded_ℕ) (coded× coded_ℕ (coded_list info_code))))))
-      (λ s. (s.log, (s.accepted, (s.limit, (s.global, (s.notices, s.tasks))))))
-      (λ q. record { log = q.0; accepted = q.1.0; limit = q.1.1.0; global = q.1.1.1.0; notices = q.1.1.1.1.0; tasks = q.1.1.1.1.1 })
+      (List (Event T) × (ℕ × (ℕ × (List ℕ × (ℕ × (ℕ × (Bool × (SleeperList (Unit {0}) × List TaskInfo))))))))
+      (coded× (coded_list event_code) (coded× coded_ℕ (coded× coded_ℕ (coded× (coded_list coded_ℕ) (coded× coded_ℕ (coded× coded_ℕ (coded× coded_bool (coded× (sleeper_list_code unit_code) (coded_list info_code)))))))))
+      (λ s. (s.log, (s.accepted, (s.limit, (s.global, (s.notices, (s.picks, (s.flag, (s.sleepers, s.tasks)))))))))
+      (λ q. record { log = q.0; accepted = q.1.0; limit = q.1.1.0; global = q.1.1.1.0; notices = q.1.1.1.1.0; picks = q.1.1.1.1.1.0; flag = q.1.1.1.1.1.1.0; sleepers = q.1.1.1.1.1.1.1.0; tasks = q.1.1.1.1.1.1.1.1 })
       (λ _. refl)

@@ -83,6 +83,10 @@ module _ {T : Type 0} where
   abbrev pub idle : ℕ → List (Event T) → Bool
   idle n log = spawned n log && not (dropped n log) && not (held n log) && not (owed n log)
 
+  -- what its handle takes for finished: its future was dropped, or is to be
+  abbrev pub handle_finished : ℕ → List (Event T) → Bool
+  handle_finished n log = dropped n log || cancelled n log
+
   abbrev pub polls : ℕ → List (Event T) → ℕ
   polls n log = count_by (is_poll n) log
 

@@ -1,13 +1,15 @@
 -- Which step a world takes at a request, row by row.
-use Rattle.std.specs.Prelude.{◌≡◌, ◌≢◌, ◌⊎◌, ℕ, ◌+◌, Bool, true, false, List, [], ◌∷◌, ◌++◌, length, Option, Some, None, cond, ◌&&◌, ◌||◌, not, slice_get, slice_set}
+use Rattle.std.specs.Prelude.{◌≡◌, ◌≢◌, ◌⊎◌, ℕ, ◌+◌, ◌-◌, nat_lt, Bool, true, false, List, [], ◌∷◌, ◌++◌, length, Option, Some, None, cond, ◌&&◌, ◌||◌, not, slice_get, slice_set}
 use Rattle.executor_core.specs.Log.{spawned, dropped, cancelled, held, woken, idle, outputs}
+use Rattle.std.specs.Map.{keys_of}
 use Rattle.executor_core.specs.Execution.{Execution}
+use Rattle.executor_core.specs.SleepersCalls.{no_sleepers, last_of, all_unnotified, after_notify}
 use Rattle.executor_core.specs.declared.interleave.tasks.TaskInfo.{TaskInfo}
 use Rattle.executor_core.specs.declared.interleave.events.Purpose.TheVariants.{ToPoll, ToDrop}
 use Rattle.executor_core.specs.declared.interleave.events.Event.{Event}
-use Rattle.executor_core.specs.declared.interleave.events.Event.TheVariants.{Spawned, Woken, Took, Returned, Finished, Dropped, Got}
+use Rattle.executor_core.specs.declared.interleave.events.Event.TheVariants.{Spawned, Woken, Cancelled, Took, Returned, Finished, Dropped, Got}
 use Rattle.executor_core.specs.declared.interleave.steps.Step.{Step}
-use Rattle.executor_core.specs.declared.interleave.steps.Step.TheVariants.{Spawn, Wake, TryTick, Pend, Ready, PollHandle}
+use Rattle.executor_core.specs.declared.interleave.steps.Step.TheVariants.{Spawn, Wake, TryTick, Pend, Ready, PollHandle, Cancel, Detach, DropHandle, Dropped as DropDone, Exchange, Notify}
 use Rattle.executor_core.specs.declared.interleave.steps.Reply.{Reply}
 use Rattle.executor_core.specs.declared.interleave.steps.Reply.TheVariants as reply
 
@@ -25,7 +27,7 @@ new_info slot = record { slot = slot; has_handle = true; awaited = false; to_dro
 
 -- a world before its first step
 abbrev pub opening : {T : Type 0} → ℕ → Execution T
-opening limit = record { log = []; accepted = 0; limit = limit; global = []; notices = 0; tasks = [] }
+opening limit = record { log = []; accepted = 0; limit = limit; global = []; notices = 0; picks = 0; flag = true; sleepers = no_sleepers; tasks = [] }
 
 -- the words of the rows
 module _ {T : Type 0} where
@@ -54,11 +56,19 @@ module _ {T : Type 0} where
   spawn_row slot w =
       noticed (queued (length w.tasks) (logged (Spawned (length w.tasks)) (record w { tasks = w.tasks ++ new_info slot ∷ [] })))
 
+  -- a task is marked so, and an idle one is queued
+  abbrev pub mark_row : Event T → ℕ → Execution T → Reply T × Execution T
+  mark_row e n w =
+      cond (idle n w.log) (reply.Notice, noticed (queued n (logged e w)))
+      (cond (dropped n w.log) (reply.Nothing, w) (reply.Nothing, logged e w))
+
   -- wake n
   abbrev pub wake_row : ℕ → Execution T → Reply T × Execution T
-  wake_row n w =
-      cond (idle n w.log) (reply.Notice, noticed (queued n (logged (Woken n) w)))
-      (cond (dropped n w.log) (reply.Nothing, w) (reply.Nothing, logged (Woken n) w))
+  wake_row n w = mark_row (Woken n) n w
+
+  -- cancel n
+  abbrev pub cancel_row : ℕ → Execution T → Reply T × Execution T
+  cancel_row n w = mark_row (Cancelled n) n w
 
   -- trytick: the front of the global queue is taken
   abbrev pub tick_row : List ℕ → Execution T → Reply T × Execution T
@@ -89,6 +99,10 @@ module _ {T : Type 0} where
       (reply.Unwanted t (info n w).awaited, logged (Dropped n) unawaited)
       (cond (info n w).has_handle (reply.Finished (info n w).awaited, finished) (reply.Unwanted t (info n w).awaited, finished))
 
+  -- dropped n: the future was dropped, and gave no output
+  abbrev pub dropped_row : ℕ → Execution T → Reply T × Execution T
+  dropped_row n w = (reply.Gone (info n w).awaited, logged (Dropped n) (informed n (record (info n w) { awaited = false }) w))
+
   -- pollhandle n: what the handle of a dropped task gives
   abbrev pub give_row : ℕ → List T → Execution T → Reply T × Execution T
   give_row n [] w = (reply.Cancelled, informed n (record (info n w) { has_handle = false }) w)
@@ -98,6 +112,33 @@ module _ {T : Type 0} where
   handle_row n w =
       cond (dropped n w.log) (give_row n (outputs n w.log) w)
       (reply.Pending, informed n (record (info n w) { awaited = true }) w)
+
+  abbrev pub output_reply : Option T → Reply T
+  output_reply None = reply.Nothing
+  output_reply (Some t) = reply.Output t
+
+  -- detach n: the handle ends and is awaited no more, and the output of its task comes out
+  abbrev pub detach_row : ℕ → Execution T → Reply T × Execution T
+  detach_row n w = (output_reply (slice_get (outputs n w.log) 0), informed n (record (info n w) { has_handle = false; awaited = false }) w)
+
+  -- drophandle n: a cancel, and then a detach
+  abbrev pub drop_handle_row : ℕ → Execution T → Reply T × Execution T
+  drop_handle_row n w = (cond (idle n w.log) reply.Notice (detach_row n w).0, (detach_row n (cancel_row n w).1).1)
+
+  -- exchange: a notice is spent, and a pick is out where the flag was false
+  abbrev pub exchange_row : Execution T → Reply T × Execution T
+  exchange_row w =
+      let spent = record w { notices = w.notices - 1; flag = true } in
+      cond w.flag (reply.Nothing, spent) (reply.Pick, record spent { picks = w.picks + 1 })
+
+  abbrev pub notify_reply : Option ℕ → Reply T
+  notify_reply None = reply.Nobody
+  notify_reply (Some i) = reply.Sleeper i
+
+  -- notify: a pick is spent, and the one who went to sleep last is notified, unless somebody is already
+  abbrev pub notify_row : Execution T → Reply T × Execution T
+  notify_row w =
+      (cond (all_unnotified w.sleepers) (notify_reply (last_of (keys_of w.sleepers.unnotified))) reply.Nobody, record w { picks = w.picks - 1; sleepers = after_notify w.sleepers })
 
 -- what a step does
 module _ {T : Type 0} where
@@ -123,6 +164,12 @@ module _ {P T : Type 0} where
   enabled (Pend n) w = held n w.log && not (info n w).to_drop
   enabled (Ready n t) w = held n w.log && not (info n w).to_drop
   enabled (PollHandle n) w = (info n w).has_handle
+  enabled (Cancel n) w = (info n w).has_handle
+  enabled (Detach n) w = (info n w).has_handle
+  enabled (DropHandle n) w = (info n w).has_handle
+  enabled (DropDone n) w = held n w.log && (info n w).to_drop
+  enabled Exchange w = nat_lt 0 w.notices
+  enabled Notify w = nat_lt 0 w.picks
 
   -- what an enabled step does
   abbrev pub Does : Step P T → Execution T → Reply T → Execution T → Type 0
@@ -132,6 +179,12 @@ module _ {P T : Type 0} where
   Does (Pend n) old answer new = row (pend_row n old) answer new
   Does (Ready n t) old answer new = row (ready_row n t old) answer new
   Does (PollHandle n) old answer new = row (handle_row n old) answer new
+  Does (Cancel n) old answer new = row (cancel_row n old) answer new
+  Does (Detach n) old answer new = row (detach_row n old) answer new
+  Does (DropHandle n) old answer new = row (drop_handle_row n old) answer new
+  Does (DropDone n) old answer new = row (dropped_row n old) answer new
+  Does Exchange old answer new = row (exchange_row old) answer new
+  Does Notify old answer new = row (notify_row old) answer new
 
   -- a step: refused where the log is full, else where it is not enabled, else done
   pub record StepTo (old : Execution T) (step : Step P T) (answer : Reply T) (new : Execution T) : Type 0 where

@@ -1,49 +1,58 @@
 //! A world: the steps of all parties of an executor in any order, and the log of what they did.
 //!
-//! A party may spawn, wake, take a task, end its poll, or poll its handle. A `World` takes any list
-//! of such steps, of all parties, with steps of others between a take and the end of its poll. It
-//! makes each on its `Cells`, and logs what happened to which task. A step that is not enabled is
-//! answered and changes nothing.
+//! A party may spawn, wake, take a task, end its poll, say that its future was dropped, or poll,
+//! cancel, detach or drop its handle, exchange the flag, or notify a sleeper. A `World` takes any list of such steps, of all parties, with
+//! steps of others between a take and the end of its poll. It makes each on its `Core`, and logs
+//! what happened to which task. A step that is not enabled is answered and changes nothing.
+//!
+//! The notices and the picks that the steps leave to be spent are kept as counts. Any party may spend
+//! one that is out, at any time: a notice by an exchange, a pick by a notification.
 //!
 //! The log alone says where a task stands: whether it was dropped, is held, is owed a poll or a
 //! drop, or is idle is read off the events. The contracts of `World::step` and `World::run` say
 //! that the queue and the futures that are out agree with the log after every list of steps.
 ghost use Rattle.std.specs.Prelude.{◌≡◌, ◌≢◌, ◌≤◌, ◌&&◌, ◌||◌, ◌↔◌, not, ℕ, true, length, IfOk, OnErr, slice_get, Some};
+ghost use Rattle.executor_core.specs.Agreement.{HandlesAgree};
 ghost use Rattle.executor_core.specs.Calls.{AllDropped};
 ghost use Rattle.executor_core.specs.Log.{spawned, held, owed, idle, EachDropped};
 ghost use Rattle.executor_core.specs.Promises.{OnePlace, InOrder, FewPolls};
-ghost use Rattle.executor_core.specs.Steps.{info, enabled, Spawns, row, wake_row, tick_row, pend_row, ready_row, handle_row, StepTo, RunTo, opening};
+ghost use Rattle.executor_core.specs.Steps.{info, enabled, Spawns, row, wake_row, tick_row, pend_row, ready_row, dropped_row, StepTo, RunTo, opening};
 
 pub(crate) mod events;
+pub(crate) mod handles;
+pub(crate) mod notices;
 pub(crate) mod script;
 pub(crate) mod steps;
 pub(crate) mod tasks;
 
-use crate::task::{Cells, EndPending, Held, OutOfMemory, PollHandle, Taken};
+use crate::plain_core::Core;
+use crate::task::{Cells, EndPending, Held, OutOfMemory, Taken};
 pub use events::{Event, Purpose};
-use script::{poll_pending, poll_ready};
+use script::{drop_future, poll_pending, poll_ready};
 use std::alloc::Global;
 use std::marker::Model;
-use steps::reply_of;
+use steps::{has_awaiter, reply_of};
 pub use steps::{Reply, Step};
 pub use tasks::TaskInfo;
-use tasks::{find_info, has_future, replace_future, set_info};
+use tasks::{FutureOut, find_info, has_future, replace_future, set_info, take_unpolled};
 
 /// All parties of an executor, and the log of what they did.
 ///
 /// Futures are of type P and outputs of type T; wakers are units. A contract sees it as an
-/// `Execution`: the log, the global queue, and what the log does not say of a task.
+/// `Execution`: the log, the global queue, what is out to be spent, the flag and the sleepers, and
+/// what the log does not say of a task.
 #[derive(Drop)]
 pub struct World<P, T> {
     alloc: Global,
     limit: u32,
     accepted: u32,
-    cells: Cells<P, T, ()>,
+    core: Core<P, T, ()>,
     log: Vec<Event<T>>,
     tasks: Vec<TaskInfo>,
     // The futures that are out, each in the place of its task.
-    out: Vec<Option<P>>,
+    out: Vec<Option<FutureOut<P>>>,
     notices: u32,
+    picks: u32,
 }
 
 impl<P, T> Model for World<P, T> {
@@ -70,17 +79,18 @@ impl<P: Drop, T: Copy> World<P, T> {
         requires { limit ≤ 1000000 }
         ensures { IfOk result (λ world. world ≡ opening limit) }
     {
-        let cells = Cells::new(alloc)?;
+        let core = Core::new(alloc)?;
         let log = Vec::with_capacity(alloc, 3 * limit as usize)?;
         Ok(World {
             alloc,
             limit,
             accepted: 0,
-            cells,
+            core,
             log,
             tasks: Vec::new(alloc),
             out: Vec::new(alloc),
             notices: 0,
+            picks: 0,
         })
     }
 
@@ -94,6 +104,26 @@ impl<P: Drop, T: Copy> World<P, T> {
         }
     }
 
+    // Whether the drop of the task's future may be said.
+    fn may_drop(&self, n: u64) -> bool
+        ensures { result ≡ (held n self.now.log && (info n self.now).to_drop) }
+    {
+        match find_info(&self.tasks, n) {
+            Some(info) => self.is_out(n) && info.to_drop,
+            None => false,
+        }
+    }
+
+    // Whether the task's handle is there.
+    fn has_handle(&self, n: u64) -> bool
+        ensures { result ≡ (info n self.now).has_handle }
+    {
+        match find_info(&self.tasks, n) {
+            Some(info) => info.has_handle,
+            None => false,
+        }
+    }
+
     // Whether the step is enabled.
     fn is_enabled(&self, step: &Step<P, T>) -> bool
         ensures { result ≡ enabled step.now self.now }
@@ -103,10 +133,13 @@ impl<P: Drop, T: Copy> World<P, T> {
             Step::Wake(n) => find_info(&self.tasks, *n).is_some(),
             Step::Pend(n) => self.may_end(*n),
             Step::Ready(n, _) => self.may_end(*n),
-            Step::PollHandle(n) => match find_info(&self.tasks, *n) {
-                Some(info) => info.has_handle,
-                None => false,
-            },
+            Step::PollHandle(n) => self.has_handle(*n),
+            Step::Cancel(n) => self.has_handle(*n),
+            Step::Detach(n) => self.has_handle(*n),
+            Step::DropHandle(n) => self.has_handle(*n),
+            Step::Dropped(n) => self.may_drop(*n),
+            Step::Exchange => self.notices > 0,
+            Step::Notify => self.picks > 0,
         }
     }
 
@@ -120,7 +153,7 @@ impl<P: Drop, T: Copy> World<P, T> {
         if self.out.try_reserve(1).is_err() {
             return Reply::OutOfMemory;
         }
-        let (id, notice) = match self.cells.spawn(future) {
+        let (id, notice) = match self.core.spawn(future) {
             Ok(spawned) => spawned,
             Err(refused) => {
                 refused.into_inner();
@@ -152,11 +185,11 @@ impl<P: Drop, T: Copy> World<P, T> {
             None => unreachable!(),
         };
         let id = info.id(n);
-        if !self.cells.is_undropped(id) {
+        if !self.core.cells.is_undropped(id) {
             return Reply::Nothing;
         }
         self.log.push_reserved(Event::Woken(n));
-        match self.cells.wake(id) {
+        match self.core.wake(id) {
             Some(notice) => {
                 notice.keep();
                 self.notices += 1;
@@ -171,7 +204,7 @@ impl<P: Drop, T: Copy> World<P, T> {
         ensures { row (tick_row self.old.global self.old) result self.new }
     {
         self.accepted += 1;
-        let Some((taken, notice)) = self.cells.take_global(None) else {
+        let Some((taken, notice)) = self.core.take_global(None) else {
             return Reply::NoTask;
         };
         notice.keep();
@@ -189,7 +222,7 @@ impl<P: Drop, T: Copy> World<P, T> {
             None => unreachable!(),
         };
         set_info(&mut self.tasks, n, info.with_to_drop(cancelled));
-        replace_future(&mut self.out, n, Some(future));
+        replace_future(&mut self.out, n, Some(FutureOut::Unpolled(future)));
         if cancelled {
             self.log.push_reserved(Event::Took(n, Purpose::ToDrop));
             Reply::Drop(n)
@@ -209,12 +242,10 @@ impl<P: Drop, T: Copy> World<P, T> {
             Some(info) => info,
             None => unreachable!(),
         };
-        let Some(future) = replace_future(&mut self.out, n, None) else {
-            unreachable!()
-        };
+        let future = take_unpolled(&mut self.out, n);
         let id = info.id(n);
         let (held, future) = poll_pending::<P, T>(id, future);
-        match self.cells.end_pending(held, future) {
+        match self.core.end_pending(held, future) {
             EndPending::Back(Some(notice)) => {
                 notice.keep();
                 self.notices += 1;
@@ -227,7 +258,7 @@ impl<P: Drop, T: Copy> World<P, T> {
             }
             EndPending::Drop(future, held) => {
                 let Held { id: _, to_drop: _ } = held;
-                replace_future(&mut self.out, n, Some(future));
+                replace_future(&mut self.out, n, Some(FutureOut::Polled(future)));
                 set_info(&mut self.tasks, n, info.with_to_drop(true));
                 Reply::Drop(n)
             }
@@ -244,14 +275,12 @@ impl<P: Drop, T: Copy> World<P, T> {
             Some(info) => info,
             None => unreachable!(),
         };
-        let Some(future) = replace_future(&mut self.out, n, None) else {
-            unreachable!()
-        };
+        let future = take_unpolled(&mut self.out, n);
         set_info(&mut self.tasks, n, info.with_awaited(false));
         let id = info.id(n);
         let (held, output) = poll_ready(id, future, output);
-        let cancelled = self.cells.is_cancelled(id);
-        let ended = self.cells.end_ready(held, output);
+        let cancelled = self.core.cells.is_cancelled(id);
+        let ended = self.core.end_ready(held, output);
         if cancelled {
             self.log.push_reserved(Event::Dropped(n));
             return reply_of(ended);
@@ -261,31 +290,25 @@ impl<P: Drop, T: Copy> World<P, T> {
         reply_of(ended)
     }
 
-    fn poll_handle(&mut self, n: u64) -> Reply<T>
+    fn dropped(&mut self, n: u64) -> Reply<T>
         requires room { self.old.accepted ≢ self.old.limit }
-        requires enabled { (info n self.old).has_handle ≡ true }
-        ensures { row (handle_row n self.old) result self.new }
+        requires enabled { (held n self.old.log && (info n self.old).to_drop) ≡ true }
+        ensures { row (dropped_row n self.old) result self.new }
     {
         self.accepted += 1;
         let info = match find_info(&self.tasks, n) {
             Some(info) => info,
             None => unreachable!(),
         };
-        let id = info.id(n);
-        match self.cells.poll_handle(id, ()) {
-            PollHandle::Output(output, _) => {
-                self.log.push_reserved(Event::Got(n, output));
-                set_info(&mut self.tasks, n, info.without_handle());
-                Reply::Output(output)
-            }
-            PollHandle::Cancelled(_) => {
-                set_info(&mut self.tasks, n, info.without_handle());
-                Reply::Cancelled
-            }
-            PollHandle::Pending(_) => {
-                set_info(&mut self.tasks, n, info.with_awaited(true));
-                Reply::Pending
-            }
+        let Some(out) = replace_future(&mut self.out, n, None) else {
+            unreachable!()
+        };
+        set_info(&mut self.tasks, n, info.with_awaited(false));
+        let held = drop_future::<P, T>(info.id(n), out);
+        let awaiter = self.core.end_dropped(held);
+        self.log.push_reserved(Event::Dropped(n));
+        Reply::Gone {
+            awaiter: has_awaiter(awaiter),
         }
     }
 
@@ -295,7 +318,7 @@ impl<P: Drop, T: Copy> World<P, T> {
         ensures in_order { InOrder self.now.log }
         ensures few_polls { FewPolls self.now.log }
     {
-        self.cells.keeps_law();
+        self.core.cells.keeps_law();
     }
 
     fn take_step(&mut self, step: Step<P, T>) -> Reply<T>
@@ -314,6 +337,12 @@ impl<P: Drop, T: Copy> World<P, T> {
             Step::Pend(n) => self.pend(n),
             Step::Ready(n, output) => self.ready(n, output),
             Step::PollHandle(n) => self.poll_handle(n),
+            Step::Cancel(n) => self.cancel(n),
+            Step::Detach(n) => self.detach(n),
+            Step::DropHandle(n) => self.drop_handle(n),
+            Step::Dropped(n) => self.dropped(n),
+            Step::Exchange => self.exchange(),
+            Step::Notify => self.notify(),
         }
     }
 
@@ -364,7 +393,7 @@ impl<P: Drop, T: Copy> World<P, T> {
         ensures { result ≡ (owed n self.now.log || idle n self.now.log) }
     {
         match find_info(&self.tasks, n) {
-            Some(info) => self.cells.keeps(info.id(n)),
+            Some(info) => self.core.cells.keeps(info.id(n)),
             None => false,
         }
     }
@@ -376,13 +405,26 @@ impl<P: Drop, T: Copy> World<P, T> {
         has_future(&self.out, n)
     }
 
-    /// The cells on which the steps were made.
+    /// The cells on which the steps were made. They answer each handle that is there as the log says.
     pub fn cells(&self) -> &Cells<P, T, ()>
         ensures next { result.now.next ≡ length self.now.tasks }
         ensures global { result.now.global ≡ self.now.global }
         ensures empty { AllDropped result.now ↔ EachDropped self.now.log }
+        ensures handles { HandlesAgree result.now self.now.log self.now.tasks }
     {
-        &self.cells
+        &self.core.cells
+    }
+
+    /// The shared state on which the steps were made. Its cells are those that `cells` lends.
+    pub fn state(&self) -> &Core<P, T, ()>
+        ensures next { result.now.cells.next ≡ length self.now.tasks }
+        ensures global { result.now.cells.global ≡ self.now.global }
+        ensures empty { AllDropped result.now.cells ↔ EachDropped self.now.log }
+        ensures handles { HandlesAgree result.now.cells self.now.log self.now.tasks }
+        ensures flag { result.now.flag ≡ self.now.flag }
+        ensures sleepers { result.now.sleepers ≡ self.now.sleepers }
+    {
+        &self.core
     }
 
     /// The events, in order.
@@ -392,17 +434,17 @@ impl<P: Drop, T: Copy> World<P, T> {
         &self.log
     }
 
-    /// How many notices were given out. No step spends one yet.
+    /// How many notices are out, still to be spent by an exchange of the flag.
     pub fn notices(&self) -> u32
         ensures { result ≡ self.now.notices }
     {
         self.notices
     }
 
-    /// How many picks are out. No step makes one yet.
+    /// How many picks are out, still to be spent by a notification of the sleepers.
     pub fn picks(&self) -> u32
-        ensures { result ≡ 0 }
+        ensures { result ≡ self.now.picks }
     {
-        0
+        self.picks
     }
 }

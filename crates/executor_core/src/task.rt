@@ -31,7 +31,7 @@
 //! | `Taken` | a task was taken | `run_taken` |
 //! | `Held` | it was polled, or its future was dropped | `end_pending`, `end_ready`, `end_dropped` |
 //! | `Wakeup` | a waker is to be woken | `Wakeup::wake` |
-//! | `Notice` | a task was queued, and sleepers are to hear of it | the exchange of the flag, `join`, `settle` |
+//! | `Notice` | a task was queued, and sleepers are to hear of it | the exchange of the flag, or `join` |
 //! | `Pick` | a sleeper is to be notified | the notification of the sleepers |
 //! | `Again` | the list of sleepers grew, and a search is to be made | the next take |
 //! | `Change` | the list of sleepers changed, and the flag is to be stored | the store of the flag |
@@ -48,5 +48,5 @@ pub use handles::PollHandle;
 pub use polling::{Polled, Poller, Ran, run_taken};
 pub use refusals::{OutOfMemory, SpawnError};
 pub use table::{Cells, EndPending, EndReady};
-pub use traits::Wake;
+pub use traits::{Future, Poll, Wake};
 pub use values::{Again, Change, Held, Notice, Pick, Taken, TaskId, Wakeup};

@@ -103,6 +103,12 @@ is_word (Step step.TryTick) = word_by_letters _ refl
 is_word (Step (step.Pend n)) = word_by_letters _ refl
 is_word (Step (step.Ready n output)) = word_by_letters _ refl
 is_word (Step (step.PollHandle n)) = word_by_letters _ refl
+is_word (Step (step.Cancel n)) = word_by_letters _ refl
+is_word (Step (step.Detach n)) = word_by_letters _ refl
+is_word (Step (step.DropHandle n)) = word_by_letters _ refl
+is_word (Step (step.Dropped n)) = word_by_letters _ refl
+is_word (Step step.Exchange) = word_by_letters _ refl
+is_word (Step step.Notify) = word_by_letters _ refl
 
 -- the numbers of each command are arguments
 pub arguments_for : (command : Command) → (a : Arguments) × (listed a ≡ numbers_of command)
@@ -113,3 +119,9 @@ arguments_for (Step step.TryTick) = (arguments.None, refl)
 arguments_for (Step (step.Pend n)) = (arguments.One n, refl)
 arguments_for (Step (step.Ready n output)) = (arguments.Two n output, refl)
 arguments_for (Step (step.PollHandle n)) = (arguments.One n, refl)
+arguments_for (Step (step.Cancel n)) = (arguments.One n, refl)
+arguments_for (Step (step.Detach n)) = (arguments.One n, refl)
+arguments_for (Step (step.DropHandle n)) = (arguments.One n, refl)
+arguments_for (Step (step.Dropped n)) = (arguments.One n, refl)
+arguments_for (Step step.Exchange) = (arguments.None, refl)
+arguments_for (Step step.Notify) = (arguments.None, refl)

@@ -18,6 +18,12 @@ word_of (Step step.TryTick) = codes "trytick"
 word_of (Step (step.Pend _)) = codes "pend"
 word_of (Step (step.Ready _ _)) = codes "ready"
 word_of (Step (step.PollHandle _)) = codes "pollhandle"
+word_of (Step (step.Cancel _)) = codes "cancel"
+word_of (Step (step.Detach _)) = codes "detach"
+word_of (Step (step.DropHandle _)) = codes "drophandle"
+word_of (Step (step.Dropped _)) = codes "dropped"
+word_of (Step step.Exchange) = codes "exchange"
+word_of (Step step.Notify) = codes "notify"
 
 -- the numbers behind it
 abbrev pub numbers_of : Command → List ℕ
@@ -28,6 +34,12 @@ numbers_of (Step step.TryTick) = []
 numbers_of (Step (step.Pend n)) = n ∷ []
 numbers_of (Step (step.Ready n output)) = n ∷ output ∷ []
 numbers_of (Step (step.PollHandle n)) = n ∷ []
+numbers_of (Step (step.Cancel n)) = n ∷ []
+numbers_of (Step (step.Detach n)) = n ∷ []
+numbers_of (Step (step.DropHandle n)) = n ∷ []
+numbers_of (Step (step.Dropped n)) = n ∷ []
+numbers_of (Step step.Exchange) = []
+numbers_of (Step step.Notify) = []
 
 -- each number in decimal, after one space
 abbrev pub spaced : List ℕ → List ℕ

@@ -21,6 +21,7 @@ reply_text (reply.Idle n) = codes "idle " ++ decimal n
 reply_text (reply.Queued n) = codes "queued " ++ decimal n
 reply_text (reply.Finished awaiter) = codes "finished" ++ awaiter_text awaiter
 reply_text (reply.Unwanted output awaiter) = codes "unwanted " ++ decimal output ++ awaiter_text awaiter
+reply_text (reply.Gone awaiter) = codes "gone" ++ awaiter_text awaiter
 reply_text (reply.Output output) = codes "output " ++ decimal output
 reply_text reply.Cancelled = codes "cancelled"
 reply_text reply.Pending = codes "pending"

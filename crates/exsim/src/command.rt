@@ -48,6 +48,12 @@ fn command_from(word: &str, arguments: Arguments) -> Option<Command>
         ("pend", Arguments::One(n)) => Step::Pend(n),
         ("ready", Arguments::Two(n, output)) => Step::Ready(n, output),
         ("pollhandle", Arguments::One(n)) => Step::PollHandle(n),
+        ("cancel", Arguments::One(n)) => Step::Cancel(n),
+        ("detach", Arguments::One(n)) => Step::Detach(n),
+        ("drophandle", Arguments::One(n)) => Step::DropHandle(n),
+        ("dropped", Arguments::One(n)) => Step::Dropped(n),
+        ("exchange", Arguments::None) => Step::Exchange,
+        ("notify", Arguments::None) => Step::Notify,
         _ => return None,
     };
     Some(Command::Step(step))

@@ -32,6 +32,8 @@ impl fmt::Display for ReplyText {
                 output,
                 awaiter: true,
             } => write!(f, "unwanted {output} awaiter"),
+            Reply::Gone { awaiter: false } => f.write_str("gone"),
+            Reply::Gone { awaiter: true } => f.write_str("gone awaiter"),
             Reply::Output(output) => write!(f, "output {output}"),
             Reply::Cancelled => f.write_str("cancelled"),
             Reply::Pending => f.write_str("pending"),

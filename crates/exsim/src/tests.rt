@@ -94,7 +94,7 @@ fn expect_run(rt: &impl Abort, alloc: Global, input: Source<'_>, output: &str, s
 }
 
 // What is read, what is written and the status.
-const RUNS: [(&str, &str, u8); 9] = [
+const RUNS: [(&str, &str, u8); 12] = [
     ("", "", 0),
     (
         "spawn\ntrytick\nready 0 7\npollhandle 0\ntrytick\n",
@@ -127,6 +127,28 @@ const RUNS: [(&str, &str, u8); 9] = [
         0,
     ),
     ("pend 0\n", "not now\n", 0),
+    (
+        "spawn\ntrytick\nwake 0\ncancel 0\npollhandle 0\nready 0 7\npollhandle 0\nshow\n",
+        "task 0\npoll 0\nnothing\nnothing\npending\nunwanted 7 awaiter\ncancelled\nglobal [] \
+         locals [] flag true numbers 0 notified 0 notices 2 picks 0 undropped 0\n",
+        0,
+    ),
+    (
+        "spawn\nspawn\ntrytick\ntrytick\ncancel 1\nwake 1\npend 1\nwake 1\ndropped 1\nwake 0\n\
+         wake 0\npend 0\npollhandle 1\nwake 1\ncancel 1\nshow\n",
+        "task 0\ntask 1\npoll 0\npoll 1\nnothing\nnothing\ndrop 1\nnothing\ngone\nnothing\n\
+         nothing\nqueued 0\ncancelled\nnothing\nnot now\nglobal [0] locals [] flag true \
+         numbers 0 notified 0 notices 5 picks 0 undropped 1\n",
+        0,
+    ),
+    (
+        "spawn\ntrytick\nready 0 7\ndetach 0\nspawn\ndrophandle 1\npollhandle 1\ntrytick\n\
+         pend 1\ndropped 1\nspawn\ntrytick\npollhandle 2\npend 2\ncancel 2\ntrytick\n\
+         dropped 2\npollhandle 2\n",
+        "task 0\npoll 0\nfinished\noutput 7\ntask 1\nnothing\nnot now\ndrop 1\nnot now\ngone\n\
+         task 2\npoll 2\npending\nidle 2\nnotice\ndrop 2\ngone awaiter\ncancelled\n",
+        0,
+    ),
     ("spawn\nspwan\nspawn\n", "task 0\nbad line 2\n", 1),
     ("spawn\n\n", "task 0\nbad line 2\n", 1),
 ];
@@ -144,7 +166,7 @@ fn runs_print_their_replies_however_the_input_is_cut(rt: HostRuntime) {
     }
 }
 
-const NO_STEPS: [&[u8]; 38] = [
+const NO_STEPS: [&[u8]; 39] = [
     b"",
     b"\r",
     b"spwan",
@@ -182,7 +204,8 @@ const NO_STEPS: [&[u8]; 38] = [
     b"ready 0",
     b"ready 0  0",
     b"ready 0 0 0",
-    b"cancel 0",
+    b"cancel",
+    b"close",
 ];
 
 // What is written where such a line comes third.

@@ -1,7 +1,8 @@
 //! Polls that answer as a step says.
-ghost use Rattle.std.specs.Prelude.{◌≡◌, false};
+ghost use Rattle.std.specs.Prelude.{◌≡◌, false, true};
 ghost use Rattle.executor_core.specs.Polling.{polled_output};
 
+use crate::interleave::tasks::FutureOut;
 use crate::task::{Held, Polled, Poller, Ran, Taken, TaskId, run_taken};
 
 /// Answers each poll with this output, or pending where there is none.
@@ -32,15 +33,26 @@ impl<P: Drop, T: Copy> Poller<P, T> for Script<T> {
     }
 }
 
-// The task as it was taken to be polled.
-fn taken_to_poll<P>(id: TaskId, future: P) -> Taken<P>
-    ensures { result ≡ record { id = id; future = future; cancelled = false; held = record { id = id; to_drop = false } } }
+// The task as it was taken, to be polled, or cancelled.
+fn taken<P>(id: TaskId, future: P, cancelled: bool) -> Taken<P>
+    ensures { result ≡ record { id = id; future = future; cancelled = cancelled; held = record { id = id; to_drop = false } } }
 {
     Taken {
         id,
         future,
-        cancelled: false,
+        cancelled,
         held: Held { id, to_drop: false },
+    }
+}
+
+// A script that answers each poll with this output, or pending where there is none.
+fn answering<T>(output: Option<T>) -> Script<T>
+    ensures { result ≡ record { output = output; polls = 0; disposals = 0 } }
+{
+    Script {
+        output,
+        polls: 0,
+        disposals: 0,
     }
 }
 
@@ -48,13 +60,8 @@ fn taken_to_poll<P>(id: TaskId, future: P) -> Taken<P>
 pub(crate) fn poll_pending<P: Drop, T: Copy>(id: TaskId, future: P) -> (Held, P)
     ensures { result.0 ≡ record { id = id; to_drop = false } }
 {
-    let output: Option<T> = None;
-    let mut script = Script {
-        output,
-        polls: 0,
-        disposals: 0,
-    };
-    match run_taken(taken_to_poll(id, future), &mut script) {
+    let mut script = answering::<T>(None);
+    match run_taken(taken(id, future, false), &mut script) {
         Ran::Pending(held, future) => (held, future),
         _ => unreachable!(),
     }
@@ -64,13 +71,31 @@ pub(crate) fn poll_pending<P: Drop, T: Copy>(id: TaskId, future: P) -> (Held, P)
 pub(crate) fn poll_ready<P: Drop, T: Copy>(id: TaskId, future: P, output: T) -> (Held, T)
     ensures { result ≡ (record { id = id; to_drop = false }, output) }
 {
-    let mut script = Script {
-        output: Some(output),
-        polls: 0,
-        disposals: 0,
-    };
-    match run_taken(taken_to_poll(id, future), &mut script) {
+    let mut script = answering(Some(output));
+    match run_taken(taken(id, future, false), &mut script) {
         Ran::Ready(held, output) => (held, output),
         _ => unreachable!(),
+    }
+}
+
+// The drop of the future of a task that was taken cancelled.
+fn dispose<P: Drop, T: Copy>(id: TaskId, future: P) -> Held
+    ensures { result ≡ record { id = id; to_drop = true } }
+{
+    let mut script = answering::<T>(None);
+    match run_taken(taken(id, future, true), &mut script) {
+        Ran::Dropped(held) => held,
+        _ => unreachable!(),
+    }
+}
+
+// The drop of the future of a cancelled task. One whose poll ended pending came back from its end,
+// and is let go here.
+pub(crate) fn drop_future<P: Drop, T: Copy>(id: TaskId, future: FutureOut<P>) -> Held
+    ensures { result ≡ record { id = id; to_drop = true } }
+{
+    match future {
+        FutureOut::Unpolled(future) => dispose::<P, T>(id, future),
+        FutureOut::Polled(_) => Held { id, to_drop: true },
     }
 }

@@ -1,6 +1,6 @@
 //! What a world knows of each task beside its log, and the futures that are out.
-ghost use Rattle.std.specs.Prelude.{◌≡◌, ◌<◌, Some, false, length, slice_get, slice_set};
-ghost use Rattle.executor_core.specs.Agreement.{is_out};
+ghost use Rattle.std.specs.Prelude.{◌≡◌, ◌<◌, Some, None, false, true, length, slice_get, slice_set};
+ghost use Rattle.executor_core.specs.Agreement.{is_out, is_unpolled};
 
 use crate::task::TaskId;
 use std::mem::replace;
@@ -54,6 +54,15 @@ impl TaskInfo {
     }
 }
 
+// A future that is out, with the one who took its task.
+#[derive(Drop)]
+pub(crate) enum FutureOut<P> {
+    // It was not polled since its task was taken.
+    Unpolled(P),
+    // Its poll ended pending, and it is to be dropped, since its task was cancelled.
+    Polled(P),
+}
+
 // What is known of this task, if it was spawned.
 pub(crate) fn find_info(tasks: &Vec<TaskInfo>, n: u64) -> Option<TaskInfo>
     ensures { result ≡ slice_get tasks.now.items n }
@@ -70,7 +79,7 @@ pub(crate) fn set_info(tasks: &mut Vec<TaskInfo>, n: u64, info: TaskInfo)
 }
 
 // Whether the future of this task is out.
-pub(crate) fn has_future<P>(out: &Vec<Option<P>>, n: u64) -> bool
+pub(crate) fn has_future<P>(out: &Vec<Option<FutureOut<P>>>, n: u64) -> bool
     ensures { result ≡ is_out (slice_get out.now.items n) }
 {
     match out.get(n as usize) {
@@ -80,10 +89,26 @@ pub(crate) fn has_future<P>(out: &Vec<Option<P>>, n: u64) -> bool
 }
 
 // Puts this in the place of the task's future, and gives what was there.
-pub(crate) fn replace_future<P>(out: &mut Vec<Option<P>>, n: u64, future: Option<P>) -> Option<P>
+pub(crate) fn replace_future<P>(
+    out: &mut Vec<Option<FutureOut<P>>>,
+    n: u64,
+    future: Option<FutureOut<P>>,
+) -> Option<FutureOut<P>>
     requires { n < length out.old.items }
     ensures out { out.new.items ≡ slice_set out.old.items n future }
     ensures before { slice_get out.old.items n ≡ Some result }
 {
     replace(&mut out[n as usize], future)
+}
+
+// Takes the task's future out of its place, to be polled.
+pub(crate) fn take_unpolled<P: Drop>(out: &mut Vec<Option<FutureOut<P>>>, n: u64) -> P
+    requires { is_unpolled (slice_get out.old.items n) ≡ true }
+    ensures { out.new.items ≡ slice_set out.old.items n None }
+{
+    match replace_future(out, n, None) {
+        Some(FutureOut::Unpolled(future)) => future,
+        Some(FutureOut::Polled(_)) => unreachable!(),
+        None => unreachable!(),
+    }
 }

@@ -1,4 +1,4 @@
-//! What a waker is.
+//! What futures and wakers are.
 use crate::task::refusals::OutOfMemory;
 
 /// Asks whoever polls for another poll. It stands for `std::task::Waker`.
@@ -8,4 +8,22 @@ pub trait Wake: Drop {
 
     /// A second waker for the same poll, or the answer that memory for it was refused.
     fn copy(&self) -> Result<Self, OutOfMemory>;
+}
+
+/// The answer of a poll. It stands for `std::task::Poll`.
+#[derive(Debug, PartialEq, Eq, Drop)]
+pub enum Poll<T> {
+    /// The future gave this, and is not to be polled again.
+    Ready(T),
+    /// Not yet: the waker that was passed is woken once another poll is worth making.
+    Pending,
+}
+
+/// What is polled to its end, by wakers of the type W. It stands for `std::future::Future`.
+pub trait Future<W>: Drop {
+    /// What it gives in the end.
+    type Output: Drop;
+
+    /// Goes on as far as it can, and has the waker woken once it can go on.
+    fn poll(&mut self, w: &W) -> Poll<Self::Output>;
 }

@@ -38,12 +38,6 @@ impl Notice {
         let Notice { unspent: () } = other;
         self
     }
-
-    /// Ends a notice where there are no sleepers to hear of it.
-    pub fn settle(self) {
-        let Notice { unspent: () } = self;
-    }
-
     // A world keeps its notices as a count.
     pub(crate) fn keep(self) {
         let Notice { unspent: () } = self;

@@ -1,0 +1,4 @@
+pub mod Answers
+pub mod Task
+pub mod Store
+pub mod Ends

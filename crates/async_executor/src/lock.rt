@@ -1,0 +1,17 @@
+//! Locks that are mostly free.
+use std::sync::{Mutex, MutexGuard, Wait};
+
+/// Waits for the lock. The first try is made in place, and only what waits is a call.
+#[inline(always)]
+pub(crate) fn lock<'a, T, R: Wait>(mutex: &'a Mutex<T>, rt: &R) -> MutexGuard<'a, T> {
+    match mutex.try_lock() {
+        Some(guard) => guard,
+        None => wait_for(mutex, rt),
+    }
+}
+
+#[cold]
+#[inline(never)]
+fn wait_for<'a, T, R: Wait>(mutex: &'a Mutex<T>, rt: &R) -> MutexGuard<'a, T> {
+    mutex.lock(rt)
+}

@@ -1,0 +1,71 @@
+//! What an executor, its handles and the wakers of its tasks share.
+use crate::lock::lock;
+use executor_core::sleepers::{ClosedSleepers, Flag};
+use executor_core::task::{Cells, Notice, OutOfMemory, Pick, Wake, Wakeup};
+use std::alloc::Global;
+use std::sync::{Mutex, MutexGuard, Wait};
+
+/// The table of tasks and the sleepers, each behind a lock, the flag beside them, and the right to
+/// wait for the locks.
+///
+/// No two of its locks are ever held together, and none while a waker is woken.
+#[derive(Drop)]
+pub struct State<W, R> {
+    cells: Mutex<Cells<(), (), W>>,
+    sleepers: Mutex<ClosedSleepers<W>>,
+    flag: Flag,
+    rt: R,
+}
+
+impl<W: Wake, R: Wait + Clone + Drop> State<W, R> {
+    /// The state of an executor that has no tasks.
+    pub(crate) fn new(rt: R, alloc: Global) -> Result<State<W, R>, OutOfMemory> {
+        Ok(State {
+            cells: Mutex::new(Cells::new(alloc)?),
+            sleepers: Mutex::new(ClosedSleepers::new(alloc)),
+            flag: Flag::new(),
+            rt,
+        })
+    }
+
+    /// The right to wait.
+    pub(crate) fn rt(&self) -> &R {
+        &self.rt
+    }
+
+    /// Waits for the table of tasks, which is locked until the guard is dropped.
+    #[inline(always)]
+    pub(crate) fn cells(&self) -> MutexGuard<'_, Cells<(), (), W>> {
+        lock(&self.cells, &self.rt)
+    }
+
+    /// Spends the notice of a task that was queued or taken: where somebody sleeps and nobody was
+    /// notified since, a sleeper is woken. No lock may be held. It stands for `State::notify`.
+    pub(crate) fn announce(&self, notice: Notice) {
+        if let Some(pick) = self.flag.exchange(notice) {
+            self.notify(pick);
+        }
+    }
+
+    /// Spends the notice, where there is one. No lock may be held.
+    pub(crate) fn announce_any(&self, notice: Option<Notice>) {
+        if let Some(notice) = notice {
+            self.announce(notice);
+        }
+    }
+
+    // The waker is woken once the lock is given up.
+    #[cold]
+    #[inline(never)]
+    fn notify(&self, pick: Pick) {
+        let wakeup = lock(&self.sleepers, &self.rt).sleepers.notify(pick);
+        wake_any(wakeup);
+    }
+}
+
+/// Wakes the waker, where there is one. No lock may be held.
+pub(crate) fn wake_any<W: Wake>(wakeup: Option<Wakeup<W>>) {
+    if let Some(wakeup) = wakeup {
+        wakeup.wake();
+    }
+}

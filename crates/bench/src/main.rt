@@ -1,0 +1,113 @@
+//! Measures the executors.
+//!
+//! `bench NAME N R` runs the row NAME with N operations, R times over, and prints the name, N, and the seconds and
+//! the nanoseconds an operation of the fastest run. R is 5 where it is left out; unless it is 1, one run more goes
+//! before, to warm up. `bench list` prints the names. Without arguments each row is run once at a small N, and the
+//! number of its operations that did what they were to do is printed.
+#![tactic(auto)]
+
+pub mod futures;
+pub mod rows;
+
+use rows::Row;
+use std::alloc::Global;
+use std::io;
+use std::process::ExitCode;
+use std::rt::Clock;
+use std::sync::Wait;
+use std::time::{Duration, Instant};
+
+const SMALL: u64 = 10;
+
+const RUNS: u64 = 5;
+
+const NANOS: u128 = 1_000_000_000;
+
+fn main(rt: HostRuntime) -> io::Result<ExitCode> {
+    let alloc = rt.alloc();
+    let mut args = std::env::args(&rt)?.skip(1);
+    let Some(name) = args.next() else {
+        return print_counts(&rt, alloc);
+    };
+    if name.as_str() == "list" {
+        for row in Row::ALL {
+            println!(rt; "{}", row.name())?;
+        }
+        return Ok(ExitCode::SUCCESS);
+    }
+    let operations = number_or(args.next(), SMALL);
+    let runs = number_or(args.next(), RUNS);
+    let Some(row) = Row::from_name(name.as_str()) else {
+        println!(rt; "no row {name}")?;
+        return Ok(ExitCode::FAILURE);
+    };
+    match fastest(&rt, alloc, row, operations, runs)? {
+        Some(time) => print_time(&rt, row, operations, time)?,
+        None => return refused(&rt, row),
+    }
+    Ok(ExitCode::SUCCESS)
+}
+
+fn number_or(argument: Option<String>, default: u64) -> u64 {
+    match argument {
+        Some(text) => text.as_str().parse::<u64>().unwrap_or(default),
+        None => default,
+    }
+}
+
+fn refused(rt: &impl Print, row: Row) -> io::Result<ExitCode> {
+    println!(rt; "{} refused", row.name())?;
+    Ok(ExitCode::FAILURE)
+}
+
+fn print_counts<R: Wait + Clone + Drop + Print>(rt: &R, alloc: Global) -> io::Result<ExitCode> {
+    for row in Row::ALL {
+        let Some(count) = row.run(rt, alloc, SMALL) else {
+            return refused(rt, row);
+        };
+        println!(rt; "{} {SMALL} {count}", row.name())?;
+    }
+    Ok(ExitCode::SUCCESS)
+}
+
+fn print_time(rt: &impl Print, row: Row, operations: u64, time: Duration) -> io::Result<()> {
+    let nanos = time.as_nanos();
+    let tenths = nanos
+        .saturating_mul(10)
+        .checked_div(u128::from(operations))
+        .unwrap_or(0);
+    println!(rt;
+        "{} {operations} {}.{:09} {}.{}",
+        row.name(),
+        nanos / NANOS,
+        nanos % NANOS,
+        tenths / 10,
+        tenths % 10
+    )
+}
+
+// The shortest time of the runs, or `None` where memory was refused.
+fn fastest<R: Wait + Clone + Drop + Clock>(
+    rt: &R,
+    alloc: Global,
+    row: Row,
+    operations: u64,
+    runs: u64,
+) -> io::Result<Option<Duration>> {
+    let mut best: Option<Duration> = None;
+    if runs != 1 && row.run(rt, alloc, operations).is_none() {
+        return Ok(None);
+    }
+    for _ in 0..runs {
+        let start = Instant::now(rt)?;
+        if row.run(rt, alloc, operations).is_none() {
+            return Ok(None);
+        }
+        let time = start.elapsed(rt)?;
+        best = match best {
+            Some(before) if before < time => Some(before),
+            _ => Some(time),
+        };
+    }
+    Ok(best)
+}

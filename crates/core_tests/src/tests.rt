@@ -1,0 +1,5 @@
+//! Worked runs of the table, of the sleepers, and of a world.
+mod cells;
+mod notices;
+mod wakers;
+mod worlds;

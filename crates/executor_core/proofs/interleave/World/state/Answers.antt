@@ -1,0 +1,15 @@
+use Rattle.std.proofs.Common.{subst, sym}
+use Rattle.executor_core.specs.Log.{EachDropped}
+use Rattle.executor_core.specs.Agreement.{HandlesAgree}
+use Rattle.executor_core.proofs.HandleLemmas.{handle_agrees}
+use Rattle.executor_core.proofs.AgreementLemmas.{each_dropped, all_dropped}
+use Rattle.executor_core.proofs.interleave.World.state.Goals as goal
+
+pub returns-clause-empty : goal.returns-clause-empty
+returns-clause-empty g c = (
+  λ all. subst (λ w. EachDropped w.log) c.self.view_is (each_dropped c.self.invariant.agree all),
+  λ each. all_dropped c.self.invariant.agree (subst (λ w. EachDropped w.log) (sym c.self.view_is) each),
+)
+
+pub returns-clause-handles : goal.returns-clause-handles
+returns-clause-handles g c = subst (λ w. HandlesAgree c.self.inside.core.cells w.log w.tasks) c.self.view_is (λ n i found there. handle_agrees c.self.invariant.agree n i found there)

@@ -1,0 +1,40 @@
+//! What may cross threads. These functions only have to compile.
+use async_executor::executor::{Cancel, Executor, FallibleTask, Task, TaskWaker};
+use executor_core::task::{Future, Wake};
+use std::sync::Wait;
+
+fn is_sent<T: Send>(_value: &T) {}
+
+fn is_shared<T: Sync>(_value: &T) {}
+
+/// An executor and its wakers may be sent and shared.
+pub fn executor_crosses<
+    F: Future<TaskWaker<W, R>> + Send,
+    W: Wake + Send,
+    R: Wait + Clone + Drop + Send + Sync,
+>(ex: &Executor<F, W, R>, waker: &TaskWaker<W, R>)
+where
+    F::Output: Send,
+{
+    is_sent(ex);
+    is_shared(ex);
+    is_sent(waker);
+    is_shared(waker);
+}
+
+/// So may its handles.
+pub fn handles_cross<
+    F: Future<TaskWaker<W, R>> + Send,
+    W: Wake + Send,
+    R: Wait + Clone + Drop + Send + Sync,
+>(task: &Task<F, W, R>, cancel: &Cancel<F, W, R>, fallible: &FallibleTask<F, W, R>)
+where
+    F::Output: Send,
+{
+    is_sent(task);
+    is_shared(task);
+    is_sent(cancel);
+    is_shared(cancel);
+    is_sent(fallible);
+    is_shared(fallible);
+}

@@ -1,0 +1,7 @@
+mod cancelling;
+mod dropping;
+mod locks;
+mod nesting;
+mod outputs;
+mod threads;
+mod waking;
