@@ -1,25 +1,24 @@
 -- What each call on `Sleepers` makes of the fields.
-use Rattle.std.proofs.Common.{◌≡◌, ◌≢◌, ℕ, ◌+◌, ◌-◌, ◌<◌, ◌≤◌, Bool, true, false, cond, not, ◌&&◌, ◌⊎◌, inl, inr, List, [], ◌∷◌, ◌++◌, length, take, Option, Some, None, Ok, Err, refl, sym, ap, ◌∙◌, subst, arith, length-append, append-nil}
-use Rattle.std.specs.Prelude.{nat_lt, nat_le, ◌==◌, is_some, unwrap_or, option_to_list, option_map, MatchOption, slice_get}
+use Rattle.std.proofs.Common.{◌≡◌, ◌≢◌, ℕ, ◌+◌, ◌-◌, ◌<◌, ◌≤◌, Bool, true, false, cond, ◌&&◌, ◌⊎◌, inl, inr, List, [], ◌∷◌, ◌++◌, length, take, Option, Some, None, Ok, Err, refl, sym, ap, ◌∙◌, subst, arith, length-append, append-nil}
+use Rattle.std.specs.Prelude.{nat_le, ◌==◌, is_some, unwrap_or, option_to_list, option_map, MatchOption, slice_get}
 use Rattle.std.specs.Option.{option_eq}
 use Rattle.std.specs.List.{list_any}
 use Rattle.std.specs.Ordering.{nat_cmp}
 use Rattle.std.specs.FinSet as set
 use Rattle.std.specs.Map.{keys_of, lookup, remove_entry, set_value}
 use Rattle.std.proofs.Math.Seq.{take-append_seam}
-use Rattle.std.proofs.lemmas.Bool.{eqb-true, eqb-false, eq-eqb, ne_eqb, lt-ltb, ltb-true, le-ltb, ltb-false, and_parts, not-true, not_from_true, false_from_ne_true, and_left, and_right, true≢false, cond-true, cond-false, cases_eq}
+use Rattle.std.proofs.lemmas.Bool.{eqb-true, eqb-false, eq-eqb, ne_eqb, lt-ltb, le-ltb, ltb-false, not_from_true, false_from_ne_true, and_right, true≢false, cond-true, cond-false, cases_eq}
 use Rattle.std.proofs.lemmas.Bool.Decides.{nat_tests}
 use Rattle.executor_core.specs.States.{times}
 use Rattle.executor_core.specs.Sleepers.{SleeperList, is_notified_number, has_place}
 use Rattle.executor_core.specs.SleepersView.{IsNumbering, in_use, list_of, IsSoundList}
 use Rattle.executor_core.specs.SleepersCalls.{last_of, all_but_last, again, notice, waker_of, change_of, next_number, inserted, after_insert, insert_answer, slept_again, update_at, after_update, answer_at, update_answer, after_remove, removed_of, all_unnotified, after_notify, notify_answer}
-use Rattle.executor_core.specs.declared.sleepers.list.Removed.{Removed}
 use Rattle.executor_core.specs.declared.sleepers.list.Update.{Update}
 use Rattle.executor_core.specs.declared.sleepers.list.Update.TheVariants.{Asleep, WasNotified, Unknown}
 use Rattle.executor_core.specs.declared.task.values.Change.{Change}
 use Rattle.executor_core.specs.declared.task.values.Wakeup.{Wakeup}
 use Rattle.executor_core.proofs.ListLemmas.{get-push_last, length-push}
-use Rattle.executor_core.proofs.SleeperNumberLemmas.{times-append, times-cons, any-times, contains-times, push-from_list, remove-from_list, once, regrouped, one-same, one-other}
+use Rattle.executor_core.proofs.SleeperNumberLemmas.{times-append, times-cons, any-times, contains-times, push-from_list, remove-from_list, regrouped, one-same, one-other}
 use Rattle.executor_core.proofs.SleeperPairLemmas.{length-keys, keys-push, keys-set_value, any-lookup, remove-absent, set_value-absent, times-remove_other, times-remove_same, length-remove}
 use Rattle.executor_core.proofs.SleeperListLemmas.{in_use_once, used-len, used-len_none, used-len_some, is_the_notified, notified_is}
 

@@ -1,16 +1,16 @@
 -- What the fields of `Sleepers` say of the numbers in use.
-use Rattle.std.proofs.Common.{◌≡◌, ◌≢◌, ℕ, ◌+◌, ◌<◌, ◌≤◌, Bool, true, false, cond, not, ◌&&◌, ◌||◌, ◌⊎◌, List, [], ◌∷◌, ◌++◌, length, Option, Some, None, refl, sym, ap, ◌∙◌, arith, length-append}
+use Rattle.std.proofs.Common.{◌≡◌, ℕ, ◌+◌, ◌<◌, ◌≤◌, Bool, true, false, cond, not, ◌&&◌, ◌||◌, List, [], ◌∷◌, ◌++◌, length, Option, Some, None, refl, sym, ap, ◌∙◌, arith, length-append}
 use Rattle.std.specs.Prelude.{nat_lt, nat_le, ◌==◌, is_some, unwrap_or, option_to_list, filter, slice_index}
 use Rattle.std.specs.List.{list_any}
 use Rattle.std.specs.Ordering.{nat_cmp, eq_by_cmp}
 use Rattle.std.specs.FinSet as set
 use Rattle.std.specs.FinSet.{contains-items}
 use Rattle.std.specs.Map.{keys_of}
-use Rattle.std.proofs.lemmas.Bool.{eqb-true, eqb-false, eq-eqb, ne_eqb, lt-ltb, ltb-true, le-ltb, ltb-false, and_parts, and_from, and_left, not-true, not_from_false, or_right, true≢false, cond-true, cond-false}
+use Rattle.std.proofs.lemmas.Bool.{eqb-true, eq-eqb, lt-ltb, ltb-true, le-ltb, ltb-false, and_parts, and_from, not-true, not_from_false, or_right, true≢false}
 use Rattle.std.proofs.lemmas.Bool.Decides.{nat_tests}
 use Rattle.executor_core.specs.States.{times}
-use Rattle.executor_core.specs.Sleepers.{SleeperList, SleeperLaw, is_notified, is_unnotified, is_notified_number, notified_number}
-use Rattle.executor_core.specs.SleepersView.{IsNumbering, in_use, list_of, IsSoundList}
+use Rattle.executor_core.specs.Sleepers.{SleeperLaw, is_notified, is_notified_number, notified_number}
+use Rattle.executor_core.specs.SleepersView.{in_use, list_of, IsSoundList}
 use Rattle.executor_core.proofs.SleeperNumberLemmas.{times-append, times-cons, any-times, contains-times, len-from_list, once}
 use Rattle.executor_core.proofs.SleeperPairLemmas.{length-keys}
 

@@ -1,13 +1,13 @@
 -- Pairs of numbers and wakers: where a number stands, and what is read and written there.
-use Rattle.std.proofs.Common.{◌≡◌, ◌≢◌, ℕ, zero, suc, ◌+◌, ◌<◌, ◌≤◌, Bool, true, false, cond, List, [], ◌∷◌, ◌++◌, length, take, drop, get_or, set, Option, Some, None, refl, sym, ap, ◌∙◌, arith}
+use Rattle.std.proofs.Common.{◌≡◌, ◌≢◌, ℕ, suc, ◌+◌, ◌<◌, Bool, true, false, cond, List, [], ◌∷◌, ◌++◌, length, take, drop, get_or, set, Option, Some, None, refl, sym, ap, ◌∙◌, arith}
 use Rattle.std.specs.Prelude.{◌==◌, is_some, position, ◌||◌}
 use Rattle.std.specs.List.{list_any, position_from}
 use Rattle.std.specs.Map.{keys_of, lookup, remove_entry, set_value}
-use Rattle.std.proofs.lemmas.Bool.{eqb-true, eqb-false, true≢false}
+use Rattle.std.proofs.lemmas.Bool.{eqb-true}
 use Rattle.std.proofs.lemmas.Iterator.Adapters.{position_from-zero}
 use Rattle.std.proofs.lemmas.List.{map-append}
 use Rattle.executor_core.specs.States.{times}
-use Rattle.executor_core.proofs.SleeperNumberLemmas.{times-cons, one-same, one-other}
+use Rattle.executor_core.proofs.SleeperNumberLemmas.{times-cons, one-other}
 
 module _ {W : Type 0} where
   -- the number stands at this place, and at none before it

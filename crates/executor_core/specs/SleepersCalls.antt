@@ -1,5 +1,5 @@
 -- What each call makes of the list of sleepers, and what it answers.
-use Rattle.std.specs.Prelude.{ℕ, ◌+◌, ◌-◌, ◌==◌, Bool, true, false, List, [], ◌∷◌, ◌++◌, length, take, slice_get, slice_index_or, Option, Some, None, Result, Ok, Err, option_map, unwrap_or, cond}
+use Rattle.std.specs.Prelude.{ℕ, ◌+◌, ◌-◌, ◌==◌, Bool, true, false, List, [], ◌∷◌, ◌++◌, length, take, slice_get, Option, Some, None, Result, Ok, Err, option_map, unwrap_or, cond}
 use Rattle.std.specs.FinSet as set
 use Rattle.std.specs.Map.{lookup, remove_entry, set_value}
 use Rattle.executor_core.specs.Sleepers.{SleeperList, is_notified, is_notified_number, has_place}

@@ -19,7 +19,7 @@ use crate::task::{
 use std::alloc::Global;
 use std::marker::Model;
 
-/// The flag of the sleepers as a plain value, which contracts see as a `bool`. It is true at first.
+/// `Flag` as a plain value, which contracts see as a `bool`. It is true at first.
 #[derive(Debug, Drop)]
 pub struct FlagValue {
     value: bool,
@@ -48,7 +48,7 @@ impl FlagValue {
         ensures pick { is_some result ≡ not self.old }
     {
         let Notice { unspent: () } = notice;
-        if self.value {
+        if self.get() {
             return None;
         }
         self.value = true;

@@ -1,39 +1,39 @@
-//! Who sleeps while no task is there to take, and the flag that says whether somebody is to be woken.
+//! Who sleeps while there is no task to take, and the flag that says whether one is to be notified.
 //!
-//! A sleeper is whoever found no task and waits for a waker to be woken: it has a number, which it
-//! keeps until it has found a task or gives up. Its waker stands in a list, in the order in which
+//! A sleeper has found no task, and asks to be woken once there may be one. It has a number, which
+//! it keeps until it has a task or gives up, and its waker stands in a list, in the order in which
 //! the sleepers went to sleep. A number in use that does not stand there is *notified*: its waker
-//! was taken to be woken, and nobody else is taken before that sleeper has answered, by a second
-//! sleep or by its removal. So one task wakes one sleeper, and a second one only once the first is
-//! awake and has passed the news on.
+//! was taken, to be woken. At most one is. While it is, no other waker is taken; it ends by that
+//! sleeper's answer, which is to sleep again or to be removed.
 //!
-//! The list stands under a lock. Whoever queues a task should not have to take it each time, so a
-//! flag beside the lock repeats what the list last said:
+//! The list stands under a lock. Whoever queues a task does not take that lock each time, for a flag
+//! beside it repeats what the list said last:
 //!
-//! | flag | means |
+//! | flag | the list said |
 //! |---|---|
-//! | true | nobody sleeps, or somebody is notified: there is nothing to do |
-//! | false | somebody sleeps and nobody was notified since |
+//! | true | nobody sleeps, or one is notified: there is nobody to notify |
+//! | false | there are sleepers, and none is notified |
 //!
-//! A task that is queued leaves a `Notice`. `Flag::exchange` spends it: it turns the flag from false
-//! to true, and the one who turned it has the `Pick`. With the lock, `Sleepers::notify` spends the
-//! pick: it takes the waker of the one who went to sleep last, unless somebody is notified already.
-//! The `Wakeup` is spent once the lock is given up, so no waker runs under it.
+//! A task that is queued leaves a `Notice`. `Flag::exchange` spends it and sets the flag, and where
+//! the flag was false it gives the `Pick`. Under the lock `Sleepers::notify` spends the pick: it
+//! takes the waker of the one who went to sleep last, unless one is notified already. That waker is
+//! woken by `Wakeup::wake`, which comes after the lock was given up.
 //!
-//! A change of the list, by `insert`, `update` or `remove`, leaves the flag behind. It gives a
-//! `Change`, which carries what the flag is to say, and opens the list until `Flag::store` spends the
-//! change and closes it. No other change and no pick is taken in between: those calls ask for a
-//! closed list, and the lock keeps a list that is closed, by `ClosedSleepers`. What the change is
-//! about comes out of it at the store, and not before:
+//! A change of the list, by `insert`, `update` or `remove`, makes the flag out of date. So the call
+//! gives a `Change`, which carries what the flag is to say, and the list is *open* until
+//! `Flag::store` spends the change and closes it. The other calls that change the list ask for a
+//! closed one. `ClosedSleepers` is what the lock keeps: with it, the lock is not given up in
+//! between.
 //!
-//! - Going to sleep gives an `Again`. A task may have been queued after the search that found
-//!   none and before the store, while the flag was still true, so its notice woke nobody. The
-//!   search that `Again` asks for finds it.
-//! - A removal gives the `Notice` of a notified number. Its news reached one who will not act on
-//!   it, or found a task by itself, so another sleeper is to hear of it.
+//! What else a change carries comes out of it at the store, and not before:
 //!
-//! Each number has a place, which is reserved before its use and holds room for its pair and for
-//! itself among the free numbers. So `reserve` alone may want memory.
+//! - Going to sleep gives an `Again`, which asks for one more search. While the flag was still
+//!   true, a task may have been queued after the search that found none; its notice gave no pick.
+//! - A removal gives the `Notice` of a notified number. One that has a task, or gives up, does not
+//!   act on what it was woken for, so the notice goes on to the flag.
+//!
+//! A number needs a place, which is reserved before: room for its pair in the list, and for itself
+//! among the numbers that were given back. So no call but `reserve` takes memory.
 
 pub mod closed;
 pub mod list;

@@ -4,12 +4,13 @@ ghost use Rattle.std.specs.Prelude.{◌≡◌, false};
 use crate::sleepers::list::Sleepers;
 use std::alloc::Global;
 
-/// Sleepers whose list is closed: for each change of it the flag was stored.
+/// Sleepers whose list is closed: the flag was stored for each change of it.
 ///
-/// This is the type to be put under a lock. Whoever holds the lock changes the sleepers in it and
-/// stores the flag; to give the lock up between the two is refused, since the list is open there.
+/// A lock round this type keeps that law. Whoever has the lock changes the sleepers and stores the
+/// flag; giving the lock up between the two is refused, since the list is open there.
 #[derive(Drop)]
 pub struct ClosedSleepers<W> {
+    /// The sleepers, which are changed in their place.
     pub sleepers: Sleepers<W>,
     ghost closed: { sleepers.is_open ≡ false },
 }

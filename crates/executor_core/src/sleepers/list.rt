@@ -133,7 +133,7 @@ impl<W> Sleepers<W> {
         ensures ok { OnOk result (self.new ≡ record self.old { places = self.old.places + 1 }) }
         ensures refused { OnErr result (self.new ≡ self.old) }
     {
-        let places = self.places.checked_add(1).ok_or(OutOfMemory)?;
+        let places = self.places + 1;
         reserve_places(&mut self.unnotified, places)?;
         reserve_places(&mut self.free, places)?;
         self.places = places;

@@ -6,10 +6,11 @@ use crate::sleepers::list::Sleepers;
 use crate::task::values::{Change, Notice, Pick};
 use std::sync::atomic::{AtomicBool, Ordering};
 
-/// Says to all threads whether a queued task has to notify a sleeper. It is true at first.
+/// Whether there is nobody to notify: it is true at first. It stands for `State::notified` in the
+/// Rust crate.
 ///
-/// It takes no lock and waits for nobody. No contract speaks of its value, which other threads may
-/// change at any moment; `FlagValue` is the same on a plain value.
+/// Its calls take no lock and wait for nobody. No contract speaks of its value, since other threads
+/// may change it at any moment; `FlagValue` is the same on a plain value.
 #[derive(Drop)]
 pub struct Flag {
     value: AtomicBool,
@@ -23,12 +24,17 @@ impl Flag {
         }
     }
 
-    /// Spends the notice, in one atomic step: the flag is true afterwards, and the pick is there
-    /// where it was false. It stands for the exchange in `State::notify`.
+    /// The value at some moment of the call.
+    pub fn get(&self) -> bool {
+        self.value.load(Ordering::SeqCst)
+    }
+
+    /// Spends the notice: in one atomic step the flag is set, and the pick is there where it was
+    /// false. It stands for the first half of `State::notify` in the Rust crate.
     pub fn exchange(&self, notice: Notice) -> Option<Pick> {
         let Notice { unspent: () } = notice;
-        // An exchange of a flag that is true changes nothing, and a load sees as much without
-        // taking the cache line from other threads.
+        // An exchange of a flag that is true leaves it as it is, which a load finds out without
+        // taking the flag's cache line away from other threads.
         if self.get() {
             return None;
         }
@@ -42,7 +48,7 @@ impl Flag {
     }
 
     /// Spends the change: the flag gets the value that it carries, the list is closed, and what
-    /// else it carries comes out. The one who stores holds the lock of the sleepers.
+    /// else it carries comes out.
     pub fn store<X, W>(&self, change: Change<X>, sleepers: &mut Sleepers<W>) -> X
         ensures list { sleepers.new ≡ closed sleepers.old }
         ensures carried { result ≡ change.carried }
@@ -51,10 +57,5 @@ impl Flag {
         self.value.store(notified, Ordering::SeqCst);
         sleepers.close();
         carried
-    }
-
-    /// The value at some moment of the call.
-    pub fn get(&self) -> bool {
-        self.value.load(Ordering::SeqCst)
     }
 }

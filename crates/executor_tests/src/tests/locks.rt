@@ -1,4 +1,6 @@
 //! No lock is held while something of the caller's runs: it halts, and another thread uses the same executor.
+ghost use Rattle.std.specs.Prelude.{◌≡◌};
+
 use crate::counters::Counter;
 use crate::futures::{Halts, Ready};
 use crate::meetings::{Halt, HaltsInDrop};
@@ -8,6 +10,7 @@ use executor_core::task::{Future, Poll, Wake};
 use std::sync::Wait;
 use std::test::Fail;
 use std::thread;
+use std::thread::Threads;
 
 // Waits until another thread halts, then asks all of the executor, by a task that is spawned, run and given up, and
 // lets the thread go on.
@@ -27,6 +30,21 @@ fn uses_beside<F: Future<TaskWaker<W, R>>, W: Wake, R: Wait + Clone + Drop>(
     halted && spawned && ticked
 }
 
+// Does something that halts, while another thread uses the executor, and says whether it could.
+fn is_used_beside<
+    F: Future<TaskWaker<W, R>> + Send,
+    W: Wake + Send,
+    R: Wait + Threads + Clone + Drop + Send + Sync,
+    A: FnOnce() + Send + Drop,
+>(rt: &R, ex: &Executor<F, W, R>, halt: &Halt, future: F, act: A) -> bool
+where
+    F::Output: Send,
+    requires { A.IsAlwaysCallable act }
+{
+    let (_, used) = thread::join(rt, act, move || uses_beside(ex, halt, future));
+    used && halt.was_passed()
+}
+
 #[test]
 fn while_a_future_is_polled(rt: HostRuntime) -> Result<(), Fail> {
     let alloc = rt.alloc();
@@ -37,58 +55,38 @@ fn while_a_future_is_polled(rt: HostRuntime) -> Result<(), Fail> {
         .map_err(|_| "refused")?
         .detach();
     let other = Halts::new(None, &drops)?;
-    let (shared, point) = (&ex, &halt);
-    let (ticked, used) = thread::join(
-        &rt,
-        move || shared.try_tick(),
-        move || uses_beside(shared, point, other),
-    );
-    assert!(rt; ticked && used && halt.was_passed());
-    assert_eq!(rt; drops.get(), 2);
-    assert!(rt; ex.is_empty());
-    Ok(())
-}
-
-#[test]
-fn while_a_ready_future_is_dropped(rt: HostRuntime) -> Result<(), Fail> {
-    let alloc = rt.alloc();
-    let halt = Halt::new(alloc)?;
-    let drops = Counter::new(alloc)?;
-    let ex: Executor<_, HaltingWaker, _> = Executor::new(rt.clone()?, alloc)?;
-    ex.spawn(Halts::new(Some(7u64), &drops)?.in_drop(&halt)?)
-        .map_err(|_| "refused")?
-        .detach();
-    let other = Halts::new(None, &drops)?;
-    let (shared, point) = (&ex, &halt);
-    let (ticked, used) = thread::join(
-        &rt,
-        move || shared.try_tick(),
-        move || uses_beside(shared, point, other),
-    );
-    assert!(rt; ticked && used && halt.was_passed());
+    let shared = &ex;
+    let used = is_used_beside(&rt, shared, &halt, other, move || {
+        shared.try_tick();
+    });
+    assert!(rt; used);
     assert_eq!(rt; drops.get(), 2);
     Ok(())
 }
 
 #[test]
-fn while_a_cancelled_future_is_dropped(rt: HostRuntime) -> Result<(), Fail> {
+fn while_a_future_is_dropped(rt: HostRuntime) -> Result<(), Fail> {
     let alloc = rt.alloc();
-    let halt = Halt::new(alloc)?;
-    let drops = Counter::new(alloc)?;
-    let ex: Executor<_, HaltingWaker, _> = Executor::new(rt.clone()?, alloc)?;
-    drop(
-        ex.spawn(Halts::new(Some(7u64), &drops)?.in_drop(&halt)?)
-            .map_err(|_| "refused")?,
-    );
-    let other = Halts::new(None, &drops)?;
-    let (shared, point) = (&ex, &halt);
-    let (ticked, used) = thread::join(
-        &rt,
-        move || shared.try_tick(),
-        move || uses_beside(shared, point, other),
-    );
-    assert!(rt; ticked && used && halt.was_passed());
-    assert_eq!(rt; drops.get(), 2);
+    for cancels in [false, true] {
+        let halt = Halt::new(alloc)?;
+        let drops = Counter::new(alloc)?;
+        let ex: Executor<_, HaltingWaker, _> = Executor::new(rt.clone()?, alloc)?;
+        let task = ex
+            .spawn(Halts::new(Some(7u64), &drops)?.in_drop(&halt)?)
+            .map_err(|_| "refused")?;
+        if cancels {
+            drop(task);
+        } else {
+            task.detach();
+        }
+        let other = Halts::new(None, &drops)?;
+        let shared = &ex;
+        let used = is_used_beside(&rt, shared, &halt, other, move || {
+            shared.try_tick();
+        });
+        assert!(rt; used);
+        assert_eq!(rt; drops.get(), 2);
+    }
     Ok(())
 }
 
@@ -100,13 +98,12 @@ fn while_an_unwanted_output_is_dropped(rt: HostRuntime) -> Result<(), Fail> {
     ex.spawn(Ready::new(HaltsInDrop::new(&halt)?))
         .map_err(|_| "refused")?
         .detach();
-    let (shared, point) = (&ex, &halt);
-    let (ticked, used) = thread::join(
-        &rt,
-        move || shared.try_tick(),
-        move || uses_beside(shared, point, Ready::new(HaltsInDrop::nowhere())),
-    );
-    assert!(rt; ticked && used && halt.was_passed());
+    let other = Ready::new(HaltsInDrop::nowhere());
+    let shared = &ex;
+    let used = is_used_beside(&rt, shared, &halt, other, move || {
+        shared.try_tick();
+    });
+    assert!(rt; used);
     Ok(())
 }
 
@@ -120,13 +117,15 @@ fn while_a_handle_drops_its_output(rt: HostRuntime) -> Result<(), Fail> {
             .spawn(Ready::new(HaltsInDrop::new(&halt)?))
             .map_err(|_| "refused")?;
         assert!(rt; ex.try_tick());
-        let (shared, point) = (&ex, &halt);
-        let (_, used) = thread::join(
-            &rt,
-            move || if detaches { task.detach() } else { drop(task) },
-            move || uses_beside(shared, point, Ready::new(HaltsInDrop::nowhere())),
-        );
-        assert!(rt; used && halt.was_passed());
+        let other = Ready::new(HaltsInDrop::nowhere());
+        let used = is_used_beside(&rt, &ex, &halt, other, move || {
+            if detaches {
+                task.detach();
+            } else {
+                drop(task);
+            }
+        });
+        assert!(rt; used);
     }
     Ok(())
 }
@@ -139,13 +138,11 @@ fn while_an_awaiter_is_woken(rt: HostRuntime) -> Result<(), Fail> {
     let ex = Executor::new(rt.clone()?, alloc)?;
     let mut task = ex.spawn(Ready::new(7u64)).map_err(|_| "refused")?;
     assert_eq!(rt; task.poll(&waker), Poll::Pending);
-    let (shared, point) = (&ex, &halt);
-    let (ticked, used) = thread::join(
-        &rt,
-        move || shared.try_tick(),
-        move || uses_beside(shared, point, Ready::new(8)),
-    );
-    assert!(rt; ticked && used && halt.was_passed());
+    let shared = &ex;
+    let used = is_used_beside(&rt, shared, &halt, Ready::new(8), move || {
+        shared.try_tick();
+    });
+    assert!(rt; used);
     Ok(())
 }
 
@@ -155,15 +152,14 @@ fn while_the_awaiter_of_a_cancel_is_woken(rt: HostRuntime) -> Result<(), Fail> {
     let halt = Halt::new(alloc)?;
     let waker = HaltingWaker::in_wake(&halt)?;
     let ex = Executor::new(rt.clone()?, alloc)?;
-    let mut cancel = ex.spawn(Ready::new(7u64)).map_err(|_| "refused")?.cancel();
+    let task = ex.spawn(Ready::new(7u64)).map_err(|_| "refused")?;
+    let mut cancel = task.cancel();
     assert_eq!(rt; cancel.poll(&waker), Poll::Pending);
-    let (shared, point) = (&ex, &halt);
-    let (ticked, used) = thread::join(
-        &rt,
-        move || shared.try_tick(),
-        move || uses_beside(shared, point, Ready::new(8)),
-    );
-    assert!(rt; ticked && used && halt.was_passed());
+    let shared = &ex;
+    let used = is_used_beside(&rt, shared, &halt, Ready::new(8), move || {
+        shared.try_tick();
+    });
+    assert!(rt; used);
     Ok(())
 }
 
@@ -175,14 +171,10 @@ fn while_an_earlier_waker_is_dropped(rt: HostRuntime) -> Result<(), Fail> {
     let ex = Executor::new(rt.clone()?, alloc)?;
     let mut task = ex.spawn(Ready::new(7u64)).map_err(|_| "refused")?;
     assert_eq!(rt; task.poll(&waker), Poll::Pending);
-    let (shared, point) = (&ex, &halt);
-    let (pending, used) = thread::join(
-        &rt,
-        move || task.poll(&HaltingWaker::nowhere()) == Poll::Pending,
-        move || uses_beside(shared, point, Ready::new(8)),
-    );
-    // The task itself is the one that the other thread ran.
-    assert!(rt; pending && used && halt.was_passed());
+    let used = is_used_beside(&rt, &ex, &halt, Ready::new(8), move || {
+        let _ = task.poll(&HaltingWaker::nowhere());
+    });
+    assert!(rt; used);
     Ok(())
 }
 
@@ -195,13 +187,14 @@ fn while_a_handle_drops_its_waker(rt: HostRuntime) -> Result<(), Fail> {
         let ex = Executor::new(rt.clone()?, alloc)?;
         let mut task = ex.spawn(Ready::new(7u64)).map_err(|_| "refused")?;
         assert_eq!(rt; task.poll(&waker), Poll::Pending);
-        let (shared, point) = (&ex, &halt);
-        let (_, used) = thread::join(
-            &rt,
-            move || if detaches { task.detach() } else { drop(task) },
-            move || uses_beside(shared, point, Ready::new(8)),
-        );
-        assert!(rt; used && halt.was_passed());
+        let used = is_used_beside(&rt, &ex, &halt, Ready::new(8), move || {
+            if detaches {
+                task.detach();
+            } else {
+                drop(task);
+            }
+        });
+        assert!(rt; used);
     }
     Ok(())
 }
