@@ -202,7 +202,7 @@ module _ {P T : Type 0} where
       drop_part : (a b w : ℕ) → a + b ≤ 1 + w → a ≤ 1 + w
       drop_part a b w h = omega arith
 
-  -- what is read of a number without a info, or with one
+  -- whether a number was spawned, by what is known of it
   spawned_match : (o : Option (Slotted P T (Unit {0}))) (s : Status T) (i : Option TaskInfo) → NumberAgrees o s i → s.spawned ≡ is_some i
   spawned_match None s None h = ap (λ x. x.spawned) h
   spawned_match None s (Some i) h = h.spawned

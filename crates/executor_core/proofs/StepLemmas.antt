@@ -239,7 +239,7 @@ module _ {P T : Type 0} {table : Table P T (Unit {0})} {log : List (Event T)} {t
         (few_take _ _ _ (agree.few_polls n))
         (order-push log (Took n ToDrop) agree.order (sym h.cancelled ∙ fresh, alive.0.held, alive.0.dropped))
 
-  -- a held task has a slotted, whose state is Held
+  -- a held task has a cell, whose state is held
   pub held_cell : (i : TaskInfo) → slice_get tasks n ≡ Some i → held n log ≡ true → (slotted : Slotted P T (Unit {0})) × (map.get table.cells n ≡ Some slotted) × (slotted.cell.state ≡ Held)
   held_cell i found now_held = by_slotted (map.get table.cells n) refl
     where
@@ -432,7 +432,7 @@ module _ {P T : Type 0} {table : Table P T (Unit {0})} {log : List (Event T)} {t
             two true false = refl
             two false b = refl
 
-    -- the handle of a alive task is awaited
+    -- the handle of a task that is not dropped is awaited
     pub handle_pending : (later : List TaskInfo) → later ≡ slice_set tasks n (record i { awaited = true }) → dropped n log ≡ false → Agree (after_poll_handle table (id_of n i) tt) log later out
     handle_pending later set alive =
         let at = handle_cell in
