@@ -18,5 +18,5 @@ pub(crate) mod scheduler;
 pub(crate) mod state;
 pub(crate) mod storage;
 pub(crate) mod store;
-pub mod task;
-pub mod waker;
+pub(crate) mod task;
+pub(crate) mod waker;

@@ -128,6 +128,29 @@ impl<W: Wake> Future<W> for LeavesWaker<W> {
     }
 }
 
+/// Never ready, and keeps its own waker. It counts its drop.
+#[derive(Drop)]
+pub struct KeepsWaker<W> {
+    waker: Option<W>,
+    drops: CountsDrop,
+}
+
+impl<W> KeepsWaker<W> {
+    pub fn new(drops: &Counter) -> Result<KeepsWaker<W>, AllocError> {
+        let drops = CountsDrop::new(drops)?;
+        Ok(KeepsWaker { waker: None, drops })
+    }
+}
+
+impl<W: Wake> Future<W> for KeepsWaker<W> {
+    type Output = ();
+
+    fn poll(&mut self, w: &W) -> Poll<()> {
+        self.waker = w.copy().ok();
+        Poll::Pending
+    }
+}
+
 /// Halts where it is told to, and is ready with its output at the first poll, or never where it has none. It counts
 /// its drop.
 #[derive(Drop)]

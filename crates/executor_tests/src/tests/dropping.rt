@@ -1,6 +1,6 @@
 //! When futures and outputs are dropped, whatever ends first.
 use crate::counters::{Counter, CountsDrop};
-use crate::futures::{Never, Ready};
+use crate::futures::{KeepsWaker, Never, Ready};
 use crate::wakers::CountingWaker;
 use async_executor::executor::Executor;
 use executor_core::task::{Future, Poll};
@@ -110,5 +110,20 @@ fn an_idle_future_is_dropped_once(rt: HostRuntime) -> Result<(), Fail> {
     drop(ex);
     drop(kept);
     assert_eq!(rt; (polls.get(), drops.get()), (2, 2));
+    Ok(())
+}
+
+#[test]
+fn a_future_that_keeps_its_waker_is_dropped_once(rt: HostRuntime) -> Result<(), Fail> {
+    let alloc = rt.alloc();
+    let drops = Counter::new(alloc)?;
+    let ex: Executor<KeepsWaker<_>, CountingWaker, _> = Executor::new(rt.clone()?, alloc)?;
+    ex.spawn(KeepsWaker::new(&drops)?)
+        .map_err(|_| "refused")?
+        .detach();
+    assert!(rt; ex.try_tick());
+    assert_eq!(rt; drops.get(), 0);
+    drop(ex);
+    assert_eq!(rt; drops.get(), 1);
     Ok(())
 }

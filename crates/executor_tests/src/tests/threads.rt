@@ -16,8 +16,12 @@ fn one_of_two_threads_runs_the_task(rt: HostRuntime) -> Result<(), Fail> {
     let waker = CountingWaker::new(alloc)?;
     let ex = Executor::new(rt.clone()?, alloc)?;
     let mut task = ex.spawn(Ready::new(7u64)).map_err(|_| "refused")?;
-    let shared = &ex;
-    let (one, two) = thread::join(&rt, || shared.try_tick(), || shared.try_tick());
+    let (shared, handle) = (&ex, &task);
+    let (one, two) = thread::join(
+        &rt,
+        || shared.try_tick() && handle.is_finished(),
+        || shared.try_tick() && handle.is_finished(),
+    );
     assert!(rt; one != two);
     assert_eq!(rt; task.poll(&waker), Poll::Ready(Ok(7)));
     Ok(())
