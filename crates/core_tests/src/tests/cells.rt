@@ -3,9 +3,9 @@ ghost use Rattle.std.specs.Prelude.{◌≡◌, false, true};
 ghost use Rattle.executor_core.specs.declared.task.polling.Polled.{Polled};
 
 use crate::tests::notices::{is_spent, spend};
-use crate::tests::wakers::{Counter, new_counter};
+use crate::tests::wakers::{Counter, is_woken, new_counter};
 use executor_core::task::{
-    Cells, EndPending, EndReady, Held, PollHandle, Polled, Poller, Ran, SpawnError, TaskId, Wakeup,
+    Cells, EndPending, EndReady, Held, PollHandle, Polled, Poller, Ran, SpawnError, TaskId,
     run_taken,
 };
 use std::test::Fail;
@@ -40,16 +40,6 @@ impl Poller<u8, u64> for Answers {
 
 type Tasks = Cells<u8, u64, Counter>;
 
-fn woken(wakeup: Option<Wakeup<Counter>>) -> bool {
-    match wakeup {
-        Some(wakeup) => {
-            wakeup.wake();
-            true
-        }
-        None => false,
-    }
-}
-
 fn spawn(cells: &mut Tasks, future: u8) -> Result<TaskId, &'static str> {
     match cells.spawn(future) {
         Ok((id, notice)) => {
@@ -76,7 +66,7 @@ fn end_pending(cells: &mut Tasks, held: Held, future: u8, ticked: &mut Ticked)
 {
     match cells.end_pending(held, future) {
         EndPending::Back(notice) => ticked.is_queued = is_spent(notice),
-        EndPending::Drop(_, held) => ticked.wakes_awaiter = woken(cells.end_dropped(held)),
+        EndPending::Drop(_, held) => ticked.wakes_awaiter = is_woken(cells.end_dropped(held)),
     }
 }
 
@@ -104,9 +94,9 @@ fn tick(cells: &mut Tasks, output: Option<u64>) -> Option<Ticked> {
         Ran::Ready(held, output) => {
             let EndReady { awaiter, unwanted } = cells.end_ready(held, output);
             ticked.unwanted = unwanted;
-            ticked.wakes_awaiter = woken(awaiter);
+            ticked.wakes_awaiter = is_woken(awaiter);
         }
-        Ran::Dropped(held) => ticked.wakes_awaiter = woken(cells.end_dropped(held)),
+        Ran::Dropped(held) => ticked.wakes_awaiter = is_woken(cells.end_dropped(held)),
     }
     Some(ticked)
 }

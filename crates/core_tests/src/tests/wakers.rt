@@ -1,5 +1,5 @@
 //! Wakers that count.
-use executor_core::task::{OutOfMemory, Wake};
+use executor_core::task::{OutOfMemory, Wake, Wakeup};
 use std::cell::Cell;
 use std::rc::Rc;
 use std::test::Fail;
@@ -28,4 +28,15 @@ pub fn new_counter(rt: &HostRuntime) -> Result<Counter, Fail> {
     Ok(Counter {
         wakes: Rc::new(rt.alloc(), Cell::new(0))?,
     })
+}
+
+/// Whether there was somebody to be woken, which is done.
+pub fn is_woken(wakeup: Option<Wakeup<Counter>>) -> bool {
+    match wakeup {
+        Some(wakeup) => {
+            wakeup.wake();
+            true
+        }
+        None => false,
+    }
 }

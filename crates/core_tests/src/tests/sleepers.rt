@@ -1,0 +1,143 @@
+//! The sleepers, and the flag beside them, by their calls.
+ghost use Rattle.std.specs.Prelude.{◌≡◌, [], false, IfOk};
+
+use crate::tests::notices::is_spent;
+use crate::tests::wakers::{Counter, is_woken, new_counter};
+use executor_core::plain_core::FlagValue;
+use executor_core::sleepers::{Removed, Sleepers, Update};
+use executor_core::task::{Again, Cells, Pick};
+use std::test::Fail;
+
+type Tasks = Cells<u8, u64, Counter>;
+
+fn three_places(rt: &HostRuntime) -> Result<Sleepers<Counter>, Fail>
+    ensures { IfOk result (λ s. s.is_open ≡ false) }
+{
+    let mut sleepers = Sleepers::new(rt.alloc());
+    sleepers.reserve()?;
+    sleepers.reserve()?;
+    sleepers.reserve()?;
+    Ok(sleepers)
+}
+
+// The search that a sleeper makes again, where there is no task.
+fn search_in_vain(empty: &mut Tasks, again: Again)
+    requires { empty.old.global ≡ [] }
+    ensures { empty.new.global ≡ [] }
+{
+    match empty.take_global(Some(again)) {
+        None => {}
+        Some(_) => unreachable!(),
+    }
+}
+
+// Goes to sleep, stores the flag, and searches again in vain.
+fn sleep(
+    flag: &mut FlagValue,
+    sleepers: &mut Sleepers<Counter>,
+    empty: &mut Tasks,
+    waker: Counter,
+) -> Option<usize>
+    requires closed { sleepers.old.is_open ≡ false }
+    requires none { empty.old.global ≡ [] }
+    ensures closed { sleepers.new.is_open ≡ false }
+    ensures none { empty.new.global ≡ [] }
+{
+    match sleepers.insert(waker) {
+        Ok((number, change)) => {
+            let again = flag.store(change, sleepers);
+            search_in_vain(empty, again);
+            Some(number)
+        }
+        Err(_) => None,
+    }
+}
+
+// The exchange of the flag for the notice of a task that is queued.
+fn exchange(flag: &mut FlagValue, tasks: &mut Tasks) -> Option<Pick> {
+    match tasks.spawn(0) {
+        Ok((_, notice)) => flag.exchange(notice),
+        Err(_) => None,
+    }
+}
+
+// Whether the pick, where there is one, woke somebody.
+fn notify(sleepers: &mut Sleepers<Counter>, pick: Option<Pick>) -> bool
+    requires { sleepers.old.is_open ≡ false }
+    ensures { sleepers.new.is_open ≡ false }
+{
+    match pick {
+        Some(pick) => is_woken(sleepers.notify(pick)),
+        None => false,
+    }
+}
+
+#[test]
+fn a_number_that_was_given_back_is_used_next(rt: HostRuntime) -> Result<(), Fail> {
+    let mut flag = FlagValue::new();
+    let mut empty = Tasks::new(rt.alloc())?;
+    let mut sleepers = three_places(&rt)?;
+    let first = sleep(&mut flag, &mut sleepers, &mut empty, new_counter(&rt)?);
+    let second = sleep(&mut flag, &mut sleepers, &mut empty, new_counter(&rt)?);
+    let change = sleepers.remove(1);
+    let Removed { notice, waker } = flag.store(change, &mut sleepers);
+    assert!(rt; !is_spent(notice) && waker.is_some());
+    let third = sleep(&mut flag, &mut sleepers, &mut empty, new_counter(&rt)?);
+    assert_eq!(rt; (first, second, third), (Some(1), Some(2), Some(1)));
+    Ok(())
+}
+
+#[test]
+fn the_last_to_sleep_is_notified_alone(rt: HostRuntime) -> Result<(), Fail> {
+    let mut flag = FlagValue::new();
+    let mut empty = Tasks::new(rt.alloc())?;
+    let mut tasks = Tasks::new(rt.alloc())?;
+    let mut sleepers = three_places(&rt)?;
+    let one = new_counter(&rt)?;
+    let two = new_counter(&rt)?;
+    let ones = one.wakes.clone()?;
+    let twos = two.wakes.clone()?;
+    let first = sleep(&mut flag, &mut sleepers, &mut empty, one);
+    let first_pick = exchange(&mut flag, &mut tasks);
+    let second = sleep(&mut flag, &mut sleepers, &mut empty, two);
+    let second_pick = exchange(&mut flag, &mut tasks);
+    let are_picks = first_pick.is_some() && second_pick.is_some();
+    let woke_first = notify(&mut sleepers, first_pick);
+    let woke_second = notify(&mut sleepers, second_pick);
+    assert_eq!(rt; (first, second, are_picks), (Some(1), Some(2), true));
+    assert_eq!(rt; (woke_first, woke_second), (true, false));
+    assert_eq!(rt; (ones.get(), twos.get()), (0, 1));
+    Ok(())
+}
+
+#[test]
+fn a_notified_sleeper_sleeps_again_at_the_end(rt: HostRuntime) -> Result<(), Fail> {
+    let mut flag = FlagValue::new();
+    let mut empty = Tasks::new(rt.alloc())?;
+    let mut tasks = Tasks::new(rt.alloc())?;
+    let mut sleepers = three_places(&rt)?;
+    sleepers.release();
+    let _first = sleep(&mut flag, &mut sleepers, &mut empty, new_counter(&rt)?);
+    let _second = sleep(&mut flag, &mut sleepers, &mut empty, new_counter(&rt)?);
+    let refused = sleep(&mut flag, &mut sleepers, &mut empty, new_counter(&rt)?);
+    assert_eq!(rt; refused, None);
+    let pick = exchange(&mut flag, &mut tasks);
+    assert!(rt; notify(&mut sleepers, pick));
+    assert_eq!(rt;
+        (sleepers.numbers(), sleepers.notified(), sleepers.len()),
+        (2, 2, 1)
+    );
+    let waker = new_counter(&rt)?;
+    match sleepers.update(2, waker) {
+        Update::WasNotified(change) => search_in_vain(
+            &mut empty,
+            flag.store(change, &mut sleepers),
+        ),
+        Update::Asleep(_) | Update::Unknown(_) => assert!(rt; false),
+    }
+    assert_eq!(rt;
+        (sleepers.notified(), sleepers.at(0), sleepers.at(1)),
+        (0, Some(1), Some(2))
+    );
+    Ok(())
+}
