@@ -94,7 +94,7 @@ fn expect_run(rt: &impl Abort, alloc: Global, input: Source<'_>, output: &str, s
 }
 
 // What is read, what is written and the status.
-const RUNS: [(&str, &str, u8); 13] = [
+const RUNS: [(&str, &str, u8); 14] = [
     ("", "", 0),
     (
         "spawn\ntrytick\nready 0 7\npollhandle 0\ntrytick\n",
@@ -127,6 +127,12 @@ const RUNS: [(&str, &str, u8); 13] = [
         0,
     ),
     ("pend 0\n", "not now\n", 0),
+    (
+        "spawn\ntrytick\nready 0 7\npollhandle 0\nspawn\ntrytick\npend 1\nwake 0\nshow\nwake 1\n",
+        "task 0\npoll 0\nfinished\noutput 7\ntask 1\npoll 1\nidle 1\nnothing\nglobal [] locals [] \
+         flag true numbers 0 notified 0 notices 4 picks 0 undropped 1\nnotice\n",
+        0,
+    ),
     (
         "exchange\nspawn\nexchange\nnotify\nshow\n",
         "not now\ntask 0\nnothing\nnot now\nglobal [0] locals [] flag true numbers 0 notified 0 \
