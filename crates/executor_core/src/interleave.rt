@@ -1,9 +1,10 @@
 //! A world: the steps of all parties of an executor in any order, and the log of what they did.
 //!
-//! A party may spawn, wake, take a task, end its poll, say that its future was dropped, or poll,
-//! cancel, detach or drop its handle, exchange the flag, or notify a sleeper. A `World` takes any list of such steps, of all parties, with
-//! steps of others between a take and the end of its poll. It makes each on its `Core`, and logs
-//! what happened to which task. A step that is not enabled is answered and changes nothing.
+//! A party may spawn, wake, take a task, end its poll, say that its future was dropped, poll, cancel,
+//! detach or drop its handle, exchange the flag, or notify a sleeper. A `World` takes any list of such
+//! steps, of all parties, with steps of others between a take and the end of its poll. It makes each
+//! on its `Core`, and logs what happened to which task. A step that is not enabled is answered and
+//! changes nothing.
 //!
 //! The notices and the picks that the steps leave to be spent are kept as counts. Any party may spend
 //! one that is out, at any time: a notice by an exchange, a pick by a notification.
