@@ -4,8 +4,9 @@ ghost use Rattle.std.specs.Prelude.{◌≡◌, [], false, IfOk};
 use crate::tests::notices::is_spent;
 use crate::tests::wakers::{Counter, is_woken, new_counter};
 use executor_core::plain_core::FlagValue;
-use executor_core::sleepers::{Removed, Sleepers, Update};
+use executor_core::sleepers::{ClosedSleepers, Flag, Removed, Sleepers, Update};
 use executor_core::task::{Again, Cells, Pick};
+use std::sync::Mutex;
 use std::test::Fail;
 
 type Tasks = Cells<u8, u64, Counter>;
@@ -139,5 +140,34 @@ fn a_notified_sleeper_sleeps_again_at_the_end(rt: HostRuntime) -> Result<(), Fai
         (sleepers.notified(), sleepers.at(0), sleepers.at(1)),
         (0, Some(1), Some(2))
     );
+    Ok(())
+}
+
+#[test]
+fn a_list_change_and_its_store_go_under_one_lock(rt: HostRuntime) -> Result<(), Fail> {
+    let flag = Flag::new();
+    let mut empty = Tasks::new(rt.alloc())?;
+    let mut tasks = Tasks::new(rt.alloc())?;
+    let lock = Mutex::new(ClosedSleepers::new(rt.alloc()));
+    let waker = new_counter(&rt)?;
+    let wakes = waker.wakes.clone()?;
+    assert!(rt; flag.get());
+    {
+        let mut guard = lock.lock(&rt);
+        let sleepers = &mut guard.sleepers;
+        sleepers.reserve()?;
+        match sleepers.insert(waker) {
+            Ok((_, change)) => search_in_vain(&mut empty, flag.store(change, sleepers)),
+            Err(_) => assert!(rt; false),
+        }
+    }
+    assert!(rt; !flag.get());
+    let (_, notice) = tasks.spawn(0)?;
+    let wakeup = match flag.exchange(notice) {
+        Some(pick) => lock.lock(&rt).sleepers.notify(pick),
+        None => None,
+    };
+    assert!(rt; is_woken(wakeup) && flag.get());
+    assert_eq!(rt; wakes.get(), 1);
     Ok(())
 }
