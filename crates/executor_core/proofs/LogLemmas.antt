@@ -1,13 +1,14 @@
 -- What one more event makes of what a log says.
-use Rattle.std.proofs.Common.{◌≡◌, ◌≢◌, ℕ, ◌+◌, ◌==◌, ◌||◌, ◌&&◌, not, Bool, true, false, List, [], ◌∷◌, ◌++◌, cond, refl, sym, ap, ◌∙◌, inl, inr, ◌⊎◌, arith}
+use Rattle.std.proofs.Common.{◌≡◌, ◌≢◌, ℕ, ◌+◌, ◌==◌, ◌||◌, ◌&&◌, not, Bool, true, false, List, [], ◌∷◌, ◌++◌, Option, Some, None, cond, refl, sym, ap, ◌∙◌, inl, inr, ◌⊎◌, arith}
 use Rattle.std.proofs.lemmas.Bool.{eq-eqb, ne_eqb}
 use Rattle.std.proofs.lemmas.List.Sums.{sum_by-append}
 use Rattle.std.specs.Prelude.{count_by}
-use Rattle.executor_core.specs.Log.{unfollowed, is_spawn, is_wake, is_cancel, is_take, is_poll, is_drop, is_end, outputs, given, polls, wakes}
-use Rattle.std.specs.List.{list_any}
+use Rattle.executor_core.specs.Log.{unfollowed, is_spawn, is_wake, is_cancel, is_take, is_poll, is_drop, is_end, output_in, given_in, outputs, given, polls, wakes}
+use Rattle.std.specs.List.{list_any, filter_map}
+use Rattle.std.proofs.lemmas.List.Elements.{filter_map-append}
 use Rattle.executor_core.specs.Promises.{InOrder, MayFollow}
 use Rattle.executor_core.specs.Agreement.{Status, status}
-use Rattle.executor_core.proofs.StatusLemmas.{with_event, task_of, with_output, with_given}
+use Rattle.executor_core.proofs.StatusLemmas.{with_event, task_of, with_some}
 use Rattle.executor_core.specs.declared.interleave.events.Purpose.TheVariants.{ToPoll, ToDrop}
 use Rattle.executor_core.specs.declared.interleave.events.Event.{Event}
 use Rattle.executor_core.specs.declared.interleave.events.Event.TheVariants.{Spawned, Woken, Cancelled, Took, Returned, Finished, Dropped, Got}
@@ -66,87 +67,18 @@ module _ {E : Type 0} where
         | inr p ↦ inr (p.0, ap (λ y. y ∷ ls) head ∙ ap (λ ys. b ∷ ys) p.1)
       ]
 
+  filter_map-push : {Y : Type 0} (h : E → Option Y) (log : List E) (e : E) → filter_map h (log ++ e ∷ []) ≡ with_some (h e) (filter_map h log)
+  filter_map-push {Y} h log e = filter_map-append h log (e ∷ []) ∙ last (h e) refl
+    where
+      nil : (ys : List Y) → ys ++ [] ≡ ys
+      nil [] = refl
+      nil (y ∷ ys) = ap (λ l. y ∷ l) (nil ys)
+
+      last : (o : Option Y) → h e ≡ o → filter_map h log ++ filter_map h (e ∷ []) ≡ with_some o (filter_map h log)
+      last None is = rw is (nil (filter_map h log))
+      last (Some y) is = rw is refl
+
 module _ {T : Type 0} where
-  outputs_front : (n : ℕ) (x : Event T) (rest : List (Event T)) → outputs n (x ∷ rest) ≡ with_output n x [] ++ outputs n rest
-  outputs_front n (Spawned m) rest = refl
-  outputs_front n (Woken m) rest = refl
-  outputs_front n (Cancelled m) rest = refl
-  outputs_front n (Took m purpose) rest = refl
-  outputs_front n (Returned m) rest = refl
-  outputs_front n (Dropped m) rest = refl
-  outputs_front n (Got m t) rest = refl
-  outputs_front n (Finished m t) rest = elim (m == n) as (λ b. cond b (t ∷ outputs n rest) (outputs n rest) ≡ cond b (t ∷ []) [] ++ outputs n rest) [
-    | true ↦ refl
-    | false ↦ refl
-  ]
-
-  with_output-front : (n : ℕ) (e : Event T) (xs ys : List T) → xs ++ with_output n e ys ≡ with_output n e (xs ++ ys)
-  with_output-front n (Spawned m) xs ys = refl
-  with_output-front n (Woken m) xs ys = refl
-  with_output-front n (Cancelled m) xs ys = refl
-  with_output-front n (Took m purpose) xs ys = refl
-  with_output-front n (Returned m) xs ys = refl
-  with_output-front n (Dropped m) xs ys = refl
-  with_output-front n (Got m t) xs ys = refl
-  with_output-front n (Finished m t) xs ys = elim (m == n) as (λ b. xs ++ cond b (ys ++ t ∷ []) ys ≡ cond b ((xs ++ ys) ++ t ∷ []) (xs ++ ys)) [
-    | true ↦ sym (assoc xs)
-    | false ↦ refl
-  ]
-    where
-      assoc : (zs : List T) → (zs ++ ys) ++ t ∷ [] ≡ zs ++ (ys ++ t ∷ [])
-      assoc [] = refl
-      assoc (z ∷ zs) = ap (λ l. z ∷ l) (assoc zs)
-
-  outputs-push : (n : ℕ) (log : List (Event T)) (e : Event T) → outputs n (log ++ e ∷ []) ≡ with_output n e (outputs n log)
-  outputs-push n [] e = outputs_front n e [] ∙ nil (with_output n e [])
-    where
-      nil : (xs : List T) → xs ++ [] ≡ xs
-      nil [] = refl
-      nil (x ∷ xs) = ap (λ l. x ∷ l) (nil xs)
-  outputs-push n (x ∷ rest) e =
-      outputs_front n x (rest ++ e ∷ []) ∙ ap (λ l. with_output n x [] ++ l) (outputs-push n rest e)
-      ∙ with_output-front n e (with_output n x []) (outputs n rest) ∙ ap (with_output n e) (sym (outputs_front n x rest))
-
-  given_front : (n : ℕ) (x : Event T) (rest : List (Event T)) → given n (x ∷ rest) ≡ with_given n x [] ++ given n rest
-  given_front n (Spawned m) rest = refl
-  given_front n (Woken m) rest = refl
-  given_front n (Cancelled m) rest = refl
-  given_front n (Took m purpose) rest = refl
-  given_front n (Returned m) rest = refl
-  given_front n (Dropped m) rest = refl
-  given_front n (Finished m t) rest = refl
-  given_front n (Got m t) rest = elim (m == n) as (λ b. cond b (t ∷ given n rest) (given n rest) ≡ cond b (t ∷ []) [] ++ given n rest) [
-    | true ↦ refl
-    | false ↦ refl
-  ]
-
-  with_given-front : (n : ℕ) (e : Event T) (xs ys : List T) → xs ++ with_given n e ys ≡ with_given n e (xs ++ ys)
-  with_given-front n (Spawned m) xs ys = refl
-  with_given-front n (Woken m) xs ys = refl
-  with_given-front n (Cancelled m) xs ys = refl
-  with_given-front n (Took m purpose) xs ys = refl
-  with_given-front n (Returned m) xs ys = refl
-  with_given-front n (Dropped m) xs ys = refl
-  with_given-front n (Finished m t) xs ys = refl
-  with_given-front n (Got m t) xs ys = elim (m == n) as (λ b. xs ++ cond b (ys ++ t ∷ []) ys ≡ cond b ((xs ++ ys) ++ t ∷ []) (xs ++ ys)) [
-    | true ↦ sym (assoc xs)
-    | false ↦ refl
-  ]
-    where
-      assoc : (zs : List T) → (zs ++ ys) ++ t ∷ [] ≡ zs ++ (ys ++ t ∷ [])
-      assoc [] = refl
-      assoc (z ∷ zs) = ap (λ l. z ∷ l) (assoc zs)
-
-  given-push : (n : ℕ) (log : List (Event T)) (e : Event T) → given n (log ++ e ∷ []) ≡ with_given n e (given n log)
-  given-push n [] e = given_front n e [] ∙ nil (with_given n e [])
-    where
-      nil : (xs : List T) → xs ++ [] ≡ xs
-      nil [] = refl
-      nil (x ∷ xs) = ap (λ l. x ∷ l) (nil xs)
-  given-push n (x ∷ rest) e =
-      given_front n x (rest ++ e ∷ []) ∙ ap (λ l. with_given n x [] ++ l) (given-push n rest e)
-      ∙ with_given-front n e (with_given n x []) (given n rest) ∙ ap (with_given n e) (sym (given_front n x rest))
-
   count-push : (f : Event T → Bool) (log : List (Event T)) (e : Event T) → count_by f (log ++ e ∷ []) ≡ cond (f e) (1 + count_by f log) (count_by f log)
   count-push f log e = sum_by-append (λ k. cond (f k) 1 0) log (e ∷ []) ∙ one (f e) refl
     where
@@ -163,8 +95,8 @@ module _ {T : Type 0} where
     held = last-push (is_take n) (is_end n) log e i;
     woken = last-push (is_wake n) (is_take n) log e i;
     cancelled_since = last-push (is_cancel n) (is_take n) log e i;
-    outputs = outputs-push n log e i;
-    given = given-push n log e i;
+    outputs = filter_map-push (output_in n) log e i;
+    given = filter_map-push (given_in n) log e i;
     polls = count-push (is_poll n) log e i;
     wakes = count-push (is_wake n) log e i;
   }

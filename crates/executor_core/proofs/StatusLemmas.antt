@@ -1,19 +1,16 @@
 -- What one more event makes of a status.
-use Rattle.std.specs.Prelude.{ℕ, ◌+◌, ◌==◌, List, [], ◌∷◌, ◌++◌, cond, ◌&&◌, ◌||◌, not}
-use Rattle.executor_core.specs.Log.{is_spawn, is_wake, is_cancel, is_take, is_poll, is_drop, is_end}
+use Rattle.std.specs.Prelude.{ℕ, ◌+◌, List, [], ◌∷◌, ◌++◌, Option, Some, None, cond, ◌&&◌, ◌||◌, not}
+use Rattle.executor_core.specs.Log.{is_spawn, is_wake, is_cancel, is_take, is_poll, is_drop, is_end, output_in, given_in}
 use Rattle.executor_core.specs.Agreement.{Status}
 use Rattle.executor_core.specs.declared.interleave.events.Event.{Event}
 use Rattle.executor_core.specs.declared.interleave.events.Event.TheVariants.{Spawned, Woken, Cancelled, Took, Returned, Finished, Dropped, Got}
 
+-- the list with one more item, where there is one
+abbrev pub with_some : {X : Type 0} → Option X → List X → List X
+with_some None xs = xs
+with_some (Some x) xs = xs ++ x ∷ []
+
 module _ {T : Type 0} where
-  abbrev pub with_output : ℕ → Event T → List T → List T
-  with_output n (Finished m t) ts = cond (m == n) (ts ++ t ∷ []) ts
-  with_output n _ ts = ts
-
-  abbrev pub with_given : ℕ → Event T → List T → List T
-  with_given n (Got m t) ts = cond (m == n) (ts ++ t ∷ []) ts
-  with_given n _ ts = ts
-
   abbrev pub with_event : ℕ → Event T → Status T → Status T
   with_event n e s =
       record {
@@ -24,8 +21,8 @@ module _ {T : Type 0} where
         held = is_take n e || (not (is_end n e) && s.held);
         woken = is_wake n e || (not (is_take n e) && s.woken);
         cancelled_since = is_cancel n e || (not (is_take n e) && s.cancelled_since);
-        outputs = with_output n e s.outputs;
-        given = with_given n e s.given;
+        outputs = with_some (output_in n e) s.outputs;
+        given = with_some (given_in n e) s.given;
         polls = cond (is_poll n e) (1 + s.polls) s.polls;
         wakes = cond (is_wake n e) (1 + s.wakes) s.wakes;
       }

@@ -1,6 +1,6 @@
 -- What a log says of a task. Each word reads the events, and nothing is stored.
-use Rattle.std.specs.Prelude.{◌≡◌, ℕ, ◌==◌, Bool, true, false, List, [], ◌∷◌, cond, ◌&&◌, ◌||◌, not, count_by}
-use Rattle.std.specs.List.{list_any}
+use Rattle.std.specs.Prelude.{◌≡◌, ℕ, ◌==◌, Bool, true, false, List, [], ◌∷◌, Option, Some, None, cond, ◌&&◌, ◌||◌, not, count_by}
+use Rattle.std.specs.List.{list_any, filter_map}
 use Rattle.executor_core.specs.declared.interleave.events.Purpose.TheVariants.{ToPoll}
 use Rattle.executor_core.specs.declared.interleave.events.Event.{Event}
 use Rattle.executor_core.specs.declared.interleave.events.Event.TheVariants.{Spawned, Woken, Cancelled, Took, Returned, Finished, Dropped, Got}
@@ -43,17 +43,23 @@ module _ {T : Type 0} where
   is_end n _ = false
 
 module _ {T : Type 0} where
+  -- the output that the task's future gives by the event
+  abbrev pub output_in : ℕ → Event T → Option T
+  output_in n (Finished m t) = cond (m == n) (Some t) None
+  output_in n _ = None
+
+  -- the output that the task's handle gives by the event
+  abbrev pub given_in : ℕ → Event T → Option T
+  given_in n (Got m t) = cond (m == n) (Some t) None
+  given_in n _ = None
+
   -- the outputs that the task's future gave, in order
   abbrev pub outputs : ℕ → List (Event T) → List T
-  outputs n [] = []
-  outputs n (Finished m t ∷ rest) = cond (m == n) (t ∷ outputs n rest) (outputs n rest)
-  outputs n (_ ∷ rest) = outputs n rest
+  outputs n log = filter_map (output_in n) log
 
   -- the outputs that the task's handle gave, in order
   abbrev pub given : ℕ → List (Event T) → List T
-  given n [] = []
-  given n (Got m t ∷ rest) = cond (m == n) (t ∷ given n rest) (given n rest)
-  given n (_ ∷ rest) = given n rest
+  given n log = filter_map (given_in n) log
 
   abbrev pub spawned : ℕ → List (Event T) → Bool
   spawned n log = list_any (is_spawn n) log
