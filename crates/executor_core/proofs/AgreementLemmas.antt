@@ -1,5 +1,5 @@
 -- What keeps the cells in agreement with the log.
-use Rattle.std.proofs.Common.{◌≡◌, ◌≢◌, ℕ, ◌+◌, ◌≤◌, ◌||◌, ◌&&◌, not, Bool, true, false, List, [], ◌∷◌, ◌++◌, length, Option, Some, None, is_some, cond, refl, sym, ap, subst, ◌∙◌, inl, inr, arith}
+use Rattle.std.proofs.Common.{◌≡◌, ◌≢◌, ℕ, ◌+◌, ◌<◌, ◌≤◌, ◌||◌, ◌&&◌, not, Bool, true, false, List, [], ◌∷◌, ◌++◌, length, Option, Some, None, is_some, cond, refl, sym, ap, subst, ◌∙◌, inl, inr, arith}
 use Rattle.std.proofs.lemmas.Bool.{cases_eq, eq-eqb}
 use Rattle.std.specs.Prelude.{slice_get, slice_set}
 use Rattle.std.specs.FinMap as map
@@ -11,7 +11,7 @@ use Rattle.executor_core.specs.Promises.{OnePlace, InOrder, FewPolls}
 use Rattle.executor_core.specs.Agreement.{Status, status, FewPollsFor, StateAgrees, CellAgrees, NumberAgrees, is_out, PolledAgrees, Agree}
 use Rattle.executor_core.proofs.StatusLemmas.{task_of}
 use Rattle.executor_core.proofs.LogLemmas.{status_other}
-use Rattle.executor_core.proofs.ListLemmas.{get-set_same, get-set_other, length-slice_set}
+use Rattle.executor_core.proofs.ListLemmas.{within_get, get-set_same, get-set_other, length-slice_set}
 use Rattle.executor_core.proofs.SlotLemmas.{insert_same, insert_other, remove_same, remove_other}
 use Rattle.executor_core.specs.declared.task.cell.Cell.{Cell}
 use Rattle.executor_core.specs.declared.task.cell.State.{State}
@@ -218,6 +218,13 @@ module _ {P T : Type 0} where
 
   pub spawned_is : {table : Table P T (Unit {0})} {log : List (Event T)} {tasks : List TaskInfo} {out : List (Option (FutureOut P))} → Agree table log tasks out → (n : ℕ) → spawned n log ≡ is_some (slice_get tasks n)
   spawned_is {table} {log} {tasks} agree n = spawned_match _ _ _ (agree.each n)
+
+  pub spawned_within : {table : Table P T (Unit {0})} {log : List (Event T)} {tasks : List TaskInfo} {out : List (Option (FutureOut P))} → Agree table log tasks out → (n : ℕ) → spawned n log ≡ true → n < length tasks
+  spawned_within {log = log} {tasks = tasks} agree n is = by_info (slice_get tasks n) refl
+    where
+      by_info : (o : Option TaskInfo) → slice_get tasks n ≡ o → n < length tasks
+      by_info (Some i) found = within_get tasks n i found
+      by_info None found = absurd (cc (is, spawned_is agree n, ap is_some found))
 
   -- what the log says of a cell in this state
   pub state_agrees : (slotted : Slotted P T (Unit {0})) (s : Status T) (i : TaskInfo) (st : State P T) → slotted.cell.state ≡ st → CellAgrees slotted s i → StateAgrees st slotted.cell.woken s

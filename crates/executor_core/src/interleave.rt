@@ -37,7 +37,9 @@ use std::marker::Model;
 use steps::{has_awaiter, reply_of};
 pub use steps::{Reply, Step};
 pub use tasks::TaskInfo;
-use tasks::{FutureOut, find_info, has_future, replace_future, set_info, take_unpolled};
+use tasks::{
+    FutureOut, find_info, has_future, known_info, replace_future, set_info, take_unpolled,
+};
 
 /// All parties of an executor, and the log of what they did.
 ///
@@ -183,10 +185,7 @@ impl<P: Drop, T: Copy> World<P, T> {
         ensures { row (wake_row n self.old) result self.new }
     {
         self.accepted += 1;
-        let info = match find_info(&self.tasks, n) {
-            Some(info) => info,
-            None => unreachable!(),
-        };
+        let info = known_info(&self.tasks, n);
         let id = info.id(n);
         if !self.core.cells.is_undropped(id) {
             return Reply::Nothing;
@@ -220,10 +219,7 @@ impl<P: Drop, T: Copy> World<P, T> {
         } = taken;
         let Held { id: _, to_drop: _ } = held;
         let n = id.number;
-        let info = match find_info(&self.tasks, n) {
-            Some(info) => info,
-            None => unreachable!(),
-        };
+        let info = known_info(&self.tasks, n);
         set_info(&mut self.tasks, n, info.with_to_drop(cancelled));
         replace_future(&mut self.out, n, Some(FutureOut::Unpolled(future)));
         if cancelled {
@@ -241,10 +237,7 @@ impl<P: Drop, T: Copy> World<P, T> {
         ensures { row (pend_row n self.old) result self.new }
     {
         self.accepted += 1;
-        let info = match find_info(&self.tasks, n) {
-            Some(info) => info,
-            None => unreachable!(),
-        };
+        let info = known_info(&self.tasks, n);
         let future = take_unpolled(&mut self.out, n);
         let id = info.id(n);
         let (held, future) = poll_pending::<P, T>(id, future);
@@ -274,10 +267,7 @@ impl<P: Drop, T: Copy> World<P, T> {
         ensures { row (ready_row n output self.old) result self.new }
     {
         self.accepted += 1;
-        let info = match find_info(&self.tasks, n) {
-            Some(info) => info,
-            None => unreachable!(),
-        };
+        let info = known_info(&self.tasks, n);
         let future = take_unpolled(&mut self.out, n);
         set_info(&mut self.tasks, n, info.with_awaited(false));
         let id = info.id(n);
@@ -299,10 +289,7 @@ impl<P: Drop, T: Copy> World<P, T> {
         ensures { row (dropped_row n self.old) result self.new }
     {
         self.accepted += 1;
-        let info = match find_info(&self.tasks, n) {
-            Some(info) => info,
-            None => unreachable!(),
-        };
+        let info = known_info(&self.tasks, n);
         let Some(out) = replace_future(&mut self.out, n, None) else {
             unreachable!()
         };

@@ -5,7 +5,7 @@ ghost use Rattle.executor_core.specs.Steps.{info, row, handle_row, cancel_row, d
 use crate::interleave::World;
 use crate::interleave::events::Event;
 use crate::interleave::steps::{Reply, reply_of_output};
-use crate::interleave::tasks::{find_info, set_info};
+use crate::interleave::tasks::{known_info, set_info};
 use crate::task::PollHandle;
 
 impl<P: Drop, T: Copy> World<P, T> {
@@ -15,10 +15,7 @@ impl<P: Drop, T: Copy> World<P, T> {
         ensures { row (handle_row n self.old) result self.new }
     {
         self.accepted += 1;
-        let info = match find_info(&self.tasks, n) {
-            Some(info) => info,
-            None => unreachable!(),
-        };
+        let info = known_info(&self.tasks, n);
         let id = info.id(n);
         match self.core.poll_handle(id, ()) {
             PollHandle::Output(output, _) => {
@@ -43,10 +40,7 @@ impl<P: Drop, T: Copy> World<P, T> {
         ensures { row (cancel_row n self.old) result self.new }
     {
         self.accepted += 1;
-        let info = match find_info(&self.tasks, n) {
-            Some(info) => info,
-            None => unreachable!(),
-        };
+        let info = known_info(&self.tasks, n);
         let id = info.id(n);
         let undropped = self.core.cells.is_undropped(id);
         match self.core.cancel(id) {
@@ -72,10 +66,7 @@ impl<P: Drop, T: Copy> World<P, T> {
         ensures { row (detach_row n self.old) result self.new }
     {
         self.accepted += 1;
-        let info = match find_info(&self.tasks, n) {
-            Some(info) => info,
-            None => unreachable!(),
-        };
+        let info = known_info(&self.tasks, n);
         set_info(
             &mut self.tasks,
             n,
@@ -91,10 +82,7 @@ impl<P: Drop, T: Copy> World<P, T> {
         ensures { row (drop_handle_row n self.old) result self.new }
     {
         self.accepted += 1;
-        let info = match find_info(&self.tasks, n) {
-            Some(info) => info,
-            None => unreachable!(),
-        };
+        let info = known_info(&self.tasks, n);
         set_info(
             &mut self.tasks,
             n,

@@ -70,6 +70,14 @@ pub(crate) fn find_info(tasks: &Vec<TaskInfo>, n: u64) -> Option<TaskInfo>
     tasks.get(n as usize).copied()
 }
 
+// What is known of this task, which was spawned.
+pub(crate) fn known_info(tasks: &Vec<TaskInfo>, n: u64) -> TaskInfo
+    requires { n < length tasks.now.items }
+    ensures { slice_get tasks.now.items n ≡ Some result }
+{
+    tasks[n as usize]
+}
+
 // Puts this in the place of what was known of the task.
 pub(crate) fn set_info(tasks: &mut Vec<TaskInfo>, n: u64, info: TaskInfo)
     requires { n < length tasks.old.items }

@@ -9,68 +9,68 @@ use Rattle.executor_core.proofs.interleave.World.cancel.Goals as goal
 
 pub invariant_of-self : goal.invariant_of-self
 invariant_of-self g c =
-    let found = sym c.in-Some.ensures in
-    let there : c.in-Some.info.has_handle ≡ true = sym (ap (λ o. (info_or o).has_handle) found) ∙ subst (λ w. (info c.args.n w).has_handle ≡ true) (sym c.self.view_is) c.requires.enabled in
+    let found = c.known_info-info.ensures in
+    let there : c.known_info-info.result.has_handle ≡ true = sym (ap (λ o. (info_or o).has_handle) found) ∙ subst (λ w. (info c.args.n w).has_handle ≡ true) (sym c.self.view_is) c.requires.enabled in
     let same = c.id-id.ensures in
     let table = c.cancel.ensures.table ∙ ap (λ i. after_cancel c.self.inside.core.cells i) same in
-    let queues = sym (cancel_notice c.self.invariant.agree c.args.n c.in-Some.info found there) ∙ ap (λ i. cancel_queues c.self.inside.core.cells i) (sym same) ∙ sym c.in-Some-cancel.ensures.notice in
+    let queues = sym (cancel_notice c.self.invariant.agree c.args.n c.known_info-info.result found there) ∙ ap (λ i. cancel_queues c.self.inside.core.cells i) (sym same) ∙ sym c.in-Some.ensures.notice in
     record {
-      agree = rw (table, c.push_reserved.ensures.items) (cancel_step c.self.invariant.agree c.args.n c.in-Some.info found there (idle_undropped _ _ _ _ queues));
+      agree = rw (table, c.push_reserved.ensures.items) (cancel_step c.self.invariant.agree c.args.n c.known_info-info.result found there (idle_undropped _ _ _ _ queues));
       nobody = c.cancel.ensures.rest.1 ∙ c.self.invariant.nobody;
       room = room_step c.self.invariant.room (subst (λ w. w.accepted ≢ w.limit) (sym c.self.view_is) c.requires.room) _ _ _ _ (one_notice _ _) (more _) (one_event _ _ _ c.push_reserved.ensures.items) (sym c.push_reserved.ensures.capacity);
     }
 
-pub returns-in-Some-cancel : goal.returns-in-Some-cancel
-returns-in-Some-cancel g c =
-    let found = sym c.in-Some.ensures in
-    let there : c.in-Some.info.has_handle ≡ true = sym (ap (λ o. (info_or o).has_handle) found) ∙ subst (λ w. (info c.args.n w).has_handle ≡ true) (sym c.self.view_is) c.requires.enabled in
+pub returns-in-Some : goal.returns-in-Some
+returns-in-Some g c =
+    let found = c.known_info-info.ensures in
+    let there : c.known_info-info.result.has_handle ≡ true = sym (ap (λ o. (info_or o).has_handle) found) ∙ subst (λ w. (info c.args.n w).has_handle ≡ true) (sym c.self.view_is) c.requires.enabled in
     let same = c.id-id.ensures in
     let table = c.cancel.ensures.table ∙ ap (λ i. after_cancel c.self.inside.core.cells i) same in
-    let queues = sym (cancel_notice c.self.invariant.agree c.args.n c.in-Some.info found there) ∙ ap (λ i. cancel_queues c.self.inside.core.cells i) (sym same) ∙ sym c.in-Some-cancel.ensures.notice in
-    rw (← c.self.view_is, c.cancel.ensures.rest.0, c.cancel.ensures.rest.1) (mark_queued _ _ _ _ _ _ _ _ _ c.args.n c.in-Some.info found _ _ _ queues (ap (λ s. s.global) table ∙ cancel_global c.self.invariant.agree c.args.n c.in-Some.info found there) c.push_reserved.ensures.items)
+    let queues = sym (cancel_notice c.self.invariant.agree c.args.n c.known_info-info.result found there) ∙ ap (λ i. cancel_queues c.self.inside.core.cells i) (sym same) ∙ sym c.in-Some.ensures.notice in
+    rw (← c.self.view_is, c.cancel.ensures.rest.0, c.cancel.ensures.rest.1) (mark_queued _ _ _ _ _ _ _ _ _ c.args.n c.known_info-info.result found _ _ _ queues (ap (λ s. s.global) table ∙ cancel_global c.self.invariant.agree c.args.n c.known_info-info.result found there) c.push_reserved.ensures.items)
 
 pub invariant_of-self-then-not-undropped : goal.invariant_of-self-then-not-undropped
 invariant_of-self-then-not-undropped g c =
-    let found = sym c.in-Some.ensures in
-    let there : c.in-Some.info.has_handle ≡ true = sym (ap (λ o. (info_or o).has_handle) found) ∙ subst (λ w. (info c.args.n w).has_handle ≡ true) (sym c.self.view_is) c.requires.enabled in
+    let found = c.known_info-info.ensures in
+    let there : c.known_info-info.result.has_handle ≡ true = sym (ap (λ o. (info_or o).has_handle) found) ∙ subst (λ w. (info c.args.n w).has_handle ≡ true) (sym c.self.view_is) c.requires.enabled in
     let same = c.id-id.ensures in
     let table = c.cancel.ensures.table ∙ ap (λ i. after_cancel c.self.inside.core.cells i) same in
-    let gone = dropped_by c.self.invariant.agree c.args.n c.in-Some.info found _ (ap (λ i. undropped_in (cell_at c.self.inside.core.cells i)) (sym same) ∙ sym c.is_undropped-undropped.ensures ∙ c.if-not-undropped.true) in
+    let gone = dropped_by c.self.invariant.agree c.args.n c.known_info-info.result found _ (ap (λ i. undropped_in (cell_at c.self.inside.core.cells i)) (sym same) ∙ sym c.is_undropped-undropped.ensures ∙ c.if-not-undropped.true) in
     record {
-      agree = rw table (cancel_ended c.self.invariant.agree c.args.n c.in-Some.info found there gone);
+      agree = rw table (cancel_ended c.self.invariant.agree c.args.n c.known_info-info.result found there gone);
       nobody = c.cancel.ensures.rest.1 ∙ c.self.invariant.nobody;
       room = room_step c.self.invariant.room (subst (λ w. w.accepted ≢ w.limit) (sym c.self.view_is) c.requires.room) _ _ _ _ (more _) (more _) (more_two _) refl;
     }
 
 pub returns-then-not-undropped : goal.returns-then-not-undropped
 returns-then-not-undropped g c =
-    let found = sym c.in-Some.ensures in
-    let there : c.in-Some.info.has_handle ≡ true = sym (ap (λ o. (info_or o).has_handle) found) ∙ subst (λ w. (info c.args.n w).has_handle ≡ true) (sym c.self.view_is) c.requires.enabled in
+    let found = c.known_info-info.ensures in
+    let there : c.known_info-info.result.has_handle ≡ true = sym (ap (λ o. (info_or o).has_handle) found) ∙ subst (λ w. (info c.args.n w).has_handle ≡ true) (sym c.self.view_is) c.requires.enabled in
     let same = c.id-id.ensures in
     let table = c.cancel.ensures.table ∙ ap (λ i. after_cancel c.self.inside.core.cells i) same in
-    let queues = sym (cancel_notice c.self.invariant.agree c.args.n c.in-Some.info found there) ∙ ap (λ i. cancel_queues c.self.inside.core.cells i) (sym same) ∙ sym c.in-None-cancel.ensures.notice in
-    let gone = dropped_by c.self.invariant.agree c.args.n c.in-Some.info found _ (ap (λ i. undropped_in (cell_at c.self.inside.core.cells i)) (sym same) ∙ sym c.is_undropped-undropped.ensures ∙ c.if-not-undropped.true) in
-    rw (← c.self.view_is, c.cancel.ensures.rest.0, c.cancel.ensures.rest.1) (mark_dropped _ _ _ _ _ _ _ _ _ c.args.n c.in-Some.info found _ _ queues gone (ap (λ s. s.global) table ∙ cancel_global c.self.invariant.agree c.args.n c.in-Some.info found there))
+    let queues = sym (cancel_notice c.self.invariant.agree c.args.n c.known_info-info.result found there) ∙ ap (λ i. cancel_queues c.self.inside.core.cells i) (sym same) ∙ sym c.in-None.ensures.notice in
+    let gone = dropped_by c.self.invariant.agree c.args.n c.known_info-info.result found _ (ap (λ i. undropped_in (cell_at c.self.inside.core.cells i)) (sym same) ∙ sym c.is_undropped-undropped.ensures ∙ c.if-not-undropped.true) in
+    rw (← c.self.view_is, c.cancel.ensures.rest.0, c.cancel.ensures.rest.1) (mark_dropped _ _ _ _ _ _ _ _ _ c.args.n c.known_info-info.result found _ _ queues gone (ap (λ s. s.global) table ∙ cancel_global c.self.invariant.agree c.args.n c.known_info-info.result found there))
 
-pub invariant_of-self-in-None-cancel : goal.invariant_of-self-in-None-cancel
-invariant_of-self-in-None-cancel g c =
-    let found = sym c.in-Some.ensures in
-    let there : c.in-Some.info.has_handle ≡ true = sym (ap (λ o. (info_or o).has_handle) found) ∙ subst (λ w. (info c.args.n w).has_handle ≡ true) (sym c.self.view_is) c.requires.enabled in
+pub invariant_of-self-in-None : goal.invariant_of-self-in-None
+invariant_of-self-in-None g c =
+    let found = c.known_info-info.ensures in
+    let there : c.known_info-info.result.has_handle ≡ true = sym (ap (λ o. (info_or o).has_handle) found) ∙ subst (λ w. (info c.args.n w).has_handle ≡ true) (sym c.self.view_is) c.requires.enabled in
     let same = c.id-id.ensures in
     let table = c.cancel.ensures.table ∙ ap (λ i. after_cancel c.self.inside.core.cells i) same in
-    let gone = dropped_by c.self.invariant.agree c.args.n c.in-Some.info found _ (ap (λ i. undropped_in (cell_at c.self.inside.core.cells i)) (sym same) ∙ sym c.is_undropped-undropped.ensures ∙ c.if-not-undropped.false) in
+    let gone = dropped_by c.self.invariant.agree c.args.n c.known_info-info.result found _ (ap (λ i. undropped_in (cell_at c.self.inside.core.cells i)) (sym same) ∙ sym c.is_undropped-undropped.ensures ∙ c.if-not-undropped.false) in
     record {
-      agree = rw (table, c.push_reserved-in-None-cancel.ensures.items) (cancel_step c.self.invariant.agree c.args.n c.in-Some.info found there gone);
+      agree = rw (table, c.push_reserved-in-None.ensures.items) (cancel_step c.self.invariant.agree c.args.n c.known_info-info.result found there gone);
       nobody = c.cancel.ensures.rest.1 ∙ c.self.invariant.nobody;
-      room = room_step c.self.invariant.room (subst (λ w. w.accepted ≢ w.limit) (sym c.self.view_is) c.requires.room) _ _ _ _ (more _) (more _) (one_event _ _ _ c.push_reserved-in-None-cancel.ensures.items) (sym c.push_reserved-in-None-cancel.ensures.capacity);
+      room = room_step c.self.invariant.room (subst (λ w. w.accepted ≢ w.limit) (sym c.self.view_is) c.requires.room) _ _ _ _ (more _) (more _) (one_event _ _ _ c.push_reserved-in-None.ensures.items) (sym c.push_reserved-in-None.ensures.capacity);
     }
 
 pub returns-else-not-undropped : goal.returns-else-not-undropped
 returns-else-not-undropped g c =
-    let found = sym c.in-Some.ensures in
-    let there : c.in-Some.info.has_handle ≡ true = sym (ap (λ o. (info_or o).has_handle) found) ∙ subst (λ w. (info c.args.n w).has_handle ≡ true) (sym c.self.view_is) c.requires.enabled in
+    let found = c.known_info-info.ensures in
+    let there : c.known_info-info.result.has_handle ≡ true = sym (ap (λ o. (info_or o).has_handle) found) ∙ subst (λ w. (info c.args.n w).has_handle ≡ true) (sym c.self.view_is) c.requires.enabled in
     let same = c.id-id.ensures in
     let table = c.cancel.ensures.table ∙ ap (λ i. after_cancel c.self.inside.core.cells i) same in
-    let queues = sym (cancel_notice c.self.invariant.agree c.args.n c.in-Some.info found there) ∙ ap (λ i. cancel_queues c.self.inside.core.cells i) (sym same) ∙ sym c.in-None-cancel.ensures.notice in
-    let gone = dropped_by c.self.invariant.agree c.args.n c.in-Some.info found _ (ap (λ i. undropped_in (cell_at c.self.inside.core.cells i)) (sym same) ∙ sym c.is_undropped-undropped.ensures ∙ c.if-not-undropped.false) in
-    rw (← c.self.view_is, c.cancel.ensures.rest.0, c.cancel.ensures.rest.1) (mark_stays _ _ _ _ _ _ _ _ _ c.args.n c.in-Some.info found _ _ _ queues gone (ap (λ s. s.global) table ∙ cancel_global c.self.invariant.agree c.args.n c.in-Some.info found there) c.push_reserved-in-None-cancel.ensures.items)
+    let queues = sym (cancel_notice c.self.invariant.agree c.args.n c.known_info-info.result found there) ∙ ap (λ i. cancel_queues c.self.inside.core.cells i) (sym same) ∙ sym c.in-None.ensures.notice in
+    let gone = dropped_by c.self.invariant.agree c.args.n c.known_info-info.result found _ (ap (λ i. undropped_in (cell_at c.self.inside.core.cells i)) (sym same) ∙ sym c.is_undropped-undropped.ensures ∙ c.if-not-undropped.false) in
+    rw (← c.self.view_is, c.cancel.ensures.rest.0, c.cancel.ensures.rest.1) (mark_stays _ _ _ _ _ _ _ _ _ c.args.n c.known_info-info.result found _ _ _ queues gone (ap (λ s. s.global) table ∙ cancel_global c.self.invariant.agree c.args.n c.known_info-info.result found there) c.push_reserved-in-None.ensures.items)
