@@ -1,4 +1,4 @@
-use Rattle.std.specs.Prelude.{◌==◌, ℕ, Option, Some, None, cond, List, [], ◌∷◌, ◌++◌, slice_set, slice_get, length, nat_lt, vec_len, vec_capacity, ◌<◌}
+use Rattle.std.specs.Prelude.{◌≡◌, MatchOption, ◌==◌, ℕ, Option, Some, None, cond, List, [], ◌∷◌, ◌++◌, slice_set, slice_get, length, nat_lt, vec_len, vec_capacity, ◌<◌}
 use Rattle.executor_core.specs.declared.task.values.TaskId.{TaskId}
 use Rattle.async_executor.specs.declared.store.Kept.{Kept}
 use Rattle.async_executor.specs.declared.store.Place.{Place}
@@ -22,6 +22,13 @@ module _ {F W R T : Type 0} where
   abbrev pub inserted : List (Place F W R T) → TaskId → Kept F W R T → List (Place F W R T)
   inserted places id kept =
       cond (nat_lt id.slot (length places)) (with_place places id kept) (places ++ record { number = id.number; kept = kept } ∷ [])
+
+  -- this is kept of the task from now on, and what was kept before comes out; without a place it comes back
+  abbrev pub Replaces : Store F W R T → TaskId → Kept F W R T → Kept F W R T → Store F W R T → Type 0
+  Replaces old id kept result new =
+      MatchOption (kept_at old id)
+      ((result ≡ kept) × (new.places.items ≡ old.places.items))
+      (λ before. (result ≡ before) × (new.places.items ≡ with_place old.places.items id kept))
 
   -- a place more needs no memory
   abbrev pub HasRoom : Store F W R T → Type 0

@@ -62,10 +62,7 @@ impl<S: Storage> Handle<S> {
         let state = storage.state();
         let (awaiter, unwanted) = storage.with_store((), |store, ()| {
             let (output, awaiter) = state.cells().detach(id);
-            match output {
-                Some(()) => (awaiter, store.take(id)),
-                None => (awaiter, Kept::Nothing),
-            }
+            (awaiter, store.take_output(id, output))
         });
         drop(unwanted);
         drop(awaiter);
@@ -117,10 +114,7 @@ impl<S: Storage> Drop for Handle<S> {
         let state = storage.state();
         let (notice, awaiter, unwanted) = storage.with_store((), |store, ()| {
             let (notice, output, awaiter) = state.cells().drop_handle(id);
-            match output {
-                Some(()) => (notice, awaiter, store.take(id)),
-                None => (notice, awaiter, Kept::Nothing),
-            }
+            (notice, awaiter, store.take_output(id, output))
         });
         state.announce_any(notice);
         drop(unwanted);

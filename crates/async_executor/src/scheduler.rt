@@ -142,10 +142,7 @@ fn end_ready<S: Storage>(
         {
             store.replace(id, kept);
             let EndReady { awaiter, unwanted } = state.cells().end_ready(held, ());
-            match unwanted {
-                Some(()) => (awaiter, store.take(id)),
-                None => (awaiter, Kept::Nothing),
-            }
+            (awaiter, store.take_output(id, unwanted))
         },
     );
     drop(unwanted);

@@ -3,7 +3,7 @@
 //! A task has the place of its slot for as long as its cell has that slot, also while its future is out to be
 //! polled. The place bears the number of the task, so that a later task of the same slot is not taken for it.
 ghost use Rattle.std.specs.Prelude.{◌≡◌, ◌<◌, [], OnOk, IsTrue, is_some, MatchOption, vec_len};
-ghost use Rattle.async_executor.specs.Store.{kept_at, with_place, inserted, HasRoom};
+ghost use Rattle.async_executor.specs.Store.{kept_at, inserted, HasRoom, Replaces};
 
 use crate::waker::TaskWaker;
 use executor_core::task::{Future, OutOfMemory, TaskId, Wake};
@@ -80,9 +80,7 @@ impl<F: Future<TaskWaker<W, R>>, W: Wake, R: Wait + Clone + Drop> Store<F, W, R>
 
     /// Puts this in the task's place, and gives what was kept there. Without a place it is given back.
     pub(crate) fn replace(&mut self, id: TaskId, kept: Kept<F, W, R>) -> Kept<F, W, R>
-        ensures { MatchOption (kept_at self.old id)
-            ((result ≡ kept) × (self.new.places.items ≡ self.old.places.items))
-            (λ before. (result ≡ before) × (self.new.places.items ≡ with_place self.old.places.items id kept)) }
+        ensures { Replaces self.old id kept result self.new }
     {
         if !self.has_place(id) {
             return kept;
@@ -98,10 +96,20 @@ impl<F: Future<TaskWaker<W, R>>, W: Wake, R: Wait + Clone + Drop> Store<F, W, R>
 
     /// Takes what is kept of the task.
     pub(crate) fn take(&mut self, id: TaskId) -> Kept<F, W, R>
-        ensures { MatchOption (kept_at self.old id)
-            ((result ≡ Kept.Nothing) × (self.new.places.items ≡ self.old.places.items))
-            (λ before. (result ≡ before) × (self.new.places.items ≡ with_place self.old.places.items id Kept.Nothing)) }
+        ensures { Replaces self.old id Kept.Nothing result self.new }
     {
         self.replace(id, Kept::Nothing)
+    }
+
+    /// Takes the output of the task where the table gave it out, and else nothing.
+    pub(crate) fn take_output(&mut self, id: TaskId, given: Option<()>) -> Kept<F, W, R>
+        ensures { MatchOption given
+            ((result ≡ Kept.Nothing) × (self.new.places.items ≡ self.old.places.items))
+            (λ _. Replaces self.old id Kept.Nothing result self.new) }
+    {
+        match given {
+            Some(()) => self.take(id),
+            None => Kept::Nothing,
+        }
     }
 }
