@@ -1,6 +1,7 @@
 //! What becomes of tasks that are cancelled.
 use crate::counters::Counter;
 use crate::futures::{LeavesWaker, Never, Ready};
+use crate::tests::spawned;
 use crate::wakers::CountingWaker;
 use async_executor::executor::Executor;
 use executor_core::task::{Future, Poll};
@@ -12,7 +13,7 @@ fn a_cancel_after_the_end_gives_the_output(rt: HostRuntime) -> Result<(), Fail> 
     let alloc = rt.alloc();
     let waker = CountingWaker::new(alloc)?;
     let ex = Executor::new(rt.clone()?, alloc)?;
-    let task = ex.spawn(Ready::new(7u64)).map_err(|_| "refused")?;
+    let task = spawned(&ex, Ready::new(7u64))?;
     assert!(rt; ex.try_tick());
     let mut cancel = task.cancel();
     assert_eq!(rt; cancel.poll(&waker), Poll::Ready(Some(7)));
@@ -26,13 +27,13 @@ fn a_fallible_task_gives_the_output(rt: HostRuntime) -> Result<(), Fail> {
     let alloc = rt.alloc();
     let waker = CountingWaker::new(alloc)?;
     let ex = Executor::new(rt.clone()?, alloc)?;
-    let task = ex.spawn(Ready::new(7u64)).map_err(|_| "refused")?;
+    let task = spawned(&ex, Ready::new(7u64))?;
     assert!(rt; ex.try_tick());
     let mut fallible = task.fallible();
     assert!(rt; fallible.is_finished());
     assert_eq!(rt; fallible.poll(&waker), Poll::Ready(Some(7)));
     assert_eq!(rt; fallible.poll(&waker), Poll::Ready(None));
-    let task = ex.spawn(Ready::new(8u64)).map_err(|_| "refused")?;
+    let task = spawned(&ex, Ready::new(8u64))?;
     let mut cancel = task.fallible().cancel();
     assert!(rt; ex.try_tick());
     assert_eq!(rt; cancel.poll(&waker), Poll::Ready(None));
@@ -46,9 +47,7 @@ fn a_cancelled_task_is_dropped_unpolled(rt: HostRuntime) -> Result<(), Fail> {
     let polls = Counter::new(alloc)?;
     let drops = Counter::new(alloc)?;
     let ex = Executor::new(rt.clone()?, alloc)?;
-    let task = ex
-        .spawn(Never::new(&polls, &drops)?)
-        .map_err(|_| "refused")?;
+    let task = spawned(&ex, Never::new(&polls, &drops)?)?;
     let mut cancel = task.cancel();
     assert_eq!(rt; cancel.poll(&waker), Poll::Pending);
     assert!(rt; !ex.is_empty());
@@ -68,9 +67,7 @@ fn an_idle_task_that_is_cancelled_is_scheduled(rt: HostRuntime) -> Result<(), Fa
     let polls = Counter::new(alloc)?;
     let drops = Counter::new(alloc)?;
     let ex = Executor::new(rt.clone()?, alloc)?;
-    let mut task = ex
-        .spawn(Never::new(&polls, &drops)?)
-        .map_err(|_| "refused")?;
+    let mut task = spawned(&ex, Never::new(&polls, &drops)?)?;
     assert!(rt; ex.try_tick());
     assert!(rt; !ex.try_tick());
     assert_eq!(rt; task.poll(&waker), Poll::Pending);
@@ -90,20 +87,9 @@ fn a_dropped_handle_cancels(rt: HostRuntime) -> Result<(), Fail> {
     let polls = Counter::new(alloc)?;
     let drops = Counter::new(alloc)?;
     let ex: Executor<Never, CountingWaker, _> = Executor::new(rt.clone()?, alloc)?;
-    drop(
-        ex.spawn(Never::new(&polls, &drops)?)
-            .map_err(|_| "refused")?,
-    );
-    drop(
-        ex.spawn(Never::new(&polls, &drops)?)
-            .map_err(|_| "refused")?
-            .fallible(),
-    );
-    drop(
-        ex.spawn(Never::new(&polls, &drops)?)
-            .map_err(|_| "refused")?
-            .cancel(),
-    );
+    drop(spawned(&ex, Never::new(&polls, &drops)?)?);
+    drop(spawned(&ex, Never::new(&polls, &drops)?)?.fallible());
+    drop(spawned(&ex, Never::new(&polls, &drops)?)?.cancel());
     assert!(rt; !ex.is_empty());
     for dropped in 0..3u64 {
         assert_eq!(rt; drops.get(), dropped);
@@ -122,9 +108,7 @@ fn a_dropped_cancel_lets_the_task_go(rt: HostRuntime) -> Result<(), Fail> {
     let polls = Counter::new(alloc)?;
     let drops = Counter::new(alloc)?;
     let ex = Executor::new(rt.clone()?, alloc)?;
-    let task = ex
-        .spawn(Never::new(&polls, &drops)?)
-        .map_err(|_| "refused")?;
+    let task = spawned(&ex, Never::new(&polls, &drops)?)?;
     assert!(rt; ex.try_tick());
     let mut cancel = task.cancel();
     assert_eq!(rt; cancel.poll(&waker), Poll::Pending);
@@ -144,11 +128,8 @@ fn detached_tasks_are_not_cancelled(rt: HostRuntime) -> Result<(), Fail> {
     let polls = Counter::new(alloc)?;
     let drops = Counter::new(alloc)?;
     let ex: Executor<LeavesWaker<_>, CountingWaker, _> = Executor::new(rt.clone()?, alloc)?;
-    ex.spawn(LeavesWaker::new(0, &place, &polls, &drops)?)
-        .map_err(|_| "refused")?
-        .detach();
-    ex.spawn(LeavesWaker::new(0, &place, &polls, &drops)?)
-        .map_err(|_| "refused")?
+    spawned(&ex, LeavesWaker::new(0, &place, &polls, &drops)?)?.detach();
+    spawned(&ex, LeavesWaker::new(0, &place, &polls, &drops)?)?
         .fallible()
         .detach();
     assert!(rt; ex.try_tick());

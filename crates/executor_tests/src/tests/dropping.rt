@@ -1,6 +1,7 @@
 //! When futures and outputs are dropped, whatever ends first.
 use crate::counters::{Counter, CountsDrop};
 use crate::futures::{KeepsWaker, Never, Ready};
+use crate::tests::spawned;
 use crate::wakers::CountingWaker;
 use async_executor::executor::Executor;
 use executor_core::task::{Future, Poll};
@@ -11,9 +12,7 @@ fn an_output_outlives_the_executor(rt: HostRuntime) -> Result<(), Fail> {
     let alloc = rt.alloc();
     let drops = Counter::new(alloc)?;
     let ex: Executor<_, CountingWaker, _> = Executor::new(rt.clone()?, alloc)?;
-    let task = ex
-        .spawn(Ready::new(CountsDrop::new(&drops)?))
-        .map_err(|_| "refused")?;
+    let task = spawned(&ex, Ready::new(CountsDrop::new(&drops)?))?;
     assert!(rt; ex.try_tick());
     assert_eq!(rt; drops.get(), 0);
     drop(ex);
@@ -28,16 +27,12 @@ fn an_output_goes_with_its_handle(rt: HostRuntime) -> Result<(), Fail> {
     let alloc = rt.alloc();
     let drops = Counter::new(alloc)?;
     let ex: Executor<_, CountingWaker, _> = Executor::new(rt.clone()?, alloc)?;
-    let task = ex
-        .spawn(Ready::new(CountsDrop::new(&drops)?))
-        .map_err(|_| "refused")?;
+    let task = spawned(&ex, Ready::new(CountsDrop::new(&drops)?))?;
     assert!(rt; ex.try_tick());
     assert_eq!(rt; drops.get(), 0);
     drop(task);
     assert_eq!(rt; drops.get(), 1);
-    let task = ex
-        .spawn(Ready::new(CountsDrop::new(&drops)?))
-        .map_err(|_| "refused")?;
+    let task = spawned(&ex, Ready::new(CountsDrop::new(&drops)?))?;
     assert!(rt; ex.try_tick());
     task.detach();
     assert_eq!(rt; drops.get(), 2);
@@ -52,9 +47,7 @@ fn an_output_that_was_given_is_dropped_by_its_owner(rt: HostRuntime) -> Result<(
     let waker = CountingWaker::new(alloc)?;
     let drops = Counter::new(alloc)?;
     let ex = Executor::new(rt.clone()?, alloc)?;
-    let mut task = ex
-        .spawn(Ready::new(CountsDrop::new(&drops)?))
-        .map_err(|_| "refused")?;
+    let mut task = spawned(&ex, Ready::new(CountsDrop::new(&drops)?))?;
     assert!(rt; ex.try_tick());
     let output = match task.poll(&waker) {
         Poll::Ready(Ok(output)) => output,
@@ -74,16 +67,12 @@ fn a_future_that_was_not_run_is_dropped_once(rt: HostRuntime) -> Result<(), Fail
     let polls = Counter::new(alloc)?;
     let drops = Counter::new(alloc)?;
     let ex: Executor<_, CountingWaker, _> = Executor::new(rt.clone()?, alloc)?;
-    let task = ex
-        .spawn(Never::new(&polls, &drops)?)
-        .map_err(|_| "refused")?;
+    let task = spawned(&ex, Never::new(&polls, &drops)?)?;
     drop(ex);
     drop(task);
     assert_eq!(rt; (polls.get(), drops.get()), (0, 1));
     let ex: Executor<_, CountingWaker, _> = Executor::new(rt.clone()?, alloc)?;
-    let task = ex
-        .spawn(Never::new(&polls, &drops)?)
-        .map_err(|_| "refused")?;
+    let task = spawned(&ex, Never::new(&polls, &drops)?)?;
     drop(task);
     assert_eq!(rt; drops.get(), 1);
     drop(ex);
@@ -97,12 +86,8 @@ fn an_idle_future_is_dropped_once(rt: HostRuntime) -> Result<(), Fail> {
     let polls = Counter::new(alloc)?;
     let drops = Counter::new(alloc)?;
     let ex: Executor<_, CountingWaker, _> = Executor::new(rt.clone()?, alloc)?;
-    let kept = ex
-        .spawn(Never::new(&polls, &drops)?)
-        .map_err(|_| "refused")?;
-    ex.spawn(Never::new(&polls, &drops)?)
-        .map_err(|_| "refused")?
-        .detach();
+    let kept = spawned(&ex, Never::new(&polls, &drops)?)?;
+    spawned(&ex, Never::new(&polls, &drops)?)?.detach();
     assert!(rt; ex.try_tick());
     assert!(rt; ex.try_tick());
     assert!(rt; !ex.is_empty());
@@ -118,9 +103,7 @@ fn a_future_that_keeps_its_waker_is_dropped_once(rt: HostRuntime) -> Result<(), 
     let alloc = rt.alloc();
     let drops = Counter::new(alloc)?;
     let ex: Executor<KeepsWaker<_>, CountingWaker, _> = Executor::new(rt.clone()?, alloc)?;
-    ex.spawn(KeepsWaker::new(&drops)?)
-        .map_err(|_| "refused")?
-        .detach();
+    spawned(&ex, KeepsWaker::new(&drops)?)?.detach();
     assert!(rt; ex.try_tick());
     assert_eq!(rt; drops.get(), 0);
     drop(ex);

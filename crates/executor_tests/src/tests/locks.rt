@@ -4,6 +4,7 @@ ghost use Rattle.std.specs.Prelude.{◌≡◌};
 use crate::counters::Counter;
 use crate::futures::{Halts, Ready};
 use crate::meetings::{Halt, HaltsInDrop};
+use crate::tests::spawned;
 use crate::wakers::HaltingWaker;
 use async_executor::executor::{Executor, TaskWaker};
 use executor_core::task::{Future, Poll, Wake};
@@ -51,9 +52,7 @@ fn while_a_future_is_polled(rt: HostRuntime) -> Result<(), Fail> {
     let halt = Halt::new(alloc)?;
     let drops = Counter::new(alloc)?;
     let ex: Executor<_, HaltingWaker, _> = Executor::new(rt.clone()?, alloc)?;
-    ex.spawn(Halts::new(Some(7u64), &drops)?.in_poll(&halt)?)
-        .map_err(|_| "refused")?
-        .detach();
+    spawned(&ex, Halts::new(Some(7u64), &drops)?.in_poll(&halt)?)?.detach();
     let other = Halts::new(None, &drops)?;
     let shared = &ex;
     let used = is_used_beside(&rt, shared, &halt, other, move || {
@@ -71,9 +70,7 @@ fn while_a_future_is_dropped(rt: HostRuntime) -> Result<(), Fail> {
         let halt = Halt::new(alloc)?;
         let drops = Counter::new(alloc)?;
         let ex: Executor<_, HaltingWaker, _> = Executor::new(rt.clone()?, alloc)?;
-        let task = ex
-            .spawn(Halts::new(Some(7u64), &drops)?.in_drop(&halt)?)
-            .map_err(|_| "refused")?;
+        let task = spawned(&ex, Halts::new(Some(7u64), &drops)?.in_drop(&halt)?)?;
         if cancels {
             drop(task);
         } else {
@@ -95,9 +92,7 @@ fn while_an_unwanted_output_is_dropped(rt: HostRuntime) -> Result<(), Fail> {
     let alloc = rt.alloc();
     let halt = Halt::new(alloc)?;
     let ex: Executor<_, HaltingWaker, _> = Executor::new(rt.clone()?, alloc)?;
-    ex.spawn(Ready::new(HaltsInDrop::new(&halt)?))
-        .map_err(|_| "refused")?
-        .detach();
+    spawned(&ex, Ready::new(HaltsInDrop::new(&halt)?))?.detach();
     let other = Ready::new(HaltsInDrop::nowhere());
     let shared = &ex;
     let used = is_used_beside(&rt, shared, &halt, other, move || {
@@ -113,9 +108,7 @@ fn while_a_handle_drops_its_output(rt: HostRuntime) -> Result<(), Fail> {
     for detaches in [false, true] {
         let halt = Halt::new(alloc)?;
         let ex: Executor<_, HaltingWaker, _> = Executor::new(rt.clone()?, alloc)?;
-        let task = ex
-            .spawn(Ready::new(HaltsInDrop::new(&halt)?))
-            .map_err(|_| "refused")?;
+        let task = spawned(&ex, Ready::new(HaltsInDrop::new(&halt)?))?;
         assert!(rt; ex.try_tick());
         let other = Ready::new(HaltsInDrop::nowhere());
         let used = is_used_beside(&rt, &ex, &halt, other, move || {
@@ -136,7 +129,7 @@ fn while_an_awaiter_is_woken(rt: HostRuntime) -> Result<(), Fail> {
     let halt = Halt::new(alloc)?;
     let waker = HaltingWaker::in_wake(&halt)?;
     let ex = Executor::new(rt.clone()?, alloc)?;
-    let mut task = ex.spawn(Ready::new(7u64)).map_err(|_| "refused")?;
+    let mut task = spawned(&ex, Ready::new(7u64))?;
     assert_eq!(rt; task.poll(&waker), Poll::Pending);
     let shared = &ex;
     let used = is_used_beside(&rt, shared, &halt, Ready::new(8), move || {
@@ -152,7 +145,7 @@ fn while_the_awaiter_of_a_cancel_is_woken(rt: HostRuntime) -> Result<(), Fail> {
     let halt = Halt::new(alloc)?;
     let waker = HaltingWaker::in_wake(&halt)?;
     let ex = Executor::new(rt.clone()?, alloc)?;
-    let task = ex.spawn(Ready::new(7u64)).map_err(|_| "refused")?;
+    let task = spawned(&ex, Ready::new(7u64))?;
     let mut cancel = task.cancel();
     assert_eq!(rt; cancel.poll(&waker), Poll::Pending);
     let shared = &ex;
@@ -169,7 +162,7 @@ fn while_an_earlier_waker_is_dropped(rt: HostRuntime) -> Result<(), Fail> {
     let halt = Halt::new(alloc)?;
     let waker = HaltingWaker::in_drop(&halt)?;
     let ex = Executor::new(rt.clone()?, alloc)?;
-    let mut task = ex.spawn(Ready::new(7u64)).map_err(|_| "refused")?;
+    let mut task = spawned(&ex, Ready::new(7u64))?;
     assert_eq!(rt; task.poll(&waker), Poll::Pending);
     let used = is_used_beside(&rt, &ex, &halt, Ready::new(8), move || {
         let _ = task.poll(&HaltingWaker::nowhere());
@@ -185,7 +178,7 @@ fn while_a_handle_drops_its_waker(rt: HostRuntime) -> Result<(), Fail> {
         let halt = Halt::new(alloc)?;
         let waker = HaltingWaker::in_drop(&halt)?;
         let ex = Executor::new(rt.clone()?, alloc)?;
-        let mut task = ex.spawn(Ready::new(7u64)).map_err(|_| "refused")?;
+        let mut task = spawned(&ex, Ready::new(7u64))?;
         assert_eq!(rt; task.poll(&waker), Poll::Pending);
         let used = is_used_beside(&rt, &ex, &halt, Ready::new(8), move || {
             if detaches {

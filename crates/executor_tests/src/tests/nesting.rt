@@ -1,5 +1,6 @@
 //! Executors within one another.
 use crate::futures::Ready;
+use crate::tests::spawned;
 use crate::wakers::CountingWaker;
 use async_executor::executor::Executor;
 use executor_core::task::{Future, Poll};
@@ -11,8 +12,8 @@ fn a_handle_is_a_task_of_another_executor(rt: HostRuntime) -> Result<(), Fail> {
     let waker = CountingWaker::new(alloc)?;
     let inner = Executor::new(rt.clone()?, alloc)?;
     let outer = Executor::new(rt.clone()?, alloc)?;
-    let handle = inner.spawn(Ready::new(7u64)).map_err(|_| "refused")?;
-    let mut task = outer.spawn(handle).map_err(|_| "refused")?;
+    let handle = spawned(&inner, Ready::new(7u64))?;
+    let mut task = spawned(&outer, handle)?;
     assert_eq!(rt; task.poll(&waker), Poll::Pending);
     assert!(rt; outer.try_tick());
     assert!(rt; !outer.try_tick());

@@ -1,6 +1,7 @@
 //! What handles give.
 use crate::counters::{Counter, CountsDrop};
 use crate::futures::{Ready, Yields};
+use crate::tests::spawned;
 use crate::wakers::{CountingWaker, RefusingWaker};
 use async_executor::executor::{Cancelled, Executor};
 use executor_core::task::{Future, Poll};
@@ -13,7 +14,7 @@ fn one_task_gives_its_output(rt: HostRuntime) -> Result<(), Fail> {
     let ex = Executor::new(rt.clone()?, alloc)?;
     assert!(rt; ex.is_empty());
     assert!(rt; !ex.try_tick());
-    let mut task = ex.spawn(Ready::new(7u64)).map_err(|_| "refused")?;
+    let mut task = spawned(&ex, Ready::new(7u64))?;
     assert!(rt; !ex.is_empty());
     assert!(rt; ex.try_tick());
     assert!(rt; ex.is_empty());
@@ -27,7 +28,7 @@ fn an_awaiter_is_woken_once(rt: HostRuntime) -> Result<(), Fail> {
     let alloc = rt.alloc();
     let waker = CountingWaker::new(alloc)?;
     let ex = Executor::new(rt.clone()?, alloc)?;
-    let mut task = ex.spawn(Ready::new(7u64)).map_err(|_| "refused")?;
+    let mut task = spawned(&ex, Ready::new(7u64))?;
     assert!(rt; !task.is_finished());
     assert_eq!(rt; task.poll(&waker), Poll::Pending);
     assert!(rt; ex.try_tick());
@@ -46,7 +47,7 @@ fn the_last_waker_is_woken(rt: HostRuntime) -> Result<(), Fail> {
     let first = CountingWaker::new(alloc)?;
     let last = CountingWaker::new(alloc)?;
     let ex = Executor::new(rt.clone()?, alloc)?;
-    let mut task = ex.spawn(Ready::new(7u64)).map_err(|_| "refused")?;
+    let mut task = spawned(&ex, Ready::new(7u64))?;
     assert_eq!(rt; task.poll(&first), Poll::Pending);
     assert_eq!(rt; task.poll(&last), Poll::Pending);
     assert!(rt; ex.try_tick());
@@ -61,8 +62,8 @@ fn two_handles_are_awaited(rt: HostRuntime) -> Result<(), Fail> {
     let one = CountingWaker::new(alloc)?;
     let two = CountingWaker::new(alloc)?;
     let ex = Executor::new(rt.clone()?, alloc)?;
-    let mut first = ex.spawn(Ready::new(1u64)).map_err(|_| "refused")?;
-    let mut second = ex.spawn(Ready::new(2u64)).map_err(|_| "refused")?;
+    let mut first = spawned(&ex, Ready::new(1u64))?;
+    let mut second = spawned(&ex, Ready::new(2u64))?;
     assert_eq!(rt; second.poll(&two), Poll::Pending);
     assert_eq!(rt; first.poll(&one), Poll::Pending);
     assert!(rt; ex.try_tick());
@@ -80,7 +81,7 @@ fn a_borrow_is_given(rt: HostRuntime) -> Result<(), Fail> {
     let waker = CountingWaker::new(alloc)?;
     let hello = String::from_str(alloc, "hello")?;
     let ex = Executor::new(rt.clone()?, alloc)?;
-    let mut task = ex.spawn(Ready::new(hello.as_str())).map_err(|_| "refused")?;
+    let mut task = spawned(&ex, Ready::new(hello.as_str()))?;
     assert!(rt; ex.try_tick());
     drop(ex);
     match task.poll(&waker) {
@@ -95,7 +96,7 @@ fn a_task_that_wakes_itself_is_polled_again(rt: HostRuntime) -> Result<(), Fail>
     let alloc = rt.alloc();
     let waker = CountingWaker::new(alloc)?;
     let ex = Executor::new(rt.clone()?, alloc)?;
-    let mut task = ex.spawn(Yields::new(3)).map_err(|_| "refused")?;
+    let mut task = spawned(&ex, Yields::new(3))?;
     for _ in 0..4u8 {
         assert!(rt; !ex.is_empty());
         assert!(rt; ex.try_tick());
@@ -113,9 +114,7 @@ fn detached_tasks_run_in_order(rt: HostRuntime) -> Result<(), Fail> {
     let second = Counter::new(alloc)?;
     let ex: Executor<Ready<CountsDrop>, CountingWaker, _> = Executor::new(rt.clone()?, alloc)?;
     for drops in [&first, &second] {
-        ex.spawn(Ready::new(CountsDrop::new(drops)?))
-            .map_err(|_| "refused")?
-            .detach();
+        spawned(&ex, Ready::new(CountsDrop::new(drops)?))?.detach();
     }
     assert_eq!(rt; (first.get(), second.get()), (0, 0));
     assert!(rt; ex.try_tick());
@@ -131,7 +130,7 @@ fn a_waker_that_cannot_be_copied_is_woken_at_once(rt: HostRuntime) -> Result<(),
     let alloc = rt.alloc();
     let mut waker = RefusingWaker::new(alloc)?;
     let ex = Executor::new(rt.clone()?, alloc)?;
-    let mut task = ex.spawn(Ready::new(7u64)).map_err(|_| "refused")?;
+    let mut task = spawned(&ex, Ready::new(7u64))?;
     assert_eq!(rt; task.poll(&waker), Poll::Pending);
     assert_eq!(rt; waker.wakes(), 1);
     assert!(rt; ex.try_tick());

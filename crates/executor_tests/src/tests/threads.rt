@@ -2,6 +2,7 @@
 use crate::counters::{Counter, CountsDrop};
 use crate::futures::{Halts, Ready, Yields};
 use crate::meetings::{Halt, TURNS};
+use crate::tests::spawned;
 use crate::wakers::CountingWaker;
 use async_executor::executor::Executor;
 use executor_core::task::{Future, Poll};
@@ -15,7 +16,7 @@ fn one_of_two_threads_runs_the_task(rt: HostRuntime) -> Result<(), Fail> {
     let alloc = rt.alloc();
     let waker = CountingWaker::new(alloc)?;
     let ex = Executor::new(rt.clone()?, alloc)?;
-    let mut task = ex.spawn(Ready::new(7u64)).map_err(|_| "refused")?;
+    let mut task = spawned(&ex, Ready::new(7u64))?;
     let (shared, handle) = (&ex, &task);
     let (one, two) = thread::join(
         &rt,
@@ -32,10 +33,10 @@ fn an_executor_and_a_handle_are_sent(rt: HostRuntime) -> Result<(), Fail> {
     let alloc = rt.alloc();
     let waker = CountingWaker::new(alloc)?;
     let ex = Executor::new(rt.clone()?, alloc)?;
-    let mut task = ex.spawn(Ready::new(7u64)).map_err(|_| "refused")?;
-    let child = thread::spawn(&rt, move || ex.try_tick()).map_err(|_| "no thread")?;
+    let mut task = spawned(&ex, Ready::new(7u64))?;
+    let child = thread::spawn(&rt, move || ex.try_tick())?;
     assert!(rt; child.join(&rt));
-    let child = thread::spawn(&rt, move || task.poll(&waker)).map_err(|_| "no thread")?;
+    let child = thread::spawn(&rt, move || task.poll(&waker))?;
     assert_eq!(rt; child.join(&rt), Poll::Ready(Ok(7)));
     Ok(())
 }
@@ -51,7 +52,7 @@ fn a_task_that_is_cancelled_in_its_poll_gives_nothing(rt: HostRuntime) -> Result
     let future = Halts::new(Some(CountsDrop::new(&outputs)?), &futures)?
         .that_wakes_itself()
         .in_poll(&halt)?;
-    let mut task = ex.spawn(future).map_err(|_| "refused")?;
+    let mut task = spawned(&ex, future)?;
     assert!(rt; matches!(task.poll(&waker), Poll::Pending));
     let (shared, point) = (&ex, &halt);
     let (ticked, (halted, mut cancel)) = thread::join(
@@ -84,7 +85,7 @@ fn a_handle_that_goes_in_a_poll_leaves_the_output(rt: HostRuntime) -> Result<(),
         let future = Halts::new(Some(CountsDrop::new(&outputs)?), &futures)?
             .that_wakes_itself()
             .in_poll(&halt)?;
-        let task = ex.spawn(future).map_err(|_| "refused")?;
+        let task = spawned(&ex, future)?;
         let (shared, point) = (&ex, &halt);
         let (ticked, halted) = thread::join(
             &rt,
@@ -118,7 +119,7 @@ fn a_pending_task_that_was_cancelled_is_dropped_at_once(rt: HostRuntime) -> Resu
     let future = Halts::<u64>::new(None, &futures)?
         .that_wakes_itself()
         .in_poll(&halt)?;
-    let task = ex.spawn(future).map_err(|_| "refused")?;
+    let task = spawned(&ex, future)?;
     let (shared, point) = (&ex, &halt);
     let (ticked, (halted, mut cancel)) = thread::join(
         &rt,

@@ -1,6 +1,7 @@
 //! What a task's waker does, and what it no longer does.
 use crate::counters::Counter;
 use crate::futures::LeavesWaker;
+use crate::tests::spawned;
 use crate::wakers::CountingWaker;
 use async_executor::executor::Executor;
 use executor_core::task::{Future, Poll, Wake};
@@ -15,9 +16,7 @@ fn an_idle_task_is_scheduled_once(rt: HostRuntime) -> Result<(), Fail> {
     let polls = Counter::new(alloc)?;
     let drops = Counter::new(alloc)?;
     let ex: Executor<_, CountingWaker, _> = Executor::new(rt.clone()?, alloc)?;
-    ex.spawn(LeavesWaker::new(5, &place, &polls, &drops)?)
-        .map_err(|_| "refused")?
-        .detach();
+    spawned(&ex, LeavesWaker::new(5, &place, &polls, &drops)?)?.detach();
     assert!(rt; ex.try_tick());
     assert!(rt; !ex.try_tick());
     let waker = place.lock(&rt).take().ok_or("no waker")?;
@@ -39,13 +38,11 @@ fn a_waker_of_another_thread_wakes(rt: HostRuntime) -> Result<(), Fail> {
     let polls = Counter::new(alloc)?;
     let drops = Counter::new(alloc)?;
     let ex = Executor::new(rt.clone()?, alloc)?;
-    let mut task = ex
-        .spawn(LeavesWaker::new(1, &place, &polls, &drops)?)
-        .map_err(|_| "refused")?;
+    let mut task = spawned(&ex, LeavesWaker::new(1, &place, &polls, &drops)?)?;
     assert!(rt; ex.try_tick());
     assert_eq!(rt; task.poll(&own), Poll::Pending);
     let waker = place.lock(&rt).take().ok_or("no waker")?;
-    let child = thread::spawn(&rt, move || waker.wake()).map_err(|_| "no thread")?;
+    let child = thread::spawn(&rt, move || waker.wake())?;
     child.join(&rt);
     assert!(rt; ex.try_tick());
     assert_eq!(rt; own.wakes(), 1);
@@ -62,9 +59,7 @@ fn a_waker_outlives_its_task(rt: HostRuntime) -> Result<(), Fail> {
     let polls = Counter::new(alloc)?;
     let drops = Counter::new(alloc)?;
     let ex = Executor::new(rt.clone()?, alloc)?;
-    let mut task = ex
-        .spawn(LeavesWaker::new(1, &place, &polls, &drops)?)
-        .map_err(|_| "refused")?;
+    let mut task = spawned(&ex, LeavesWaker::new(1, &place, &polls, &drops)?)?;
     assert!(rt; ex.try_tick());
     let waker = place.lock(&rt).take().ok_or("no waker")?;
     waker.wake();
@@ -75,9 +70,7 @@ fn a_waker_outlives_its_task(rt: HostRuntime) -> Result<(), Fail> {
     waker.wake();
     assert!(rt; !ex.try_tick());
     // A later task may have the slot of the earlier one, whose waker does not wake it.
-    let later = ex
-        .spawn(LeavesWaker::new(1, &place, &polls, &drops)?)
-        .map_err(|_| "refused")?;
+    let later = spawned(&ex, LeavesWaker::new(1, &place, &polls, &drops)?)?;
     assert!(rt; ex.try_tick());
     waker.wake();
     assert!(rt; !ex.try_tick());
@@ -95,14 +88,12 @@ fn a_waker_outlives_the_executor(rt: HostRuntime) -> Result<(), Fail> {
     let polls = Counter::new(alloc)?;
     let drops = Counter::new(alloc)?;
     let ex: Executor<_, CountingWaker, _> = Executor::new(rt.clone()?, alloc)?;
-    ex.spawn(LeavesWaker::new(1, &place, &polls, &drops)?)
-        .map_err(|_| "refused")?
-        .detach();
+    spawned(&ex, LeavesWaker::new(1, &place, &polls, &drops)?)?.detach();
     assert!(rt; ex.try_tick());
     drop(ex);
     assert_eq!(rt; (polls.get(), drops.get()), (1, 1));
     let waker = place.lock(&rt).take().ok_or("no waker")?;
-    let child = thread::spawn(&rt, move || waker.wake()).map_err(|_| "no thread")?;
+    let child = thread::spawn(&rt, move || waker.wake())?;
     child.join(&rt);
     assert_eq!(rt; (polls.get(), drops.get()), (1, 1));
     Ok(())
