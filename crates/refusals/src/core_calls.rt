@@ -1,0 +1,87 @@
+//! The calls of the core that take memory.
+use crate::outcome::{Outcome, count};
+use executor_core::interleave::{Reply, Step, World};
+use executor_core::plain_core::FlagValue;
+use executor_core::sleepers::Sleepers;
+use executor_core::task::{Cells, Notice, SpawnError};
+use std::alloc::Global;
+
+// Nobody sleeps, so nobody is to be notified.
+fn spend(notice: Notice) {
+    match FlagValue::new().exchange(notice) {
+        None => {}
+        Some(_) => unreachable!(),
+    }
+}
+
+/// Spawns a task in a table, and again where that is refused: with the same number.
+pub fn spawn_task(alloc: Global, outcome: &mut Outcome) {
+    let Ok(mut cells) = Cells::<u8, (), ()>::new(alloc) else {
+        return outcome.expect(false);
+    };
+    let future = match cells.spawn(7) {
+        Ok((_, notice)) => return spend(notice),
+        Err(refusal) => {
+            outcome.expect(matches!(&refusal, SpawnError::OutOfMemory(_)));
+            refusal.into_inner()
+        }
+    };
+    count(&mut outcome.cells_spawn);
+    outcome.expect(future == 7 && cells.is_empty() && cells.global_len() == 0);
+    match cells.spawn(future) {
+        Ok((id, notice)) => {
+            spend(notice);
+            outcome.expect(id.number() == 0 && cells.global_len() == 1);
+        }
+        Err(_) => outcome.expect(false),
+    }
+}
+
+/// Reserves a sleeper's place, and again where that is refused.
+pub fn reserve_place(alloc: Global, outcome: &mut Outcome) {
+    let mut sleepers = Sleepers::<()>::new(alloc);
+    if sleepers.reserve().is_err() {
+        count(&mut outcome.sleepers_reserve);
+        outcome.expect(sleepers.reserve().is_ok());
+    }
+}
+
+// A world that takes one step, made again where that is refused.
+fn one_step_world(alloc: Global, outcome: &mut Outcome) -> Option<World<(), u64>> {
+    if let Ok(world) = World::new(alloc, 1) {
+        return Some(world);
+    }
+    count(&mut outcome.world_new);
+    World::new(alloc, 1).ok()
+}
+
+// The list of the one step, made again where that is refused.
+fn one_step(alloc: Global, outcome: &mut Outcome) -> Option<Vec<Step<(), u64>>> {
+    for _ in 0..2u8 {
+        let mut steps = Vec::new(alloc);
+        if steps.push(Step::TryTick).is_ok() {
+            return Some(steps);
+        }
+        count(&mut outcome.steps);
+    }
+    None
+}
+
+/// Runs a world's one step, and again where that is refused: the refused run took no step.
+pub fn run_world(alloc: Global, outcome: &mut Outcome) {
+    let Some(mut world) = one_step_world(alloc, outcome) else {
+        return outcome.expect(false);
+    };
+    for _ in 0..2u8 {
+        let Some(steps) = one_step(alloc, outcome) else {
+            return outcome.expect(false);
+        };
+        match world.run(steps) {
+            Ok(replies) => {
+                return outcome.expect(matches!(replies.first(), Some(Reply::NoTask)));
+            }
+            Err(_) => count(&mut outcome.world_run),
+        }
+    }
+    outcome.expect(false);
+}

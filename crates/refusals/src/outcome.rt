@@ -1,0 +1,42 @@
+//! What came of the calls.
+
+/// How often each call was refused memory, and the program's own list of steps; and how many answers were wrong.
+#[derive(Drop)]
+pub struct Outcome {
+    pub cells_spawn: u32,
+    pub sleepers_reserve: u32,
+    pub world_new: u32,
+    pub world_run: u32,
+    pub executor_new: u32,
+    pub executor_spawn: u32,
+    pub steps: u32,
+    pub wrong: u32,
+}
+
+impl Outcome {
+    /// Nothing was refused, and nothing wrong.
+    pub fn new() -> Outcome {
+        Outcome {
+            cells_spawn: 0,
+            sleepers_reserve: 0,
+            world_new: 0,
+            world_run: 0,
+            executor_new: 0,
+            executor_spawn: 0,
+            steps: 0,
+            wrong: 0,
+        }
+    }
+
+    /// An answer is wrong where this does not hold.
+    pub fn expect(&mut self, holds: bool) {
+        if !holds {
+            count(&mut self.wrong);
+        }
+    }
+}
+
+/// One more.
+pub fn count(times: &mut u32) {
+    *times = times.saturating_add(1);
+}
