@@ -1,6 +1,6 @@
 use Rattle.std.specs.Prelude.{Bool, true, false, Option, Result, IsErr, IsNone}
-use Rattle.executor_core.specs.declared.task.traits.Poll.{Poll}
-use Rattle.executor_core.specs.declared.task.traits.Poll.TheVariants.{Ready, Pending}
+use Rattle.executor_core.specs.declared.task.future.Poll.{Poll}
+use Rattle.executor_core.specs.declared.task.future.Poll.TheVariants.{Ready, Pending}
 
 -- whether a poll gave an answer
 abbrev pub is_ready : {T : Type 0} → Poll T → Bool

@@ -1,7 +1,7 @@
 //! The executor whose tasks any thread may run.
 ghost use Rattle.std.specs.Prelude.{◌≡◌, false, IfOk, IfErr};
 ghost use Rattle.async_executor.specs.Task.{task_answered};
-ghost use Rattle.executor_core.specs.Refusals.{refused_future};
+ghost use Rattle.executor_core.specs.SpawnError.{refused_future};
 
 use crate::scheduler;
 use crate::storage::{SharedStorage, Storage};

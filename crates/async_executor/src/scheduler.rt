@@ -4,7 +4,7 @@
 //! polled or dropped with no lock held; what is left of it goes back into the store and the task is ended in the
 //! table, in one change of the store; what the table did not keep was taken out again, and is dropped after that.
 ghost use Rattle.std.specs.Prelude.{◌≡◌, true, false, IfOk, IfErr};
-ghost use Rattle.executor_core.specs.Refusals.{refused_future};
+ghost use Rattle.executor_core.specs.SpawnError.{refused_future};
 ghost use Rattle.async_executor.specs.Ends.{EndsToDrop};
 
 use crate::handle::Handle;

@@ -3,20 +3,21 @@ use Rattle.std.proofs.Common.{◌≡◌, ◌≢◌, ℕ, ◌+◌, ◌<◌, ◌�
 use Rattle.std.proofs.lemmas.Bool.{cases_eq, eq-eqb}
 use Rattle.std.specs.Prelude.{slice_get, slice_set}
 use Rattle.std.specs.FinMap as map
-use Rattle.executor_core.specs.Table.{Slotted, Table}
-use Rattle.executor_core.specs.States.{is_idle, is_scheduled, is_held, is_undropped, scheduled_in, LockLaw}
-use Rattle.executor_core.specs.Calls.{cell_at, in_slot, AllDropped}
-use Rattle.executor_core.specs.Log.{spawned, dropped, held, polls, wakes, EachDropped}
-use Rattle.executor_core.specs.Promises.{OnePlace, InOrder, FewPolls}
-use Rattle.executor_core.specs.Agreement.{Status, status, FewPollsFor, StateAgrees, CellAgrees, NumberAgrees, is_out, PolledAgrees, Agree}
+use Rattle.executor_core.specs.Cells.{Slotted, Table}
+use Rattle.executor_core.specs.Cell.{is_idle, is_scheduled, is_held, is_undropped}
+use Rattle.executor_core.specs.Cells.Law.{scheduled_in, LockLaw}
+use Rattle.executor_core.specs.Cells.Calls.{cell_at, in_slot, AllDropped}
+use Rattle.executor_core.specs.World.Log.{spawned, dropped, held, polls, wakes, EachDropped}
+use Rattle.executor_core.specs.World.Promises.{OnePlace, InOrder, FewPolls}
+use Rattle.executor_core.specs.World.Agreement.{Status, status, FewPollsFor, StateAgrees, CellAgrees, NumberAgrees, is_out, PolledAgrees, Agree}
 use Rattle.executor_core.proofs.StatusLemmas.{task_of}
 use Rattle.executor_core.proofs.LogLemmas.{status_other}
 use Rattle.executor_core.proofs.ListLemmas.{within_get, get-set_same, get-set_other, length-slice_set}
 use Rattle.executor_core.proofs.SlotLemmas.{insert_same, insert_other, remove_same, remove_other}
 use Rattle.executor_core.specs.declared.task.cell.Cell.{Cell}
-use Rattle.executor_core.specs.declared.task.cell.State.{State}
-use Rattle.executor_core.specs.declared.task.cell.State.TheVariants.{Idle, Scheduled, Held, Finished, Gone}
-use Rattle.executor_core.specs.declared.task.values.TaskId.{TaskId}
+use Rattle.executor_core.specs.declared.task.cell.CellState.{CellState}
+use Rattle.executor_core.specs.declared.task.cell.CellState.TheVariants.{Idle, Scheduled, Held, Finished, Gone}
+use Rattle.executor_core.specs.declared.task.id.TaskId.{TaskId}
 use Rattle.executor_core.specs.declared.interleave.tasks.TaskInfo.{TaskInfo}
 use Rattle.executor_core.specs.declared.interleave.tasks.FutureOut.{FutureOut}
 use Rattle.executor_core.specs.declared.interleave.events.Event.{Event}
@@ -159,28 +160,28 @@ module _ {P T : Type 0} where
   pub cell_agreed : {table : Table P T (Unit {0})} {log : List (Event T)} {tasks : List TaskInfo} {out : List (Option (FutureOut P))} → Agree table log tasks out → (n : ℕ) (i : TaskInfo) → slice_get tasks n ≡ Some i → (o : Option (Slotted P T (Unit {0}))) → map.get table.cells n ≡ o → cell_at table (id_of n i) ≡ cell_of o
   cell_agreed agree n i found o here = ap (in_slot i.slot) here ∙ in_slot_of _ i o (agreed_at agree n i found o here)
 
-  pub owed_state : (st : State P T) (w : Bool) (s : Status T) → StateAgrees st w s → owed_of s ≡ is_scheduled st
+  pub owed_state : (st : CellState P T) (w : Bool) (s : Status T) → StateAgrees st w s → owed_of s ≡ is_scheduled st
   owed_state (Idle p) w s h = rw (h.0.spawned, h.0.dropped, h.0.held, h.1, h.2, h.4) refl
   owed_state (Scheduled p) w s h = rw (h.0.spawned, h.0.dropped, h.0.held, h.1) refl
   owed_state Held w s h = rw (h.0.spawned, h.0.dropped, h.0.held) refl
   owed_state (Finished t) w s h = rw (h.spawned, h.dropped) refl
   owed_state Gone w s h = rw (h.spawned, h.dropped) refl
 
-  pub idle_state : (st : State P T) (w : Bool) (s : Status T) → StateAgrees st w s → idle_of s ≡ is_idle st
+  pub idle_state : (st : CellState P T) (w : Bool) (s : Status T) → StateAgrees st w s → idle_of s ≡ is_idle st
   idle_state (Idle p) w s h = rw (h.0.spawned, h.0.dropped, h.0.held, h.1, h.2, h.4) refl
   idle_state (Scheduled p) w s h = rw (h.0.spawned, h.0.dropped, h.0.held, h.1) refl
   idle_state Held w s h = rw (h.0.spawned, h.0.dropped, h.0.held) refl
   idle_state (Finished t) w s h = rw (h.spawned, h.dropped) refl
   idle_state Gone w s h = rw (h.spawned, h.dropped) refl
 
-  pub dropped_state : (st : State P T) (w : Bool) (s : Status T) → StateAgrees st w s → s.dropped ≡ not (is_undropped st)
+  pub dropped_state : (st : CellState P T) (w : Bool) (s : Status T) → StateAgrees st w s → s.dropped ≡ not (is_undropped st)
   dropped_state (Idle p) w s h = h.0.dropped
   dropped_state (Scheduled p) w s h = h.0.dropped
   dropped_state Held w s h = h.0.dropped
   dropped_state (Finished t) w s h = h.dropped
   dropped_state Gone w s h = h.dropped
 
-  pub held_state : (st : State P T) (w : Bool) (s : Status T) → StateAgrees st w s → s.held ≡ is_held st
+  pub held_state : (st : CellState P T) (w : Bool) (s : Status T) → StateAgrees st w s → s.held ≡ is_held st
   held_state (Idle p) w s h = h.0.held
   held_state (Scheduled p) w s h = h.0.held
   held_state Held w s h = h.0.held
@@ -193,7 +194,7 @@ module _ {P T : Type 0} where
   owed_match (Some slotted) s (Some i) h = owed_state slotted.cell.state slotted.cell.woken s h.state
   owed_match (Some slotted) s None h = absurd h
 
-  pub one_place : {table : Table P T (Unit {0})} {log : List (Event T)} {tasks : List TaskInfo} {out : List (Option (FutureOut P))} → Agree table log tasks out → LockLaw table.cells table.global → OnePlace log table.global
+  pub one_place : {table : Table P T (Unit {0})} {log : List (Event T)} {tasks : List TaskInfo} {out : List (Option (FutureOut P))} → Agree table log tasks out → LockLaw table → OnePlace log table.global
   one_place {table} {log} {tasks} agree law n = law n ∙ ap (λ b. cond b 1 0) (sym (owed_match (map.get table.cells n) (status n log) (slice_get tasks n) (agree.each n)))
 
   pub few_polls : {table : Table P T (Unit {0})} {log : List (Event T)} {tasks : List TaskInfo} {out : List (Option (FutureOut P))} → Agree table log tasks out → FewPolls log
@@ -209,7 +210,7 @@ module _ {P T : Type 0} where
   spawned_match (Some slotted) s None h = absurd h
   spawned_match (Some slotted) s (Some i) h = by_state slotted.cell.state slotted.cell.woken h.state
     where
-      by_state : (st : State P T) (w : Bool) → StateAgrees st w s → s.spawned ≡ true
+      by_state : (st : CellState P T) (w : Bool) → StateAgrees st w s → s.spawned ≡ true
       by_state (Idle p) w h = h.0.spawned
       by_state (Scheduled p) w h = h.0.spawned
       by_state Held w h = h.0.spawned
@@ -227,7 +228,7 @@ module _ {P T : Type 0} where
       by_info None found = absurd (cc (is, spawned_is agree n, ap is_some found))
 
   -- what the log says of a cell in this state
-  pub state_agrees : (slotted : Slotted P T (Unit {0})) (s : Status T) (i : TaskInfo) (st : State P T) → slotted.cell.state ≡ st → CellAgrees slotted s i → StateAgrees st slotted.cell.woken s
+  pub state_agrees : (slotted : Slotted P T (Unit {0})) (s : Status T) (i : TaskInfo) (st : CellState P T) → slotted.cell.state ≡ st → CellAgrees slotted s i → StateAgrees st slotted.cell.woken s
   state_agrees slotted s i st is h = subst (λ x. StateAgrees x slotted.cell.woken s) is h.state
 
   -- every future was dropped by the cells exactly where it was by the log

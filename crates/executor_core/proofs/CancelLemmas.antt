@@ -1,16 +1,16 @@
 -- What a cancel, and the end of a task that was cancelled, keep and give.
 use Rattle.std.proofs.Common.{◌≡◌, ℕ, ◌-◌, ◌&&◌, Bool, true, false, List, [], ◌∷◌, ◌++◌, set, get_or, Option, Some, None, cond, refl, sym, ap, ◌∙◌}
-use Rattle.executor_core.specs.Table.{Table}
-use Rattle.executor_core.specs.States.{is_idle, is_held}
-use Rattle.executor_core.specs.TableView.{numbers_of, table_of, IsSound, Settled}
-use Rattle.executor_core.specs.Calls.{with_cell, without_cell, queued_if, passes, handle_in, held_in, cancel_at, after_cancel, cancel_queues, end_dropped_at, dropped_answer}
-use Rattle.executor_core.specs.CellChanges.{cancelled_cell, disposed, wakeup_of}
+use Rattle.executor_core.specs.Cells.{Table}
+use Rattle.executor_core.specs.Cell.{is_idle, is_held}
+use Rattle.executor_core.specs.Cells.View.{numbers_of, table_of, IsSound, Settled}
+use Rattle.executor_core.specs.Cells.Calls.{with_cell, without_cell, queued_if, passes, handle_in, held_in, cancel_at, after_cancel, cancel_queues, end_dropped_at, dropped_answer}
+use Rattle.executor_core.specs.Cell.Changes.{cancelled_cell, disposed, wakeup_of}
 use Rattle.executor_core.proofs.TableLemmas.{table_set, cell_at_some}
 use Rattle.executor_core.proofs.WakeLemmas.{quiet_write, loud_write, woken_undropped}
 use Rattle.executor_core.proofs.EndReadyLemmas.{ended_sound}
 use Rattle.executor_core.specs.declared.task.cell.Cell.{Cell}
 use Rattle.executor_core.specs.declared.task.cell.Numbered.{Numbered}
-use Rattle.executor_core.specs.declared.task.values.TaskId.{TaskId}
+use Rattle.executor_core.specs.declared.task.id.TaskId.{TaskId}
 
 module _ {P T W : Type 0} where
   settled_cancelled : (c : Cell P T W) → Settled c → Settled (cancelled_cell c)

@@ -1,28 +1,28 @@
 -- What the end of a handle keeps and gives.
 use Rattle.std.proofs.Common.{◌≡◌, ℕ, Bool, true, false, List, set, get_or, Option, Some, None, cond, refl, ap, ◌∙◌}
 use Rattle.std.proofs.lemmas.Bool.{eq-eqb}
-use Rattle.executor_core.specs.Table.{Table}
-use Rattle.executor_core.specs.States.{is_idle, is_undropped}
-use Rattle.executor_core.specs.TableView.{IsSound}
-use Rattle.executor_core.specs.Calls.{cell_at, in_slot, with_cell, without_cell, queued_if, handle_in, cancel_at, after_cancel, detach_at, detach_answer}
-use Rattle.executor_core.specs.CellChanges.{cancelled_cell, detached, state_woken, output_of}
+use Rattle.executor_core.specs.Cells.{Table}
+use Rattle.executor_core.specs.Cell.{is_idle, is_undropped}
+use Rattle.executor_core.specs.Cells.View.{IsSound}
+use Rattle.executor_core.specs.Cells.Calls.{cell_at, in_slot, with_cell, without_cell, queued_if, handle_in, cancel_at, after_cancel, detach_at, detach_answer}
+use Rattle.executor_core.specs.Cell.Changes.{cancelled_cell, detached, state_woken, output_of}
 use Rattle.executor_core.proofs.SlotLemmas.{insert_same}
 use Rattle.executor_core.proofs.WriteLemmas.{kept_sound}
 use Rattle.executor_core.specs.declared.task.cell.Cell.{Cell}
 use Rattle.executor_core.specs.declared.task.cell.Numbered.{Numbered}
-use Rattle.executor_core.specs.declared.task.values.TaskId.{TaskId}
-use Rattle.executor_core.specs.declared.task.cell.State.{State}
-use Rattle.executor_core.specs.declared.task.cell.State.TheVariants.{Idle, Scheduled, Held, Finished, Gone}
+use Rattle.executor_core.specs.declared.task.id.TaskId.{TaskId}
+use Rattle.executor_core.specs.declared.task.cell.CellState.{CellState}
+use Rattle.executor_core.specs.declared.task.cell.CellState.TheVariants.{Idle, Scheduled, Held, Finished, Gone}
 
 module _ {P T : Type 0} where
-  pub output_of_undropped : (s : State P T) → is_undropped s ≡ true → output_of s ≡ None
+  pub output_of_undropped : (s : CellState P T) → is_undropped s ≡ true → output_of s ≡ None
   output_of_undropped (Idle p) h = refl
   output_of_undropped (Scheduled p) h = refl
   output_of_undropped Held h = refl
   output_of_undropped (Finished t) h = absurd (cc)
   output_of_undropped Gone h = refl
 
-  output_of-state_woken : (s : State P T) → output_of (state_woken s) ≡ output_of s
+  output_of-state_woken : (s : CellState P T) → output_of (state_woken s) ≡ output_of s
   output_of-state_woken (Idle p) = refl
   output_of-state_woken (Scheduled p) = refl
   output_of-state_woken Held = refl

@@ -2,16 +2,16 @@
 use Rattle.std.proofs.Common.{◌≡◌, ℕ, true, false, List, [], ◌∷◌, ◌++◌, Option, Some, None, is_some, cond, refl, sym, ap, ◌∙◌, inl, inr}
 use Rattle.std.proofs.lemmas.Bool.{cases_Bool}
 use Rattle.std.specs.Prelude.{slice_get, slice_set}
-use Rattle.executor_core.specs.Table.{Table}
-use Rattle.executor_core.specs.States.{is_held}
-use Rattle.executor_core.specs.Calls.{cell_at, with_cell, without_cell, after_end_dropped, end_dropped_at, dropped_answer}
-use Rattle.executor_core.specs.CellChanges.{disposed, wakeup_of}
-use Rattle.executor_core.specs.Log.{held}
-use Rattle.executor_core.specs.Agreement.{status, Agree}
+use Rattle.executor_core.specs.Cells.{Table}
+use Rattle.executor_core.specs.Cell.{is_held}
+use Rattle.executor_core.specs.Cells.Calls.{cell_at, with_cell, without_cell, after_end_dropped, end_dropped_at, dropped_answer}
+use Rattle.executor_core.specs.Cell.Changes.{disposed, wakeup_of}
+use Rattle.executor_core.specs.World.Log.{held}
+use Rattle.executor_core.specs.World.Agreement.{status, Agree}
 use Rattle.executor_core.proofs.LogLemmas.{on_drop, order-push}
 use Rattle.executor_core.proofs.AgreementLemmas.{log_pushed, info_set, out_set, polled_set, cell_put, cell_removed, agree_again, agreed_at, id_of, cell_agreed, state_agrees}
 use Rattle.executor_core.proofs.StepLemmas.{if-true, if-false, out_change, wakeup_some, held_cell, place_there}
-use Rattle.executor_core.specs.declared.task.cell.State.TheVariants.{Held}
+use Rattle.executor_core.specs.declared.task.cell.CellState.TheVariants.{Held}
 use Rattle.executor_core.specs.declared.interleave.tasks.TaskInfo.{TaskInfo}
 use Rattle.executor_core.specs.declared.interleave.tasks.FutureOut.{FutureOut}
 use Rattle.executor_core.specs.declared.interleave.events.Event.{Event}

@@ -1,21 +1,21 @@
 -- What the end of a poll that was pending keeps and gives.
 use Rattle.std.proofs.Common.{◌≡◌, ℕ, ◌==◌, ◌||◌, ◌&&◌, Bool, true, false, not, List, [], ◌∷◌, ◌++◌, set, get_or, Option, Some, None, cond, refl, sym, ap, ◌∙◌}
 use Rattle.std.proofs.lemmas.Bool.{eqb-true}
-use Rattle.executor_core.specs.Table.{Table}
-use Rattle.executor_core.specs.States.{is_idle, is_held, is_scheduled, is_undropped}
-use Rattle.executor_core.specs.TableView.{numbers_of, table_of, IsSound, cell_in, takes_back_entry}
-use Rattle.executor_core.specs.Calls.{cell_at, with_cell, takes_back_in, end_pending_at, after_end_pending, queued_if, woken_in}
-use Rattle.executor_core.specs.CellChanges.{takes_back, pended}
+use Rattle.executor_core.specs.Cells.{Table}
+use Rattle.executor_core.specs.Cell.{is_idle, is_held, is_scheduled, is_undropped}
+use Rattle.executor_core.specs.Cells.View.{numbers_of, table_of, IsSound, cell_in, takes_back_entry}
+use Rattle.executor_core.specs.Cells.Calls.{cell_at, with_cell, takes_back_in, end_pending_at, after_end_pending, queued_if, woken_in}
+use Rattle.executor_core.specs.Cell.Changes.{takes_back, pended}
 use Rattle.executor_core.proofs.TableLemmas.{table_set, cell_at_some}
 use Rattle.executor_core.proofs.WriteLemmas.{kept_sound, queued_sound, cell_at_is}
 use Rattle.executor_core.specs.declared.task.cell.Cell.{Cell}
 use Rattle.executor_core.specs.declared.task.cell.Numbered.{Numbered}
-use Rattle.executor_core.specs.declared.task.values.TaskId.{TaskId}
-use Rattle.executor_core.specs.declared.task.cell.State.{State}
-use Rattle.executor_core.specs.declared.task.cell.State.TheVariants.{Idle, Scheduled, Held, Finished, Gone}
+use Rattle.executor_core.specs.declared.task.id.TaskId.{TaskId}
+use Rattle.executor_core.specs.declared.task.cell.CellState.{CellState}
+use Rattle.executor_core.specs.declared.task.cell.CellState.TheVariants.{Idle, Scheduled, Held, Finished, Gone}
 
 module _ {P T : Type 0} where
-  held_facts : (s : State P T) → is_held s ≡ true → (is_scheduled s ≡ false) × ((is_idle s || is_held s) ≡ true)
+  held_facts : (s : CellState P T) → is_held s ≡ true → (is_scheduled s ≡ false) × ((is_idle s || is_held s) ≡ true)
   held_facts (Idle p) h = absurd (cc)
   held_facts (Scheduled p) h = absurd (cc)
   held_facts Held h = (refl, refl)

@@ -1,17 +1,17 @@
 -- What the end of a ready task and a poll of a handle keep and give.
 use Rattle.std.proofs.Common.{◌≡◌, ℕ, ◌+◌, ◌||◌, ◌&&◌, Bool, true, false, not, List, length, set, get_or, Option, Some, None, cond, refl, sym, ap, ◌∙◌, arith}
-use Rattle.executor_core.specs.Table.{Table}
-use Rattle.executor_core.specs.States.{is_idle, is_held, is_scheduled, is_undropped}
-use Rattle.executor_core.specs.TableView.{numbers_of, table_of, IsSound, Settled}
-use Rattle.executor_core.specs.Calls.{cell_at, with_cell, without_cell, end_ready_at, ready_answer, held_in, handle_in, poll_handle_at, poll_answer, ended_answer}
-use Rattle.executor_core.specs.CellChanges.{readied, awaited, output_of, wakeup_of}
+use Rattle.executor_core.specs.Cells.{Table}
+use Rattle.executor_core.specs.Cell.{is_idle, is_held, is_scheduled, is_undropped}
+use Rattle.executor_core.specs.Cells.View.{numbers_of, table_of, IsSound, Settled}
+use Rattle.executor_core.specs.Cells.Calls.{cell_at, with_cell, without_cell, end_ready_at, ready_answer, held_in, handle_in, poll_handle_at, poll_answer, ended_answer}
+use Rattle.executor_core.specs.Cell.Changes.{readied, awaited, output_of, wakeup_of}
 use Rattle.executor_core.proofs.TableLemmas.{table_set, cell_at_some}
 use Rattle.executor_core.proofs.WriteLemmas.{kept_sound}
 use Rattle.executor_core.specs.declared.task.cell.Cell.{Cell}
 use Rattle.executor_core.specs.declared.task.cell.Numbered.{Numbered}
-use Rattle.executor_core.specs.declared.task.values.TaskId.{TaskId}
-use Rattle.executor_core.specs.declared.task.cell.State.{State}
-use Rattle.executor_core.specs.declared.task.cell.State.TheVariants.{Idle, Scheduled, Held, Finished, Gone}
+use Rattle.executor_core.specs.declared.task.id.TaskId.{TaskId}
+use Rattle.executor_core.specs.declared.task.cell.CellState.{CellState}
+use Rattle.executor_core.specs.declared.task.cell.CellState.TheVariants.{Idle, Scheduled, Held, Finished, Gone}
 use Rattle.std.proofs.Common.{◌-◌, add-zero}
 use Rattle.executor_core.specs.declared.task.table.EndReady.{EndReady}
 use Rattle.executor_core.specs.declared.task.values.Wakeup.{Wakeup}
@@ -22,21 +22,21 @@ use Rattle.executor_core.proofs.WriteLemmas.{law_at}
 use Rattle.executor_core.proofs.RemoveLemmas.{remove_sound, counted_one}
 
 module _ {P T : Type 0} where
-  pub held_state : (s : State P T) → is_held s ≡ true → (is_scheduled s ≡ false) × ((is_idle s || is_held s) ≡ true)
+  pub held_state : (s : CellState P T) → is_held s ≡ true → (is_scheduled s ≡ false) × ((is_idle s || is_held s) ≡ true)
   held_state (Idle p) h = absurd (cc)
   held_state (Scheduled p) h = absurd (cc)
   held_state Held h = (refl, refl)
   held_state (Finished t) h = absurd (cc)
   held_state Gone h = absurd (cc)
 
-  pub ended_state : (s : State P T) → is_undropped s ≡ false → (is_scheduled s ≡ false) × ((is_idle s || is_held s) ≡ false)
+  pub ended_state : (s : CellState P T) → is_undropped s ≡ false → (is_scheduled s ≡ false) × ((is_idle s || is_held s) ≡ false)
   ended_state (Idle p) h = absurd (cc)
   ended_state (Scheduled p) h = absurd (cc)
   ended_state Held h = absurd (cc)
   ended_state (Finished t) h = (refl, refl)
   ended_state Gone h = (refl, refl)
 
-  readied_state : (b : Bool) (s : State P T) (t : T) → s ≡ cond b Gone (Finished t) → (is_scheduled s ≡ false) × ((is_idle s || is_held s) ≡ false)
+  readied_state : (b : Bool) (s : CellState P T) (t : T) → s ≡ cond b Gone (Finished t) → (is_scheduled s ≡ false) × ((is_idle s || is_held s) ≡ false)
   readied_state true s t e = rw e (refl, refl)
   readied_state false s t e = rw e (refl, refl)
 

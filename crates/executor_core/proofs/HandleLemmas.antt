@@ -2,17 +2,17 @@
 use Rattle.std.proofs.Common.{◌≡◌, ℕ, ◌||◌, ◌&&◌, not, Bool, true, false, List, [], ◌∷◌, ◌++◌, Option, Some, None, cond, refl, sym, ap, ◌∙◌, inl, inr}
 use Rattle.std.proofs.lemmas.Bool.{cases_Bool}
 use Rattle.std.specs.Prelude.{slice_get, slice_set}
-use Rattle.executor_core.specs.Table.{Slotted, Table}
-use Rattle.executor_core.specs.States.{is_idle, is_undropped}
-use Rattle.executor_core.specs.Calls.{cell_at, queued_if, with_cell, without_cell, passes, after_cancel, cancel_at, cancel_queues, after_detach, detach_at, detach_answer, finished_in, poll_answer}
-use Rattle.executor_core.specs.CellChanges.{state_woken, cancelled_cell, detached, output_of, is_finished_state}
-use Rattle.executor_core.specs.Log.{dropped, idle, outputs}
-use Rattle.executor_core.specs.Agreement.{Status, status, StateAgrees, Agree, AnswerAgrees, HandleAgrees}
+use Rattle.executor_core.specs.Cells.{Slotted, Table}
+use Rattle.executor_core.specs.Cell.{is_idle, is_undropped}
+use Rattle.executor_core.specs.Cells.Calls.{cell_at, queued_if, with_cell, without_cell, passes, after_cancel, cancel_at, cancel_queues, after_detach, detach_at, detach_answer, finished_in, poll_answer}
+use Rattle.executor_core.specs.Cell.Changes.{state_woken, cancelled_cell, detached, output_of, is_finished_state}
+use Rattle.executor_core.specs.World.Log.{dropped, idle, outputs}
+use Rattle.executor_core.specs.World.Agreement.{Status, status, StateAgrees, Agree, AnswerAgrees, HandleAgrees}
 use Rattle.executor_core.proofs.LogLemmas.{on_cancel, order-push}
 use Rattle.executor_core.proofs.AgreementLemmas.{log_same, log_pushed, info_same, info_set, out_same, cell_put, cell_removed, agree_again, agreed_at, id_of, cell_agreed, idle_state, dropped_state, not-not}
 use Rattle.executor_core.proofs.StepLemmas.{if-true, if-false, ended_past, handle_cell, AnswerTells, answer_tells}
-use Rattle.executor_core.specs.declared.task.cell.State.{State}
-use Rattle.executor_core.specs.declared.task.cell.State.TheVariants.{Idle, Scheduled, Held, Finished, Gone}
+use Rattle.executor_core.specs.declared.task.cell.CellState.{CellState}
+use Rattle.executor_core.specs.declared.task.cell.CellState.TheVariants.{Idle, Scheduled, Held, Finished, Gone}
 use Rattle.executor_core.specs.declared.task.handles.PollHandle.{PollHandle}
 use Rattle.executor_core.specs.declared.task.handles.PollHandle.TheVariants as handle
 use Rattle.executor_core.specs.declared.interleave.tasks.TaskInfo.{TaskInfo}
@@ -37,14 +37,14 @@ module _ {P T : Type 0} {table : Table P T (Unit {0})} {log : List (Event T)} {t
       → after_cancel table (id_of n i) ≡ queued_if (is_idle slotted.cell.state) (with_cell table (id_of n i) (cancelled_cell slotted.cell)) (id_of n i)
   cancel_is slotted cell has = ap (cancel_at table (id_of n i)) cell ∙ if-true slotted.cell.has_handle _ _ has
 
-  cancelled_state : (st : State P T) (w : Bool) (s : Status T) → is_undropped st ≡ true → StateAgrees st w s → StateAgrees (state_woken st) w (record s { cancelled = true; cancelled_since = true })
+  cancelled_state : (st : CellState P T) (w : Bool) (s : Status T) → is_undropped st ≡ true → StateAgrees st w s → StateAgrees (state_woken st) w (record s { cancelled = true; cancelled_since = true })
   cancelled_state (Idle p) w s u h = (record { spawned = h.0.spawned; dropped = h.0.dropped; held = h.0.held; outputs = h.0.outputs; given = h.0.given }, or-last (not s.taken) s.woken)
   cancelled_state (Scheduled p) w s u h = (record { spawned = h.0.spawned; dropped = h.0.dropped; held = h.0.held; outputs = h.0.outputs; given = h.0.given }, or-last (not s.taken) s.woken)
   cancelled_state Held w s u h = (record { spawned = h.0.spawned; dropped = h.0.dropped; held = h.0.held; outputs = h.0.outputs; given = h.0.given }, h.1, h.2)
   cancelled_state (Finished t) w s u h = absurd (cc)
   cancelled_state Gone w s u h = absurd (cc)
 
-  ended_state : (st : State P T) (w : Bool) (s : Status T) → is_undropped st ≡ false → StateAgrees st w s → StateAgrees (state_woken st) w s
+  ended_state : (st : CellState P T) (w : Bool) (s : Status T) → is_undropped st ≡ false → StateAgrees st w s → StateAgrees (state_woken st) w s
   ended_state (Idle p) w s u h = absurd (cc)
   ended_state (Scheduled p) w s u h = absurd (cc)
   ended_state Held w s u h = absurd (cc)
@@ -117,14 +117,14 @@ module _ {P T : Type 0} {table : Table P T (Unit {0})} {log : List (Event T)} {t
         | false ↦ refl
       ]
 
-  output_state : (st : State P T) (w : Bool) (s : Status T) → StateAgrees st w s → output_of st ≡ slice_get s.outputs 0
+  output_state : (st : CellState P T) (w : Bool) (s : Status T) → StateAgrees st w s → output_of st ≡ slice_get s.outputs 0
   output_state (Idle p) w s h = sym (ap (λ l. slice_get l 0) h.0.outputs)
   output_state (Scheduled p) w s h = sym (ap (λ l. slice_get l 0) h.0.outputs)
   output_state Held w s h = sym (ap (λ l. slice_get l 0) h.0.outputs)
   output_state (Finished t) w s h = sym (ap (λ l. slice_get l 0) h.outputs)
   output_state Gone w s h = sym (ap (λ l. slice_get l 0) h.outputs)
 
-  no_output_state : (st : State P T) (w : Bool) (s : Status T) → is_undropped st ≡ true → StateAgrees st w s → s.outputs ≡ []
+  no_output_state : (st : CellState P T) (w : Bool) (s : Status T) → is_undropped st ≡ true → StateAgrees st w s → s.outputs ≡ []
   no_output_state (Idle p) w s u h = h.0.outputs
   no_output_state (Scheduled p) w s u h = h.0.outputs
   no_output_state Held w s u h = h.0.outputs
@@ -179,7 +179,7 @@ module _ {P T : Type 0} {table : Table P T (Unit {0})} {log : List (Event T)} {t
             agree.order
       ]
 
-  finished_state : (st : State P T) (w b : Bool) (s : Status T) → b ≡ s.cancelled → StateAgrees st w s → is_finished_state b st ≡ s.dropped || s.cancelled
+  finished_state : (st : CellState P T) (w b : Bool) (s : Status T) → b ≡ s.cancelled → StateAgrees st w s → is_finished_state b st ≡ s.dropped || s.cancelled
   finished_state (Idle p) w b s is h = rw (h.0.dropped, h.3) refl
   finished_state (Scheduled p) w b s is h = rw h.0.dropped is
   finished_state Held w b s is h = rw h.0.dropped is

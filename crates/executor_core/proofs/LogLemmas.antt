@@ -3,11 +3,11 @@ use Rattle.std.proofs.Common.{◌≡◌, ◌≢◌, ℕ, ◌+◌, ◌==◌, ◌|
 use Rattle.std.proofs.lemmas.Bool.{eq-eqb, ne_eqb}
 use Rattle.std.proofs.lemmas.List.Sums.{sum_by-append}
 use Rattle.std.specs.Prelude.{count_by}
-use Rattle.executor_core.specs.Log.{unfollowed, is_spawn, is_wake, is_cancel, is_take, is_poll, is_drop, is_end, output_in, given_in, outputs, given, polls, wakes}
+use Rattle.executor_core.specs.World.Log.{unfollowed, is_spawn, is_wake, is_cancel, is_take, is_poll, is_drop, is_end, output_in, given_in, outputs, given, polls, wakes}
 use Rattle.std.specs.List.{list_any, filter_map}
 use Rattle.std.proofs.lemmas.List.Elements.{filter_map-append}
-use Rattle.executor_core.specs.Promises.{InOrder, MayFollow}
-use Rattle.executor_core.specs.Agreement.{Status, status}
+use Rattle.executor_core.specs.World.Promises.{InOrder, MayFollow}
+use Rattle.executor_core.specs.World.Agreement.{Status, status}
 use Rattle.executor_core.proofs.StatusLemmas.{with_event, task_of, with_some}
 use Rattle.executor_core.specs.declared.interleave.events.Purpose.TheVariants.{ToPoll, ToDrop}
 use Rattle.executor_core.specs.declared.interleave.events.Event.{Event}

@@ -4,8 +4,8 @@ use Rattle.std.specs.Prelude.{nat_lt, ◌==◌}
 use Rattle.std.specs.FinSet as set
 use Rattle.std.specs.Ordering.{nat_cmp}
 use Rattle.executor_core.specs.Sleepers.{SleeperList}
-use Rattle.executor_core.specs.SleepersCalls.{no_sleepers}
-use Rattle.executor_core.specs.Promises.{FlagLaw, Covered}
+use Rattle.executor_core.specs.Sleepers.Calls.{no_sleepers}
+use Rattle.executor_core.specs.World.Promises.{FlagLaw, Covered}
 
 module _ {W : Type 0} {sleepers : SleeperList W} (nobody : sleepers ≡ no_sleepers) where
   unused : set.len sleepers.used ≡ 0

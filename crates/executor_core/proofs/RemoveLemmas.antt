@@ -2,15 +2,17 @@
 use Rattle.std.proofs.Common.{◌≡◌, ◌≢◌, ℕ, ◌+◌, ◌≤◌, ◌==◌, ◌||◌, Bool, true, false, List, [], ◌∷◌, length, get_or, Option, Some, None, cond, refl, sym, ap, subst, ◌∙◌, inl, inr, arith}
 use Rattle.std.proofs.lemmas.Bool.{cases_Bool, eqb-true, eq-eqb}
 use Rattle.std.specs.FinMap as map
-use Rattle.executor_core.specs.Table.{Slotted}
-use Rattle.executor_core.specs.States.{is_idle, is_held, is_scheduled, times, scheduled_in, LockLaw}
-use Rattle.executor_core.specs.TableView.{seen, cells_of, Distinct, numbers_of, table_of, Placed, IsSound, is_queueable, cell_in}
-use Rattle.executor_core.specs.Calls.{without_cell}
+use Rattle.executor_core.specs.Cells.{Slotted}
+use Rattle.executor_core.specs.Cell.{is_idle, is_held, is_scheduled}
+use Rattle.executor_core.specs.Numbers.{times}
+use Rattle.executor_core.specs.Cells.Law.{scheduled_in, ScheduledOnce}
+use Rattle.executor_core.specs.Cells.View.{seen, cells_of, Distinct, numbers_of, table_of, Placed, IsSound, is_queueable, cell_in}
+use Rattle.executor_core.specs.Cells.Calls.{without_cell}
 use Rattle.executor_core.proofs.TableLemmas.{same_table}
 use Rattle.executor_core.proofs.SlotLemmas.{sees_get, get_sees}
 use Rattle.executor_core.specs.declared.task.cell.Cell.{Cell}
 use Rattle.executor_core.specs.declared.task.cell.Numbered.{Numbered}
-use Rattle.executor_core.specs.declared.task.values.TaskId.{TaskId}
+use Rattle.executor_core.specs.declared.task.id.TaskId.{TaskId}
 use Rattle.std.specs.Ordering.{nat_cmp}
 use Rattle.std.proofs.Common.{count_by, ◌-◌}
 use Rattle.std.specs.Cmp.{nat_cmp_total}
@@ -84,7 +86,7 @@ module _ {P T W : Type 0} where
                 ∙ ap Some (sym (s.is ∙ ap (λ k. seen k s.cell.cell) at_is))
           ]
 
-  law_removed : (m : map.FinMap nat_cmp (Slotted P T W)) (numbers : List ℕ) (n : ℕ) → LockLaw m numbers → times n numbers ≡ 0 → LockLaw (map.remove m n) numbers
+  law_removed : (m : map.FinMap nat_cmp (Slotted P T W)) (numbers : List ℕ) (n : ℕ) → ScheduledOnce m numbers → times n numbers ≡ 0 → ScheduledOnce (map.remove m n) numbers
   law_removed m numbers n law none q =
       elim (cases_eq q n) [
         | inl same ↦ ap (λ k. times k numbers) same ∙ none ∙ ap (λ x. cond (scheduled_in x) 1 0) (sym (remove_same m n q same))
@@ -116,7 +118,7 @@ module _ {P T W : Type 0} where
         below = λ i d found. sound.below i d (kept i d found);
         distinct = removed_distinct slots new key sound.distinct changes;
         placed = subst (λ n. All (Placed n) ids) (sym cells) (placed_removed m e.number ids none sound.placed);
-        law = subst (λ n. LockLaw n (numbers_of ids)) (sym cells) (law_removed m (numbers_of ids) e.number sound.law none);
+        law = subst (λ n. ScheduledOnce n (numbers_of ids)) (sym cells) (law_removed m (numbers_of ids) e.number sound.law none);
         settled = λ i d found. sound.settled i d (kept i d found);
         counted = less left undropped (length ids) (count_by is_queueable slots) (count_by is_queueable new) _ 0 balance sound.counted sums;
         room = omega arith;

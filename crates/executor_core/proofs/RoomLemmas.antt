@@ -1,7 +1,7 @@
 -- There is room for the events of the steps to come.
 use Rattle.std.proofs.Common.{◌≡◌, ◌≢◌, ℕ, ◌+◌, ◌*◌, ◌≤◌, List, [], ◌∷◌, ◌++◌, length, ap, ◌∙◌, arith}
 use Rattle.std.specs.Prelude.{slice_set}
-use Rattle.executor_core.specs.Agreement.{HasRoom}
+use Rattle.executor_core.specs.World.Agreement.{HasRoom}
 use Rattle.executor_core.proofs.ListLemmas.{length-push, length-slice_set}
 
 below : (a l : ℕ) → a ≤ l → a ≢ l → a + 1 ≤ l

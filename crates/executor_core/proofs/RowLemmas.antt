@@ -2,10 +2,10 @@
 use Rattle.std.proofs.Common.{◌≡◌, ℕ, ◌+◌, Bool, true, false, List, [], ◌∷◌, ◌++◌, length, Option, Some, None, cond, not, ◌&&◌, refl, inl, inr}
 use Rattle.std.proofs.lemmas.Bool.{cases_Bool}
 use Rattle.std.specs.Prelude.{slice_get, slice_set}
-use Rattle.executor_core.specs.Execution.{Execution}
+use Rattle.executor_core.specs.World.{Execution}
 use Rattle.executor_core.specs.Sleepers.{SleeperList}
-use Rattle.executor_core.specs.Log.{dropped, cancelled, idle, woken, outputs}
-use Rattle.executor_core.specs.Steps.{ready_reply, new_info, spawn_row, row, counted, mark_row, tick_row, pend_row, ready_row, dropped_row, handle_row, output_reply, detach_row, drop_handle_row}
+use Rattle.executor_core.specs.World.Log.{dropped, cancelled, idle, woken, outputs}
+use Rattle.executor_core.specs.World.Steps.{ready_reply, new_info, spawn_row, row, counted, mark_row, take_row, pend_row, ready_row, dropped_row, handle_row, output_reply, detach_row, drop_handle_row}
 use Rattle.executor_core.specs.declared.interleave.tasks.TaskInfo.{TaskInfo}
 use Rattle.executor_core.specs.declared.interleave.events.Purpose.TheVariants.{ToPoll, ToDrop}
 use Rattle.executor_core.specs.declared.interleave.events.Event.{Event}
@@ -32,11 +32,11 @@ module _ {T : Type 0} (log : List (Event T)) (accepted limit : ℕ) (global : Li
   mark_dropped e queue now gone queued = rw (queued, now, gone) (refl, refl)
 
   pub tick_drop : (rest : List ℕ) (more : List (Event T)) (later : List TaskInfo) → global ≡ n ∷ rest → cancelled n log ≡ true → more ≡ log ++ Took n ToDrop ∷ []
-      → later ≡ slice_set tasks n (record i { to_drop = true }) → row (tick_row global world) (reply.Drop n) (then more rest (notices + 1) later)
+      → later ≡ slice_set tasks n (record i { to_drop = true }) → row (take_row global world) (reply.Drop n) (then more rest (notices + 1) later)
   tick_drop rest more later front info is set = rw (front, info, is, set, found) (refl, refl)
 
   pub tick_poll : (rest : List ℕ) (more : List (Event T)) (later : List TaskInfo) → global ≡ n ∷ rest → cancelled n log ≡ false → more ≡ log ++ Took n ToPoll ∷ []
-      → later ≡ slice_set tasks n (record i { to_drop = false }) → row (tick_row global world) (reply.Poll n) (then more rest (notices + 1) later)
+      → later ≡ slice_set tasks n (record i { to_drop = false }) → row (take_row global world) (reply.Poll n) (then more rest (notices + 1) later)
   tick_poll rest more later front info is set = rw (front, info, is, set, found) (refl, refl)
 
   pub pend_queued : (queue : List ℕ) (more : List (Event T)) → cancelled n log ≡ false → woken n log ≡ true → queue ≡ cond (woken n log) (global ++ n ∷ []) global → more ≡ log ++ Returned n ∷ []

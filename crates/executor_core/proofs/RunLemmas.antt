@@ -1,7 +1,7 @@
 -- A run of steps goes on by one.
 use Rattle.std.proofs.Common.{◌≡◌, List, [], ◌∷◌, ◌++◌, refl, ap, subst}
-use Rattle.executor_core.specs.Execution.{Execution}
-use Rattle.executor_core.specs.Steps.{StepTo, RunTo}
+use Rattle.executor_core.specs.World.{Execution}
+use Rattle.executor_core.specs.World.Steps.{StepTo, RunTo}
 use Rattle.executor_core.specs.declared.interleave.steps.Step.{Step}
 use Rattle.executor_core.specs.declared.interleave.steps.Reply.{Reply}
 

@@ -9,10 +9,10 @@ use Rattle.std.specs.Map.{keys_of, lookup, remove_entry, set_value}
 use Rattle.std.proofs.Math.Seq.{take-append_seam}
 use Rattle.std.proofs.lemmas.Bool.{eqb-true, eqb-false, eq-eqb, ne_eqb, lt-ltb, le-ltb, ltb-false, not_from_true, false_from_ne_true, and_right, true≢false, cond-true, cond-false, cases_eq}
 use Rattle.std.proofs.lemmas.Bool.Decides.{nat_tests}
-use Rattle.executor_core.specs.States.{times}
+use Rattle.executor_core.specs.Numbers.{times}
 use Rattle.executor_core.specs.Sleepers.{SleeperList, is_notified_number, has_place}
-use Rattle.executor_core.specs.SleepersView.{IsNumbering, in_use, list_of, IsSoundList}
-use Rattle.executor_core.specs.SleepersCalls.{last_of, all_but_last, again, notice, waker_of, change_of, next_number, inserted, after_insert, insert_answer, slept_again, update_at, after_update, answer_at, update_answer, after_remove, removed_of, all_unnotified, after_notify, notify_answer}
+use Rattle.executor_core.specs.Sleepers.View.{IsNumbering, in_use, list_of, IsSoundList}
+use Rattle.executor_core.specs.Sleepers.Calls.{last_of, all_but_last, again, notice, waker_of, change_of, next_number, inserted, after_insert, insert_answer, slept_again, update_at, after_update, answer_at, update_answer, after_remove, removed_of, all_unnotified, after_notify, notify_answer}
 use Rattle.executor_core.specs.declared.sleepers.list.Update.{Update}
 use Rattle.executor_core.specs.declared.sleepers.list.Update.TheVariants.{Asleep, WasNotified, Unknown}
 use Rattle.executor_core.specs.declared.task.values.Change.{Change}

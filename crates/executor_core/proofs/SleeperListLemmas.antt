@@ -8,9 +8,9 @@ use Rattle.std.specs.FinSet.{contains-items}
 use Rattle.std.specs.Map.{keys_of}
 use Rattle.std.proofs.lemmas.Bool.{eqb-true, eq-eqb, lt-ltb, ltb-true, le-ltb, ltb-false, and_parts, and_from, not-true, not_from_false, or_right, true≢false}
 use Rattle.std.proofs.lemmas.Bool.Decides.{nat_tests}
-use Rattle.executor_core.specs.States.{times}
+use Rattle.executor_core.specs.Numbers.{times}
 use Rattle.executor_core.specs.Sleepers.{SleeperLaw, is_notified, is_notified_number, notified_number}
-use Rattle.executor_core.specs.SleepersView.{in_use, list_of, IsSoundList}
+use Rattle.executor_core.specs.Sleepers.View.{in_use, list_of, IsSoundList}
 use Rattle.executor_core.proofs.SleeperNumberLemmas.{times-append, times-cons, any-times, contains-times, len-from_list, once}
 use Rattle.executor_core.proofs.SleeperPairLemmas.{length-keys}
 

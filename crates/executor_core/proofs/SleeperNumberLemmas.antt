@@ -9,8 +9,8 @@ use Rattle.std.proofs.lemmas.Bool.{eq-eqb, ne_eqb, lt-ltb, le-ltb, cases_eq}
 use Rattle.std.proofs.lemmas.Bool.Decides.{nat_tests}
 use Rattle.std.proofs.lemmas.Cmp.{nat_cmp_total}
 use Rattle.std.proofs.lemmas.List.Sums.{sum_by-append, sum_by-cons}
-use Rattle.executor_core.specs.States.{times}
-use Rattle.executor_core.specs.SleepersView.{IsNumbering}
+use Rattle.executor_core.specs.Numbers.{times}
+use Rattle.executor_core.specs.Sleepers.View.{IsNumbering}
 
 pub times-append : (n : ℕ) (xs ys : List ℕ) → times n (xs ++ ys) ≡ times n xs + times n ys
 times-append n xs ys = sum_by-append (λ k. cond (k == n) 1 0) xs ys

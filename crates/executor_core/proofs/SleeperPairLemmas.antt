@@ -6,7 +6,7 @@ use Rattle.std.specs.Map.{keys_of, lookup, remove_entry, set_value}
 use Rattle.std.proofs.lemmas.Bool.{eqb-true}
 use Rattle.std.proofs.lemmas.Iterator.Adapters.{position_from-zero}
 use Rattle.std.proofs.lemmas.List.{map-append}
-use Rattle.executor_core.specs.States.{times}
+use Rattle.executor_core.specs.Numbers.{times}
 use Rattle.executor_core.proofs.SleeperNumberLemmas.{times-cons, one-other}
 
 module _ {W : Type 0} where

@@ -5,8 +5,8 @@ use Rattle.std.specs.Ordering.{nat_cmp, eq_by_cmp}
 use Rattle.std.specs.Cmp.{nat_cmp_total, unsigned_tied}
 use Rattle.std.specs.FinMap as map
 use Rattle.std.specs.FinMap.{find}
-use Rattle.executor_core.specs.Table.{Slotted}
-use Rattle.executor_core.specs.TableView.{seen, by_number, cells_of, Distinct}
+use Rattle.executor_core.specs.Cells.{Slotted}
+use Rattle.executor_core.specs.Cells.View.{seen, by_number, cells_of, Distinct}
 use Rattle.executor_core.specs.declared.task.cell.Cell.{Cell}
 use Rattle.executor_core.specs.declared.task.cell.Numbered.{Numbered}
 

@@ -2,19 +2,21 @@
 use Rattle.std.proofs.Common.{◌≡◌, ◌≢◌, ℕ, suc, ◌+◌, ◌≤◌, ◌==◌, ◌||◌, Bool, true, false, List, [], ◌∷◌, ◌++◌, length, get_or, Option, Some, None, cond, refl, sym, ap, subst, ◌∙◌, inl, inr, arith, length-append}
 use Rattle.std.specs.FinMap as map
 use Rattle.std.specs.Ordering.{nat_cmp}
-use Rattle.executor_core.specs.Table.{Slotted}
-use Rattle.executor_core.specs.States.{is_idle, is_held, is_scheduled, times, scheduled_in, is_undropped, LockLaw}
-use Rattle.executor_core.specs.TableView.{seen, cells_of, numbers_of, table_of, Placed, IsSound, Settled, is_queueable}
-use Rattle.executor_core.specs.CellChanges.{new_cell}
-use Rattle.executor_core.specs.Calls.{after_spawn, IsFree, empty_table, AllDropped}
+use Rattle.executor_core.specs.Cells.{Slotted}
+use Rattle.executor_core.specs.Cell.{is_idle, is_held, is_scheduled, is_undropped}
+use Rattle.executor_core.specs.Numbers.{times}
+use Rattle.executor_core.specs.Cells.Law.{scheduled_in, ScheduledOnce}
+use Rattle.executor_core.specs.Cells.View.{seen, cells_of, numbers_of, table_of, Placed, IsSound, Settled, is_queueable}
+use Rattle.executor_core.specs.Cell.Changes.{new_cell}
+use Rattle.executor_core.specs.Cells.Calls.{after_spawn, IsFree, empty_table, AllDropped}
 use Rattle.executor_core.proofs.TableLemmas.{same_table}
 use Rattle.executor_core.proofs.SlotLemmas.{sees_get, get_sees}
 use Rattle.executor_core.proofs.WriteLemmas.{front_cell}
 use Rattle.executor_core.specs.declared.task.cell.Cell.{Cell}
 use Rattle.executor_core.specs.declared.task.cell.Numbered.{Numbered}
-use Rattle.executor_core.specs.declared.task.values.TaskId.{TaskId}
-use Rattle.executor_core.specs.declared.task.cell.State.{State}
-use Rattle.executor_core.specs.declared.task.cell.State.TheVariants.{Idle, Scheduled, Held, Finished, Gone}
+use Rattle.executor_core.specs.declared.task.id.TaskId.{TaskId}
+use Rattle.executor_core.specs.declared.task.cell.CellState.{CellState}
+use Rattle.executor_core.specs.declared.task.cell.CellState.TheVariants.{Idle, Scheduled, Held, Finished, Gone}
 use Rattle.std.proofs.lemmas.List.Elements.{All-push, All-weaker, All-nil}
 use Rattle.std.proofs.Common.{count_by}
 use Rattle.std.proofs.lemmas.List.Sums.{count_by-le-length}
@@ -37,14 +39,14 @@ counts : (u a b s t : ℕ) → u ≡ a + s → b ≡ a + 1 → t + 0 ≡ s + 0 �
 counts u a b s t p q r = omega arith
 
 module _ {P T : Type 0} where
-  dropped_by : (s : State P T) → (is_idle s || is_held s) ≡ false → is_scheduled s ≡ false → is_undropped s ≡ false
+  dropped_by : (s : CellState P T) → (is_idle s || is_held s) ≡ false → is_scheduled s ≡ false → is_undropped s ≡ false
   dropped_by (Idle p) h k = absurd (cc)
   dropped_by (Scheduled p) h k = absurd (cc)
   dropped_by Held h k = absurd (cc)
   dropped_by (Finished t) h k = refl
   dropped_by Gone h k = refl
 
-  by_dropped : (s : State P T) → is_undropped s ≡ false → ((is_idle s || is_held s) ≡ false) × (is_scheduled s ≡ false)
+  by_dropped : (s : CellState P T) → is_undropped s ≡ false → ((is_idle s || is_held s) ≡ false) × (is_scheduled s ≡ false)
   by_dropped (Idle p) h = absurd (cc)
   by_dropped (Scheduled p) h = absurd (cc)
   by_dropped Held h = absurd (cc)
@@ -130,7 +132,7 @@ module _ {P T W : Type 0} where
             (All-push (Placed (map.insert m next (seen key (new_cell p)))) ids id
             (All-weaker (Placed m) (Placed (map.insert m next (seen key (new_cell p)))) (kept_beside m next (seen key (new_cell p)) none) ids sound.placed)
             (seen key (new_cell p), insert_same m next (seen key (new_cell p)) next refl, refl)));
-        law = subst (λ n. LockLaw n (numbers_of later)) (sym cells)
+        law = subst (λ n. ScheduledOnce n (numbers_of later)) (sym cells)
             (law_put m (numbers_of ids) (numbers_of later) next (seen key (new_cell p)) sound.law (ap (times next) lists ∙ once) (λ q far. ap (times q) lists ∙ times-push_other q next (numbers_of ids) far));
         counted = counts _ _ _ _ _ sound.counted (ap length longer ∙ length-append ids (id ∷ [])) (ap (λ o. count_by is_queueable new + cond (is_queueable o) 1 0) (sym vacant) ∙ same_count slots new key (Some f) changes);
         room = enough;

@@ -4,22 +4,22 @@ use Rattle.std.proofs.lemmas.Bool.{cases_Bool, cases_eq}
 use Rattle.std.specs.Prelude.{slice_get, slice_set}
 use Rattle.std.specs.Ordering.{nat_cmp}
 use Rattle.std.specs.FinMap as map
-use Rattle.executor_core.specs.Table.{Slotted, Table}
-use Rattle.executor_core.specs.States.{is_idle, is_held, is_undropped}
-use Rattle.executor_core.specs.Calls.{cell_at, undropped_in, cancelled_in, wakes, idle_in, after_wake, wake_at, after_take, take_first, take_at, takes_back_in, woken_in, after_end_pending, end_pending_at, queued_if, with_cell, without_cell, after_end_ready, end_ready_at, ready_answer, after_poll_handle, poll_handle_at, poll_answer, ended_answer, after_spawn, IsFree, empty_table}
-use Rattle.executor_core.specs.CellChanges.{woken, state_woken, taken, takes_back, pended, readied, wakeup_of, awaited, output_of, new_cell}
-use Rattle.executor_core.specs.Steps.{info_or, new_info}
-use Rattle.executor_core.specs.Log.{unfollowed, is_cancel, is_take, spawned, dropped, cancelled, held, woken as woken_log, idle, outputs, given}
+use Rattle.executor_core.specs.Cells.{Slotted, Table}
+use Rattle.executor_core.specs.Cell.{is_idle, is_held, is_undropped}
+use Rattle.executor_core.specs.Cells.Calls.{cell_at, undropped_in, cancelled_in, wakes, idle_in, after_wake, wake_at, after_take, take_first, with_taken_at, takes_back_in, woken_in, after_end_pending, end_pending_at, queued_if, with_cell, without_cell, after_end_ready, end_ready_at, ready_answer, after_poll_handle, poll_handle_at, poll_answer, ended_answer, after_spawn, IsFree, empty_table}
+use Rattle.executor_core.specs.Cell.Changes.{woken, state_woken, taken, takes_back, pended, readied, wakeup_of, awaited, output_of, new_cell}
+use Rattle.executor_core.specs.World.Steps.{info_or, new_info}
+use Rattle.executor_core.specs.World.Log.{unfollowed, is_cancel, is_take, spawned, dropped, cancelled, held, woken as woken_log, idle, outputs, given}
 use Rattle.std.specs.List.{list_any}
-use Rattle.executor_core.specs.Promises.{InOrder}
-use Rattle.executor_core.specs.Agreement.{Status, status, no_status, FewPollsFor, StateAgrees, NumberAgrees, is_out, is_unpolled, PolledAgrees, Agree}
+use Rattle.executor_core.specs.World.Promises.{InOrder}
+use Rattle.executor_core.specs.World.Agreement.{Status, status, no_status, FewPollsFor, StateAgrees, NumberAgrees, is_out, is_unpolled, PolledAgrees, Agree}
 use Rattle.executor_core.proofs.LogLemmas.{on_spawn, on_wake, on_poll, on_take, on_return, on_drop, on_finish, on_give, order-push, status_other}
 use Rattle.executor_core.proofs.ListLemmas.{get-push_last, get-push_other, get_past, within_get, get_within, length-push}
 use Rattle.executor_core.proofs.SlotLemmas.{insert_same, insert_other}
 use Rattle.executor_core.proofs.AgreementLemmas.{LogChange, log_same, log_pushed, info_same, info_set, OutChange, out_same, out_set, polled_set, cell_put, cell_removed, cell_same, agree_again, agreed_at, id_of, cell_agreed, idle_state, dropped_state, held_state, state_agrees, number_agrees_by, not-not}
 use Rattle.executor_core.specs.declared.task.cell.Cell.{Cell}
-use Rattle.executor_core.specs.declared.task.cell.State.{State}
-use Rattle.executor_core.specs.declared.task.cell.State.TheVariants.{Idle, Scheduled, Held, Finished, Gone}
+use Rattle.executor_core.specs.declared.task.cell.CellState.{CellState}
+use Rattle.executor_core.specs.declared.task.cell.CellState.TheVariants.{Idle, Scheduled, Held, Finished, Gone}
 use Rattle.executor_core.specs.declared.task.handles.PollHandle.{PollHandle}
 use Rattle.executor_core.specs.declared.task.handles.PollHandle.TheVariants as handle
 use Rattle.executor_core.specs.declared.interleave.tasks.TaskInfo.{TaskInfo}
@@ -103,7 +103,7 @@ abbrev dropped_now : {T : Type 0} → Status T → Status T
 dropped_now s = record s { dropped = true; held = false }
 
 -- the future was dropped, so nobody holds it
-pub ended_past : {P T : Type 0} (st : State P T) (w : Bool) (s : Status T) → StateAgrees st w s → is_undropped st ≡ false → (s.spawned ≡ true) × (s.held ≡ false)
+pub ended_past : {P T : Type 0} (st : CellState P T) (w : Bool) (s : Status T) → StateAgrees st w s → is_undropped st ≡ false → (s.spawned ≡ true) × (s.held ≡ false)
 ended_past (Idle p) w s h e = absurd (cc)
 ended_past (Scheduled p) w s h e = absurd (cc)
 ended_past Held w s h e = absurd (cc)
@@ -130,7 +130,7 @@ module _ {P T : Type 0} {table : Table P T (Unit {0})} {log : List (Event T)} {t
     pub global : (after_wake table (id_of n i)).global ≡ cond (idle n log) (table.global ++ n ∷ []) table.global
     pub wakes : wakes table (id_of n i) ≡ idle n log
 
-  woken_state : (st : State P T) (w : Bool) (s : Status T) (k : ℕ) → is_undropped st ≡ true → StateAgrees st w s → StateAgrees (state_woken st) (cond (is_held st) true w) (record s { woken = true; wakes = k })
+  woken_state : (st : CellState P T) (w : Bool) (s : Status T) (k : ℕ) → is_undropped st ≡ true → StateAgrees st w s → StateAgrees (state_woken st) (cond (is_held st) true w) (record s { woken = true; wakes = k })
   woken_state (Idle p) w s k u h = (record { spawned = h.0.spawned; dropped = h.0.dropped; held = h.0.held; outputs = h.0.outputs; given = h.0.given }, or-any (not s.taken) true s.cancelled_since refl)
   woken_state (Scheduled p) w s k u h = (record { spawned = h.0.spawned; dropped = h.0.dropped; held = h.0.held; outputs = h.0.outputs; given = h.0.given }, or-any (not s.taken) true s.cancelled_since refl)
   woken_state Held w s k u h = (record { spawned = h.0.spawned; dropped = h.0.dropped; held = h.0.held; outputs = h.0.outputs; given = h.0.given }, h.1, refl)
@@ -188,7 +188,7 @@ module _ {P T : Type 0} {table : Table P T (Unit {0})} {log : List (Event T)} {t
 
   module _ (rest : List ℕ) (slot : ℕ) (cell : Cell P T (Unit {0})) (p : P) (front : table.global ≡ n ∷ rest) (here : map.get table.cells n ≡ Some (record { slot = slot; cell = cell })) (state : cell.state ≡ Scheduled p) (i : TaskInfo) (found : slice_get tasks n ≡ Some i) where
     took_is : after_take table ≡ record table { cells = map.insert table.cells n (record { slot = slot; cell = taken cell }); global = rest }
-    took_is = ap (take_first table) front ∙ ap (take_at table n rest) here
+    took_is = ap (take_first table) front ∙ ap (λ (o : Option (Slotted P T (Unit {0}))). record (with_taken_at table n o) { global = rest }) here
 
     pub cancelled_front : cell.cancelled ≡ cancelled n log
     cancelled_front = (agreed_at agree n i found (Some (record { slot = slot; cell = cell })) here).cancelled
@@ -243,7 +243,7 @@ module _ {P T : Type 0} {table : Table P T (Unit {0})} {log : List (Event T)} {t
   pub held_cell : (i : TaskInfo) → slice_get tasks n ≡ Some i → held n log ≡ true → (slotted : Slotted P T (Unit {0})) × (map.get table.cells n ≡ Some slotted) × (slotted.cell.state ≡ Held)
   held_cell i found now_held = by_slotted (map.get table.cells n) refl
     where
-      by_state : (st : State P T) → is_held st ≡ true → st ≡ Held
+      by_state : (st : CellState P T) → is_held st ≡ true → st ≡ Held
       by_state (Idle p) h = absurd (cc)
       by_state (Scheduled p) h = absurd (cc)
       by_state Held h = refl
@@ -485,7 +485,7 @@ module _ {P T : Type 0} {table : Table P T (Unit {0})} {log : List (Event T)} {t
         let cell = cell_agreed agree n i found (Some slotted) at.1 in
         subst AnswerTells (sym (ap (poll_answer tt) cell ∙ if-true slotted.cell.has_handle _ _ at.2)) (by_state slotted.cell.state slotted.cell.woken h.state slotted.cell.awaiter)
       where
-        by_state : (st : State P T) (w : Bool) → StateAgrees st w (status n log) → (a : Option (Unit {0})) → AnswerTells (cond (is_undropped st) (handle.Pending a) (ended_answer tt (output_of st)))
+        by_state : (st : CellState P T) (w : Bool) → StateAgrees st w (status n log) → (a : Option (Unit {0})) → AnswerTells (cond (is_undropped st) (handle.Pending a) (ended_answer tt (output_of st)))
         by_state (Idle p) w h a = h.0.dropped
         by_state (Scheduled p) w h a = h.0.dropped
         by_state Held w h a = h.0.dropped

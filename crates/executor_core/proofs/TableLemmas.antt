@@ -7,14 +7,16 @@ use Rattle.std.proofs.lemmas.List.Elements.{All-weaker}
 use Rattle.std.specs.List.{All}
 use Rattle.std.specs.Ordering.{nat_cmp}
 use Rattle.std.specs.FinMap as map
-use Rattle.executor_core.specs.Table.{Slotted, Table}
-use Rattle.executor_core.specs.TableView.{is_numbered, seen, cells_of, Distinct, is_queueable, numbers_of, table_of, Placed, IsSound, Settled}
-use Rattle.executor_core.specs.States.{is_idle, is_held, is_scheduled, scheduled_in, times, LockLaw}
-use Rattle.executor_core.specs.Calls.{cell_at, with_cell, in_slot}
+use Rattle.executor_core.specs.Cells.{Slotted, Table}
+use Rattle.executor_core.specs.Cells.View.{is_numbered, seen, cells_of, Distinct, is_queueable, numbers_of, table_of, Placed, IsSound, Settled}
+use Rattle.executor_core.specs.Cell.{is_idle, is_held, is_scheduled}
+use Rattle.executor_core.specs.Cells.Law.{scheduled_in, ScheduledOnce}
+use Rattle.executor_core.specs.Numbers.{times}
+use Rattle.executor_core.specs.Cells.Calls.{cell_at, with_cell, in_slot}
 use Rattle.executor_core.proofs.SlotLemmas.{insert_same, insert_other, get_sees, sees_get, Changes, fits_itself, put_distinct, cells_of-put}
 use Rattle.executor_core.specs.declared.task.cell.Cell.{Cell}
 use Rattle.executor_core.specs.declared.task.cell.Numbered.{Numbered}
-use Rattle.executor_core.specs.declared.task.values.TaskId.{TaskId}
+use Rattle.executor_core.specs.declared.task.id.TaskId.{TaskId}
 
 pub times-push_same : (n : ℕ) (numbers : List ℕ) → times n (numbers ++ n ∷ []) ≡ times n numbers + 1
 times-push_same n numbers = sum_by-append (λ k. cond (k == n) 1 0) numbers (n ∷ []) ∙ rw (eq-eqb n n refl) refl
@@ -27,10 +29,10 @@ times-push_other q n numbers far =
 module _ {P T W : Type 0} where
   -- a law that is kept where one cell changes, and the number is queued where it becomes scheduled
   pub law_put : (m : map.FinMap nat_cmp (Slotted P T W)) (numbers later : List ℕ) (n : ℕ) (s : Slotted P T W)
-      → LockLaw m numbers
+      → ScheduledOnce m numbers
       → times n later ≡ cond (is_scheduled s.cell.state) 1 0
       → ((q : ℕ) → q ≢ n → times q later ≡ times q numbers)
-      → LockLaw (map.insert m n s) later
+      → ScheduledOnce (map.insert m n s) later
   law_put m numbers later n s law here others q =
       elim (cases_eq q n) [
         | inl same ↦ ap (λ k. times k later) same ∙ here ∙ ap (λ x. cond (scheduled_in x) 1 0) (sym (insert_same m n s q same))
@@ -126,7 +128,7 @@ module _ {P T W : Type 0} where
         distinct = put_distinct slots new key f sound.distinct fits changes;
         placed = subst (λ m. All (Placed m) later) (sym cells)
             (All-weaker (Placed (cells_of slots)) (Placed (map.insert (cells_of slots) e.number (seen key c))) (λ id. placed_put (cells_of slots) e.number key c e.cell (sees_get slots sound.distinct key e there) id) later placed);
-        law = subst (λ m. LockLaw m (numbers_of later)) (sym cells) (law_put (cells_of slots) (numbers_of ids) (numbers_of later) e.number (seen key c) sound.law here others);
+        law = subst (λ m. ScheduledOnce m (numbers_of later)) (sym cells) (law_put (cells_of slots) (numbers_of ids) (numbers_of later) e.number (seen key c) sound.law here others);
         counted = recount _ _ _ _ _ _ _ _ _ sound.counted sums was balance;
         room = enough;
         settled = λ i d found. elim (cases_eq i key) [

@@ -1,21 +1,23 @@
 -- What a take keeps and gives.
 use Rattle.std.proofs.Common.{◌≡◌, ℕ, ◌||◌, Bool, true, false, List, ◌∷◌, set, get_or, Option, Some, None, refl, sym, ap, ◌∙◌}
 use Rattle.std.specs.FinMap as map
-use Rattle.executor_core.specs.States.{is_idle, is_held, is_scheduled}
-use Rattle.executor_core.specs.TableView.{seen, cells_of, numbers_of, table_of, IsSound}
-use Rattle.executor_core.specs.CellChanges.{taken}
-use Rattle.executor_core.specs.Calls.{after_take, take_first, take_at, TakesFront}
+use Rattle.executor_core.specs.Cell.{is_idle, is_held, is_scheduled}
+use Rattle.executor_core.specs.Cells.{Slotted}
+use Rattle.executor_core.specs.Cells.View.{seen, cells_of, numbers_of, table_of, IsSound}
+use Rattle.executor_core.specs.Cell.Changes.{taken}
+use Rattle.executor_core.specs.Cells.Calls.{after_take, take_first, with_taken_at, TakesFront}
 use Rattle.executor_core.proofs.TableLemmas.{table_set}
 use Rattle.executor_core.proofs.SlotLemmas.{sees_get}
 use Rattle.executor_core.proofs.WriteLemmas.{unqueued_sound, front_cell}
 use Rattle.executor_core.specs.declared.task.cell.Cell.{Cell}
 use Rattle.executor_core.specs.declared.task.cell.Numbered.{Numbered}
-use Rattle.executor_core.specs.declared.task.values.TaskId.{TaskId}
-use Rattle.executor_core.specs.declared.task.cell.State.{State}
-use Rattle.executor_core.specs.declared.task.cell.State.TheVariants.{Idle, Scheduled, Held, Finished, Gone}
+use Rattle.executor_core.specs.declared.task.id.TaskId.{TaskId}
+use Rattle.executor_core.specs.declared.task.values.Taken.{Taken}
+use Rattle.executor_core.specs.declared.task.cell.CellState.{CellState}
+use Rattle.executor_core.specs.declared.task.cell.CellState.TheVariants.{Idle, Scheduled, Held, Finished, Gone}
 
 module _ {P T : Type 0} where
-  pub scheduled_facts : (s : State P T) → is_scheduled s ≡ true → (is_idle s || is_held s) ≡ false
+  pub scheduled_facts : (s : CellState P T) → is_scheduled s ≡ true → (is_idle s || is_held s) ≡ false
   scheduled_facts (Idle p) h = absurd (cc)
   scheduled_facts (Scheduled p) h = refl
   scheduled_facts Held h = absurd (cc)
@@ -45,22 +47,22 @@ module _ {P T W : Type 0} where
       let number : e.number ≡ id.number = ap (λ x. x.number) (sym same) ∙ at.2 in
       let found : map.get (cells_of slots) id.number ≡ Some (seen id.slot e.cell) = ap (map.get (cells_of slots)) (sym number) ∙ sees_get slots sound.distinct id.slot e there in
       table_set next slots ids later id e (taken e.cell) (numbers_of later) sound.distinct there number refl
-      ∙ sym (ap (λ l. take_first (table_of next slots ids) l) (ap numbers_of front) ∙ ap (take_at (table_of next slots ids) id.number (numbers_of later)) found)
+      ∙ sym (ap (λ l. take_first (table_of next slots ids) l) (ap numbers_of front) ∙ ap (λ (o : Option (Slotted P T W)). record (with_taken_at (table_of next slots ids) id.number o) { global = numbers_of later }) found)
 
   pub taken_from : {next capacity undropped : ℕ} {slots : List (Option (Numbered (Cell P T W)))} {ids later : List TaskId}
       → IsSound next slots ids capacity undropped
-      → (id : TaskId) (e : Numbered (Cell P T W)) (p : P) → get_or slots id.slot None ≡ Some e → ids ≡ id ∷ later → e.cell.state ≡ Scheduled p
-      → (b : Bool) → b ≡ e.cell.cancelled
-      → TakesFront (table_of next slots ids) (numbers_of later) (record { id = id; future = p; cancelled = b; held = record { id = id; to_drop = false } })
-  taken_from {slots = slots} sound id e p there front state b cancel =
-      let at = front_cell sound id front in
+      → (task : Taken P) (e : Numbered (Cell P T W)) → get_or slots task.id.slot None ≡ Some e → ids ≡ task.id ∷ later → e.cell.state ≡ Scheduled task.future → task.cancelled ≡ e.cell.cancelled
+      → TakesFront (table_of next slots ids) (numbers_of later) task
+  taken_from {slots = slots} sound task e there front state cancel =
+      let at = front_cell sound task.id front in
       let same : at.0 ≡ e = cc in
-      let number : e.number ≡ id.number = ap (λ x. x.number) (sym same) ∙ at.2 in
+      let number : e.number ≡ task.id.number = ap (λ x. x.number) (sym same) ∙ at.2 in
       record {
-        cell = e.cell;
-        first = ap numbers_of front;
-        found = ap (map.get (cells_of slots)) (sym number) ∙ sees_get slots sound.distinct id.slot e there;
-        future = state;
-        cancelled = cancel;
-        held = refl;
+        taken = record {
+          cell = e.cell;
+          found = ap (map.get (cells_of slots)) (sym number) ∙ sees_get slots sound.distinct task.id.slot e there;
+          future = state;
+          cancelled = cancel;
+        };
+        front = ap numbers_of front;
       }

@@ -11,15 +11,17 @@ use Rattle.std.specs.FinMap.Entries.{put, find}
 use Rattle.std.proofs.lemmas.Bool.{eq-eqb, ne_eqb}
 use Rattle.std.proofs.lemmas.List.Sums.{sum_by-cons}
 use Rattle.std.proofs.lemmas.List.Elements.{All-head, All-tail}
-use Rattle.executor_core.specs.Table.{Slotted}
-use Rattle.executor_core.specs.States.{is_idle, is_held, is_scheduled, is_undropped, scheduled_in, times}
-use Rattle.executor_core.specs.TableView.{seen, by_number, cells_of, Distinct, is_queueable, numbers_of, Placed, IsSound}
+use Rattle.executor_core.specs.Cells.{Slotted}
+use Rattle.executor_core.specs.Cell.{is_idle, is_held, is_scheduled, is_undropped}
+use Rattle.executor_core.specs.Cells.Law.{scheduled_in}
+use Rattle.executor_core.specs.Numbers.{times}
+use Rattle.executor_core.specs.Cells.View.{seen, by_number, cells_of, Distinct, is_queueable, numbers_of, Placed, IsSound}
 use Rattle.executor_core.proofs.SlotLemmas.{find_sees, get_sees, sees_get}
 use Rattle.executor_core.specs.declared.task.cell.Cell.{Cell}
 use Rattle.executor_core.specs.declared.task.cell.Numbered.{Numbered}
-use Rattle.executor_core.specs.declared.task.cell.State.{State}
-use Rattle.executor_core.specs.declared.task.cell.State.TheVariants.{Idle, Scheduled, Held, Finished, Gone}
-use Rattle.executor_core.specs.declared.task.values.TaskId.{TaskId}
+use Rattle.executor_core.specs.declared.task.cell.CellState.{CellState}
+use Rattle.executor_core.specs.declared.task.cell.CellState.TheVariants.{Idle, Scheduled, Held, Finished, Gone}
+use Rattle.executor_core.specs.declared.task.id.TaskId.{TaskId}
 
 -- no key occurs twice
 abbrev AllFresh : {X : Type 0} → List (ℕ × X) → Type 0
@@ -152,7 +154,7 @@ module _ {P T W : Type 0} where
   undropped_parts None = refl
   undropped_parts (Some e) = by_state e.cell.state
     where
-      by_state : (st : State P T) → cond (is_undropped st) 1 0 ≡ cond (is_scheduled st) 1 0 + cond (is_idle st || is_held st) 1 0
+      by_state : (st : CellState P T) → cond (is_undropped st) 1 0 ≡ cond (is_scheduled st) 1 0 + cond (is_idle st || is_held st) 1 0
       by_state (Idle p) = refl
       by_state (Scheduled p) = refl
       by_state Held = refl

@@ -1,41 +1,41 @@
 -- What a wake keeps and gives.
 use Rattle.std.proofs.Common.{◌≡◌, ℕ, ◌||◌, Bool, true, false, List, [], ◌∷◌, ◌++◌, set, get_or, Option, Some, None, cond, refl, sym, ap, ◌∙◌}
-use Rattle.executor_core.specs.Table.{Table}
-use Rattle.executor_core.specs.States.{is_idle, is_held, is_scheduled, is_undropped}
-use Rattle.executor_core.specs.TableView.{Distinct, numbers_of, table_of, IsSound, Settled}
-use Rattle.executor_core.specs.Calls.{cell_at, wake_at, after_wake, wakes, idle_in}
-use Rattle.executor_core.specs.CellChanges.{woken, state_woken}
+use Rattle.executor_core.specs.Cells.{Table}
+use Rattle.executor_core.specs.Cell.{is_idle, is_held, is_scheduled, is_undropped}
+use Rattle.executor_core.specs.Cells.View.{Distinct, numbers_of, table_of, IsSound, Settled}
+use Rattle.executor_core.specs.Cells.Calls.{cell_at, wake_at, after_wake, wakes, idle_in}
+use Rattle.executor_core.specs.Cell.Changes.{woken, state_woken}
 use Rattle.executor_core.proofs.WriteLemmas.{kept_sound, queued_sound}
 use Rattle.executor_core.proofs.TableLemmas.{table_set, cell_at_some}
 use Rattle.executor_core.specs.declared.task.cell.Cell.{Cell}
 use Rattle.executor_core.specs.declared.task.cell.Numbered.{Numbered}
-use Rattle.executor_core.specs.declared.task.values.TaskId.{TaskId}
-use Rattle.executor_core.specs.declared.task.cell.State.{State}
-use Rattle.executor_core.specs.declared.task.cell.State.TheVariants.{Idle, Scheduled, Held, Finished, Gone}
+use Rattle.executor_core.specs.declared.task.id.TaskId.{TaskId}
+use Rattle.executor_core.specs.declared.task.cell.CellState.{CellState}
+use Rattle.executor_core.specs.declared.task.cell.CellState.TheVariants.{Idle, Scheduled, Held, Finished, Gone}
 
 module _ {P T : Type 0} where
-  quiet_scheduled : (s : State P T) → is_idle s ≡ false → is_scheduled (state_woken s) ≡ is_scheduled s
+  quiet_scheduled : (s : CellState P T) → is_idle s ≡ false → is_scheduled (state_woken s) ≡ is_scheduled s
   quiet_scheduled (Idle p) h = absurd (cc)
   quiet_scheduled (Scheduled p) h = refl
   quiet_scheduled Held h = refl
   quiet_scheduled (Finished t) h = refl
   quiet_scheduled Gone h = refl
 
-  quiet_queue : (s : State P T) → is_idle s ≡ false → (is_idle (state_woken s) || is_held (state_woken s)) ≡ (is_idle s || is_held s)
+  quiet_queue : (s : CellState P T) → is_idle s ≡ false → (is_idle (state_woken s) || is_held (state_woken s)) ≡ (is_idle s || is_held s)
   quiet_queue (Idle p) h = absurd (cc)
   quiet_queue (Scheduled p) h = refl
   quiet_queue Held h = refl
   quiet_queue (Finished t) h = refl
   quiet_queue Gone h = refl
 
-  loud : (s : State P T) → is_idle s ≡ true → (is_scheduled s ≡ false) × (is_scheduled (state_woken s) ≡ true) × ((is_idle s || is_held s) ≡ true) × ((is_idle (state_woken s) || is_held (state_woken s)) ≡ false)
+  loud : (s : CellState P T) → is_idle s ≡ true → (is_scheduled s ≡ false) × (is_scheduled (state_woken s) ≡ true) × ((is_idle s || is_held s) ≡ true) × ((is_idle (state_woken s) || is_held (state_woken s)) ≡ false)
   loud (Idle p) h = (refl, refl, refl, refl)
   loud (Scheduled p) h = absurd (cc)
   loud Held h = absurd (cc)
   loud (Finished t) h = absurd (cc)
   loud Gone h = absurd (cc)
 
-  pub woken_undropped : (s : State P T) → is_undropped (state_woken s) ≡ is_undropped s
+  pub woken_undropped : (s : CellState P T) → is_undropped (state_woken s) ≡ is_undropped s
   woken_undropped (Idle p) = refl
   woken_undropped (Scheduled p) = refl
   woken_undropped Held = refl

@@ -5,14 +5,16 @@ use Rattle.std.proofs.lemmas.Bool.{cases_Bool, eqb-true, eq-eqb, ne_eqb}
 use Rattle.std.proofs.lemmas.List.Sums.{sum_by-cons}
 use Rattle.std.specs.List.{All}
 use Rattle.std.specs.FinMap as map
-use Rattle.executor_core.specs.TableView.{is_numbered, seen, cells_of, numbers_of, table_of, Placed, IsSound, Settled, cell_in}
-use Rattle.executor_core.specs.States.{is_idle, is_held, is_scheduled, scheduled_in, times}
-use Rattle.executor_core.specs.Calls.{cell_at}
+use Rattle.executor_core.specs.Cells.View.{is_numbered, seen, cells_of, numbers_of, table_of, Placed, IsSound, Settled, cell_in}
+use Rattle.executor_core.specs.Cell.{is_idle, is_held, is_scheduled}
+use Rattle.executor_core.specs.Cells.Law.{scheduled_in}
+use Rattle.executor_core.specs.Numbers.{times}
+use Rattle.executor_core.specs.Cells.Calls.{cell_at}
 use Rattle.executor_core.proofs.SlotLemmas.{sees_get, get_sees}
 use Rattle.executor_core.proofs.TableLemmas.{put_sound, cell_at_some, cell_at_none, times-push_same, times-push_other, numbers_of-push}
 use Rattle.executor_core.specs.declared.task.cell.Cell.{Cell}
 use Rattle.executor_core.specs.declared.task.cell.Numbered.{Numbered}
-use Rattle.executor_core.specs.declared.task.values.TaskId.{TaskId}
+use Rattle.executor_core.specs.declared.task.id.TaskId.{TaskId}
 
 one_more : (n : ℕ) → 1 + n ≡ n + 1
 one_more n = omega arith

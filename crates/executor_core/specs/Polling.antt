@@ -9,9 +9,9 @@ use Rattle.executor_core.specs.declared.task.values.Taken.{Taken}
 module _ {P T : Type 0} where
   -- the task's own Held comes back, to drop exactly where the task was cancelled
   abbrev pub RanFrom : Taken P → Ran P T → Type 0
-  RanFrom task (Pending held p) = (task.cancelled ≡ false) × (held ≡ task.held)
-  RanFrom task (Ready held t) = (task.cancelled ≡ false) × (held ≡ task.held)
-  RanFrom task (Dropped held) = (task.cancelled ≡ true) × (held ≡ record { id = task.held.id; to_drop = true })
+  RanFrom task (Pending held p) = (task.cancelled ≡ false) × (held ≡ record { id = task.id; to_drop = false })
+  RanFrom task (Ready held t) = (task.cancelled ≡ false) × (held ≡ record { id = task.id; to_drop = false })
+  RanFrom task (Dropped held) = (task.cancelled ≡ true) × (held ≡ record { id = task.id; to_drop = true })
 
   -- what came back is what the poller answered
   abbrev pub AnsweredBy : (Polled P T → Type 0) → Ran P T → Type 0

@@ -1,11 +1,13 @@
 -- What a contract sees of `Sleepers`, and the law of their numbers.
+pub mod Calls
+pub mod View
 use Rattle.std.specs.Prelude.{◌≡◌, ℕ, ◌+◌, ◌≤◌, ◌==◌, nat_lt, nat_le, Bool, true, not, ◌&&◌, ◌||◌, List, length, filter, slice_index, cond, refl}
 use Rattle.std.specs.List.{list_any}
 use Rattle.std.specs.Coded.{Coded, code_by, coded×, coded_ℕ, coded_list, coded_bool}
 use Rattle.std.specs.Ordering.{nat_cmp}
 use Rattle.std.specs.FinSet as set
 use Rattle.std.specs.Map.{keys_of}
-use Rattle.executor_core.specs.States.{times}
+use Rattle.executor_core.specs.Numbers.{times}
 
 -- the list of the unnotified, in the order in which they went to sleep, each with its waker; the numbers in use; those
 -- that were given back, the next one to be used standing last; how many places are reserved; and whether the list was

@@ -15,11 +15,11 @@
 //! no notice is lost: where a task is queued and somebody sleeps, one is notified, or a notice or a
 //! pick is out.
 ghost use Rattle.std.specs.Prelude.{◌≡◌, ◌≢◌, ◌≤◌, ◌&&◌, ◌||◌, ◌↔◌, not, ℕ, true, length, IfOk, OnErr, slice_get, Some};
-ghost use Rattle.executor_core.specs.Agreement.{HandlesAgree};
-ghost use Rattle.executor_core.specs.Calls.{AllDropped};
-ghost use Rattle.executor_core.specs.Log.{spawned, held, owed, idle, EachDropped};
-ghost use Rattle.executor_core.specs.Promises.{OnePlace, InOrder, FewPolls, FlagLaw, Covered};
-ghost use Rattle.executor_core.specs.Steps.{info, enabled, Spawns, row, wake_row, tick_row, pend_row, ready_row, dropped_row, StepTo, RunTo, opening};
+ghost use Rattle.executor_core.specs.World.Agreement.{HandlesAgree};
+ghost use Rattle.executor_core.specs.Cells.Calls.{AllDropped};
+ghost use Rattle.executor_core.specs.World.Log.{spawned, held, owed, idle, EachDropped};
+ghost use Rattle.executor_core.specs.World.Promises.{OnePlace, InOrder, FewPolls, FlagLaw, Covered};
+ghost use Rattle.executor_core.specs.World.Steps.{info, enabled, Spawns, row, wake_row, take_row, pend_row, ready_row, dropped_row, StepTo, RunTo, opening};
 
 pub(crate) mod events;
 pub(crate) mod handles;
@@ -61,13 +61,13 @@ pub struct World<P, T> {
 }
 
 impl<P, T> Model for World<P, T> {
-    ghost use Rattle.executor_core.specs.Execution.{Execution, execution_code};
+    ghost use Rattle.executor_core.specs.World.{Execution, execution_code};
 
     ghost Value = { Execution T };
 
     ghost coded = { execution_code T.code };
 
-    ghost use Rattle.executor_core.specs.WorldView.{execution_of, IsWorld};
+    ghost use Rattle.executor_core.specs.World.View.{execution_of, IsWorld};
 
     ghost view = { execution_of };
 
@@ -203,7 +203,7 @@ impl<P: Drop, T: Copy> World<P, T> {
 
     fn try_tick(&mut self) -> Reply<T>
         requires room { self.old.accepted ≢ self.old.limit }
-        ensures { row (tick_row self.old.global self.old) result self.new }
+        ensures { row (take_row self.old.global self.old) result self.new }
     {
         self.accepted += 1;
         let Some((taken, notice)) = self.core.take_global(None) else {
@@ -303,14 +303,14 @@ impl<P: Drop, T: Copy> World<P, T> {
     }
 
     // What holds of every world. It does nothing.
-    fn keeps_promises(&self)
+    fn promises_hold(&self)
         ensures one_place { OnePlace self.now.log self.now.global }
         ensures in_order { InOrder self.now.log }
         ensures few_polls { FewPolls self.now.log }
         ensures flag_law { FlagLaw self.now.flag self.now.sleepers self.now.picks }
         ensures covered { Covered self.now.global self.now.sleepers self.now.notices self.now.picks }
     {
-        self.core.cells.keeps_law();
+        self.core.cells.law_holds();
     }
 
     fn take_step(&mut self, step: Step<P, T>) -> Reply<T>
@@ -355,7 +355,7 @@ impl<P: Drop, T: Copy> World<P, T> {
         ensures covered { Covered self.new.global self.new.sleepers self.new.notices self.new.picks }
     {
         let reply = self.take_step(step);
-        self.keeps_promises();
+        self.promises_hold();
         reply
     }
 
@@ -374,12 +374,12 @@ impl<P: Drop, T: Copy> World<P, T> {
         ensures flag_law { FlagLaw self.new.flag self.new.sleepers self.new.picks }
         ensures covered { Covered self.new.global self.new.sleepers self.new.notices self.new.picks }
     {
-        self.keeps_promises();
+        self.promises_hold();
         let mut replies = Vec::with_capacity(self.alloc, steps.len())?;
         for step in steps {
             replies.push_reserved(self.step(step));
         }
-        self.keeps_promises();
+        self.promises_hold();
         Ok(replies)
     }
 

@@ -1,6 +1,6 @@
 //! The global queue: the tasks that are scheduled, in the order in which they were.
 ghost use Rattle.std.specs.Prelude.{◌≡◌, [], IfSome, IfNone, length, slice_get};
-ghost use Rattle.executor_core.specs.Calls.{after_take, TakesFront};
+ghost use Rattle.executor_core.specs.Cells.Calls.{after_take, TakesFront};
 
 use crate::task::cell::take_cell;
 use crate::task::{Again, Cells, Held, Notice, Taken, TaskId};

@@ -37,16 +37,18 @@
 //! | `Change` | the list of sleepers changed, and the flag is to be stored | the store of the flag |
 
 pub(crate) mod cell;
-pub mod handles;
-pub mod polling;
-pub mod refusals;
-pub mod table;
-pub mod traits;
-pub mod values;
+pub(crate) mod error;
+pub(crate) mod future;
+pub(crate) mod handles;
+pub(crate) mod id;
+pub(crate) mod polling;
+pub(crate) mod table;
+pub(crate) mod values;
 
+pub use error::{OutOfMemory, SpawnError};
+pub use future::{Future, Poll, Wake};
 pub use handles::PollHandle;
+pub use id::TaskId;
 pub use polling::{Polled, Poller, Ran, run_taken};
-pub use refusals::{OutOfMemory, SpawnError};
 pub use table::{Cells, EndPending, EndReady};
-pub use traits::{Future, Poll, Wake};
-pub use values::{Again, Change, Held, Notice, Pick, Taken, TaskId, Wakeup};
+pub use values::{Again, Change, Held, Notice, Pick, Taken, Wakeup};

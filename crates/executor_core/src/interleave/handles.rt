@@ -1,6 +1,6 @@
 //! The steps of those who have a handle.
 ghost use Rattle.std.specs.Prelude.{◌≡◌, ◌≢◌, true};
-ghost use Rattle.executor_core.specs.Steps.{info, row, handle_row, cancel_row, detach_row, drop_handle_row};
+ghost use Rattle.executor_core.specs.World.Steps.{info, row, handle_row, cancel_row, detach_row, drop_handle_row};
 
 use crate::interleave::World;
 use crate::interleave::events::Event;

@@ -1,8 +1,8 @@
 //! The steps of those who have a notice or a pick to spend.
 ghost use Rattle.std.specs.Prelude.{◌≡◌, ◌≢◌, ◌<◌};
 ghost use Rattle.std.specs.Map.{keys_of};
-ghost use Rattle.executor_core.specs.SleepersCalls.{last_of};
-ghost use Rattle.executor_core.specs.Steps.{row, exchange_row, notify_row};
+ghost use Rattle.executor_core.specs.Sleepers.Calls.{last_of};
+ghost use Rattle.executor_core.specs.World.Steps.{row, exchange_row, notify_row};
 
 use crate::interleave::World;
 use crate::interleave::steps::{Reply, reply_of_number};
@@ -44,7 +44,7 @@ impl<P: Drop, T: Copy> World<P, T> {
         let last = last_number(&self.core.sleepers);
         match self.core.notify(Pick { unspent: () }) {
             Some(wakeup) => {
-                wakeup.into_waker();
+                wakeup.keep();
                 reply_of_number(last)
             }
             None => Reply::Nobody,

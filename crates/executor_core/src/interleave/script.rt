@@ -18,7 +18,9 @@ impl<P: Drop, T: Copy> Poller<P, T> for Script<T> {
 
     ghost disposals = { λ s. s.disposals };
 
-    ghost answers = { λ s _ r. polled_output r ≡ s.output };
+    ghost answers = { λ s _ _ r. polled_output r ≡ s.output };
+
+    ghost disposed = { λ _ _ _ _. Unit {0} };
 
     fn poll(&mut self, _id: TaskId, future: P) -> Polled<P, T> {
         self.polls += 1;
@@ -35,7 +37,8 @@ impl<P: Drop, T: Copy> Poller<P, T> for Script<T> {
 
 // The task as it was taken, to be polled, or cancelled.
 fn taken<P>(id: TaskId, future: P, cancelled: bool) -> Taken<P>
-    ensures { result ≡ record { id = id; future = future; cancelled = cancelled; held = record { id = id; to_drop = false } } }
+    ensures id { result.id ≡ id }
+    ensures cancelled { result.cancelled ≡ cancelled }
 {
     Taken {
         id,

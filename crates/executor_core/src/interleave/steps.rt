@@ -1,6 +1,6 @@
 //! What a party asks of a world, and what is answered.
 ghost use Rattle.std.specs.Prelude.{◌≡◌, is_some};
-ghost use Rattle.executor_core.specs.Steps.{ready_reply, output_reply, notify_reply};
+ghost use Rattle.executor_core.specs.World.Steps.{ready_reply, output_reply, notify_reply};
 
 use crate::task::{EndReady, Wakeup};
 
@@ -85,7 +85,7 @@ pub(crate) fn has_awaiter(awaiter: Option<Wakeup<()>>) -> bool
 {
     match awaiter {
         Some(wakeup) => {
-            wakeup.into_waker();
+            wakeup.keep();
             true
         }
         None => false,

@@ -1,6 +1,6 @@
 //! What a world knows of each task beside its log, and the futures that are out.
 ghost use Rattle.std.specs.Prelude.{◌≡◌, ◌<◌, Some, None, false, true, length, slice_get, slice_set};
-ghost use Rattle.executor_core.specs.Agreement.{is_out, is_unpolled};
+ghost use Rattle.executor_core.specs.World.Agreement.{is_out, is_unpolled};
 
 use crate::task::TaskId;
 use std::mem::replace;

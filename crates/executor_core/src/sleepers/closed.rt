@@ -17,7 +17,7 @@ pub struct ClosedSleepers<W> {
 }
 
 impl<W> ClosedSleepers<W> {
-    ghost use Rattle.executor_core.specs.SleepersCalls.{no_sleepers};
+    ghost use Rattle.executor_core.specs.Sleepers.Calls.{no_sleepers};
 
     /// Nobody sleeps, and no place is reserved. It takes no memory.
     pub fn new(alloc: Global) -> Self

@@ -4,9 +4,9 @@ ghost use Rattle.std.specs.FinSet as set;
 ghost use Rattle.std.specs.Map.{keys_of, lookup, remove_entry, set_value};
 ghost use Rattle.std.specs.Vec.{vec_capacity};
 ghost use Rattle.executor_core.specs.Sleepers.{SleeperLaw, is_notified, notified_number};
-ghost use Rattle.executor_core.specs.SleepersCalls.{last_of, all_but_last, no_sleepers, closed, change_of, after_release, after_insert, insert_answer, after_update, update_answer, after_remove, remove_answer, after_notify, notify_answer};
+ghost use Rattle.executor_core.specs.Sleepers.Calls.{last_of, all_but_last, no_sleepers, closed, change_of, after_release, after_insert, insert_answer, after_update, update_answer, after_remove, remove_answer, after_notify, notify_answer};
 
-use crate::task::refusals::OutOfMemory;
+use crate::task::error::OutOfMemory;
 use crate::task::values::{Again, Change, Notice, Pick, Wakeup};
 use core::mem::replace;
 use std::alloc::Global;
@@ -53,7 +53,7 @@ impl<W> Model for Sleepers<W> {
 
     ghost coded = { sleeper_list_code W.code };
 
-    ghost use Rattle.executor_core.specs.SleepersView.{list_of, IsSoundList};
+    ghost use Rattle.executor_core.specs.Sleepers.View.{list_of, IsSoundList};
 
     ghost view = { λ a. list_of a.notified a.unnotified.items a.free.items a.places a.is_open };
 

@@ -1,6 +1,6 @@
 //! The flag beside the lock of the sleepers.
 ghost use Rattle.std.specs.Prelude.{◌≡◌};
-ghost use Rattle.executor_core.specs.SleepersCalls.{closed};
+ghost use Rattle.executor_core.specs.Sleepers.Calls.{closed};
 
 use crate::sleepers::list::Sleepers;
 use crate::task::values::{Change, Notice, Pick};

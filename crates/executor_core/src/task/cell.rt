@@ -3,14 +3,14 @@
 //! Each function here takes a cell apart and gives the next one, with what comes out of it. The
 //! table puts them in place.
 ghost use Rattle.std.specs.Prelude.{◌≡◌, Bool, true, false, Some, None, cond};
-ghost use Rattle.executor_core.specs.States.{is_idle, is_scheduled, is_held, is_undropped};
-ghost use Rattle.executor_core.specs.CellChanges.{new_cell, woken, taken, pended, readied, awaited, cancelled_cell, detached, disposed, wakeup_of, output_of, is_finished_state};
+ghost use Rattle.executor_core.specs.Cell.{is_idle, is_scheduled, is_held, is_undropped};
+ghost use Rattle.executor_core.specs.Cell.Changes.{new_cell, woken, taken, pended, readied, awaited, cancelled_cell, detached, disposed, wakeup_of, output_of, is_finished_state};
 
 use crate::task::values::Wakeup;
 
 /// Where a task stands.
 #[derive(Drop)]
-pub(crate) enum State<P, T> {
+pub(crate) enum CellState<P, T> {
     /// The future is in the cell, and nothing is asked of it.
     Idle(P),
     /// The future is in the cell, and the task stands in a queue.
@@ -26,7 +26,7 @@ pub(crate) enum State<P, T> {
 /// What is kept of a task, beside its number.
 #[derive(Drop)]
 pub(crate) struct Cell<P, T, W> {
-    pub(crate) state: State<P, T>,
+    pub(crate) state: CellState<P, T>,
     pub(crate) cancelled: bool,
     /// A wake came while the future was out.
     pub(crate) woken: bool,
@@ -47,7 +47,7 @@ pub(crate) fn new_cell<P, T, W>(future: P) -> Cell<P, T, W>
     ensures { result ≡ new_cell future }
 {
     Cell {
-        state: State::Scheduled(future),
+        state: CellState::Scheduled(future),
         cancelled: false,
         woken: false,
         has_handle: true,
@@ -60,8 +60,8 @@ pub(crate) fn has_future<P, T, W>(cell: &Cell<P, T, W>) -> bool
     ensures { result ≡ is_undropped cell.now.state }
 {
     match &cell.state {
-        State::Idle(_) | State::Scheduled(_) | State::Held => true,
-        State::Finished(_) | State::Gone => false,
+        CellState::Idle(_) | CellState::Scheduled(_) | CellState::Held => true,
+        CellState::Finished(_) | CellState::Gone => false,
     }
 }
 
@@ -71,11 +71,11 @@ pub(crate) fn wake_cell<P, T, W>(cell: Cell<P, T, W>, _unit: ()) -> (Cell<P, T, 
 {
     let before = cell.state;
     let (state, woken, queued) = match before {
-        State::Idle(future) => (State::Scheduled(future), cell.woken, true),
-        State::Scheduled(future) => (State::Scheduled(future), cell.woken, false),
-        State::Held => (State::Held, true, false),
-        State::Finished(output) => (State::Finished(output), cell.woken, false),
-        State::Gone => (State::Gone, cell.woken, false),
+        CellState::Idle(future) => (CellState::Scheduled(future), cell.woken, true),
+        CellState::Scheduled(future) => (CellState::Scheduled(future), cell.woken, false),
+        CellState::Held => (CellState::Held, true, false),
+        CellState::Finished(output) => (CellState::Finished(output), cell.woken, false),
+        CellState::Gone => (CellState::Gone, cell.woken, false),
     };
     let cell = Cell {
         state,
@@ -89,15 +89,15 @@ pub(crate) fn wake_cell<P, T, W>(cell: Cell<P, T, W>, _unit: ()) -> (Cell<P, T, 
 pub(crate) fn take_cell<P, T, W>(cell: Cell<P, T, W>, _unit: ()) -> (Cell<P, T, W>, (P, bool))
     requires { is_scheduled cell.state ≡ true }
     ensures cell { result.0 ≡ taken cell }
-    ensures future { cell.state ≡ State.Scheduled result.1.0 }
+    ensures future { cell.state ≡ CellState.Scheduled result.1.0 }
     ensures cancelled { result.1.1 ≡ cell.cancelled }
 {
     let before = cell.state;
-    let State::Scheduled(future) = before else {
+    let CellState::Scheduled(future) = before else {
         unreachable!()
     };
     let cell = Cell {
-        state: State::Held,
+        state: CellState::Held,
         woken: false,
         ..cell
     };
@@ -106,11 +106,11 @@ pub(crate) fn take_cell<P, T, W>(cell: Cell<P, T, W>, _unit: ()) -> (Cell<P, T, 
 }
 
 // The state of a cell whose future is out has nothing in it.
-fn end_held<P, T>(state: State<P, T>)
+fn end_held<P, T>(state: CellState<P, T>)
     requires { is_held state ≡ true }
 {
     match state {
-        State::Held => {}
+        CellState::Held => {}
         _ => unreachable!(),
     }
 }
@@ -122,9 +122,9 @@ pub(crate) fn pend_cell<P, T, W>(cell: Cell<P, T, W>, future: P) -> (Cell<P, T, 
 {
     end_held(cell.state);
     let state = if cell.woken {
-        State::Scheduled(future)
+        CellState::Scheduled(future)
     } else {
-        State::Idle(future)
+        CellState::Idle(future)
     };
     let cell = Cell { state, ..cell };
     let queued = cell.woken;
@@ -152,9 +152,9 @@ pub(crate) fn ready_cell<P, T, W>(
     end_held(cell.state);
     let awaiter = wakeup(cell.awaiter);
     let (state, unwanted) = if cell.cancelled {
-        (State::Gone, Some(output))
+        (CellState::Gone, Some(output))
     } else {
-        (State::Finished(output), None)
+        (CellState::Finished(output), None)
     };
     let cell = Cell {
         state,
@@ -198,8 +198,8 @@ pub(crate) fn output_of_ended<P, T, W>(cell: Cell<P, T, W>) -> Option<T>
         Some(_) => unreachable!(),
     }
     match state {
-        State::Finished(output) => Some(output),
-        State::Gone => None,
+        CellState::Finished(output) => Some(output),
+        CellState::Gone => None,
         _ => unreachable!(),
     }
 }
@@ -222,11 +222,11 @@ pub(crate) fn cancel_cell<P, T, W>(cell: Cell<P, T, W>, _unit: ()) -> (Cell<P, T
 {
     let before = cell.state;
     let (state, cancelled, queued) = match before {
-        State::Idle(future) => (State::Scheduled(future), true, true),
-        State::Scheduled(future) => (State::Scheduled(future), true, false),
-        State::Held => (State::Held, true, false),
-        State::Finished(output) => (State::Finished(output), cell.cancelled, false),
-        State::Gone => (State::Gone, cell.cancelled, false),
+        CellState::Idle(future) => (CellState::Scheduled(future), true, true),
+        CellState::Scheduled(future) => (CellState::Scheduled(future), true, false),
+        CellState::Held => (CellState::Held, true, false),
+        CellState::Finished(output) => (CellState::Finished(output), cell.cancelled, false),
+        CellState::Gone => (CellState::Gone, cell.cancelled, false),
     };
     let cell = Cell {
         state,
@@ -260,7 +260,7 @@ pub(crate) fn dispose_cell<P, T, W>(
     end_held(cell.state);
     let awaiter = wakeup(cell.awaiter);
     let cell = Cell {
-        state: State::Gone,
+        state: CellState::Gone,
         awaiter: None,
         ..cell
     };
@@ -272,8 +272,8 @@ pub(crate) fn is_finished_cell<P, T, W>(cell: &Cell<P, T, W>) -> bool
     ensures { result ≡ is_finished_state cell.now.cancelled cell.now.state }
 {
     match &cell.state {
-        State::Idle(_) => false,
-        State::Scheduled(_) | State::Held => cell.cancelled,
-        State::Finished(_) | State::Gone => true,
+        CellState::Idle(_) => false,
+        CellState::Scheduled(_) | CellState::Held => cell.cancelled,
+        CellState::Finished(_) | CellState::Gone => true,
     }
 }

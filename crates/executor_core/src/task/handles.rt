@@ -4,15 +4,16 @@
 //! last answer. A call finds the cell by number and slot, so the id of a task whose cell is gone
 //! never reaches the task that has the slot now.
 ghost use Rattle.std.specs.Prelude.{◌≡◌, is_some, slice_index_or, None};
-ghost use Rattle.executor_core.specs.Calls.{after_cancel, cancel_queues, after_detach, detach_answer, after_poll_handle, poll_answer, finished_in, cell_at};
-ghost use Rattle.executor_core.specs.TableView.{cell_in};
+ghost use Rattle.executor_core.specs.Cells.Calls.{after_cancel, cancel_queues, after_detach, detach_answer, after_poll_handle, poll_answer, finished_in, cell_at};
+ghost use Rattle.executor_core.specs.Cells.View.{cell_in};
 
 use crate::task::cell::{
     Cell, Numbered, await_cell, cancel_cell, detach_cell, has_future, is_finished_cell,
     output_of_ended,
 };
+use crate::task::id::TaskId;
 use crate::task::table::{Cells, has_handle_at};
-use crate::task::values::{Notice, TaskId};
+use crate::task::values::Notice;
 use core::mem::replace_with;
 use slab::Slab;
 

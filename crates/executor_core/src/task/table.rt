@@ -1,17 +1,18 @@
 //! The table of task cells.
 ghost use Rattle.std.specs.Prelude.{◌≡◌, ◌≢◌, ℕ, ◌+◌, ◌-◌, ◌<◌, ◌≤◌, Bool, true, false, IsSome, IsTrue, ◌↔◌, List, [], ◌∷◌, ◌++◌, IfOk, IfErr, OnOk, OnErr, length, is_some, slice_index_or, None};
 ghost use Rattle.std.specs.VecDeque.{deque_capacity};
-ghost use Rattle.executor_core.specs.Calls.{wakes, after_wake, after_end_pending, EndsPending, undropped_in, cancelled_in, future_in, empty_table, after_spawn, IsFree, AllDropped, undropped_count, cell_at, held_in, handle_in, after_end_ready, ready_answer, after_end_dropped, dropped_answer};
-ghost use Rattle.executor_core.specs.Refusals.{Refuses};
-ghost use Rattle.executor_core.specs.States.{LockLaw};
-ghost use Rattle.executor_core.specs.TableView.{is_numbered, cell_in, takes_back_entry};
+ghost use Rattle.executor_core.specs.Cells.Calls.{wakes, after_wake, after_end_pending, EndsPending, undropped_in, cancelled_in, future_in, empty_table, after_spawn, IsFree, AllDropped, undropped_count, cell_at, held_in, handle_in, after_end_ready, ready_answer, after_end_dropped, dropped_answer};
+ghost use Rattle.executor_core.specs.SpawnError.{Refuses};
+ghost use Rattle.executor_core.specs.Cells.Law.{LockLaw};
+ghost use Rattle.executor_core.specs.Cells.View.{is_numbered, cell_in, takes_back_entry};
 
 use crate::task::cell::{
-    Cell, Numbered, State, awaiter_of_held, dispose_cell, has_future, new_cell, pend_cell,
+    Cell, CellState, Numbered, awaiter_of_held, dispose_cell, has_future, new_cell, pend_cell,
     ready_cell, wake_cell,
 };
-use crate::task::refusals::{OutOfMemory, SpawnError};
-use crate::task::values::{Held, Notice, TaskId, Wakeup};
+use crate::task::error::{OutOfMemory, SpawnError};
+use crate::task::id::TaskId;
+use crate::task::values::{Held, Notice, Wakeup};
 use core::mem::replace_with;
 use slab::Slab;
 use std::alloc::Global;
@@ -48,13 +49,13 @@ pub struct Cells<P, T, W> {
 }
 
 impl<P, T, W> Model for Cells<P, T, W> {
-    ghost use Rattle.executor_core.specs.Table.{Table, table_code};
+    ghost use Rattle.executor_core.specs.Cells.{Table, table_code};
 
     ghost Value = { Table P T W };
 
     ghost coded = { table_code P.code T.code W.code };
 
-    ghost use Rattle.executor_core.specs.TableView.{table_of, IsSound};
+    ghost use Rattle.executor_core.specs.Cells.View.{table_of, IsSound};
     ghost use Rattle.std.specs.VecDeque.{deque_capacity};
 
     ghost view = { λ a. table_of a.next a.cells.slots a.global.items };
@@ -79,7 +80,7 @@ fn takes_back<P, T, W>(cells: &Slab<Numbered<Cell<P, T, W>>>, id: TaskId) -> boo
     match cells.get(id.slot) {
         Some(entry) => {
             entry.number == id.number
-                && matches!(&entry.cell.state, State::Held)
+                && matches!(&entry.cell.state, CellState::Held)
                 && !entry.cell.cancelled
         }
         None => false,
@@ -91,7 +92,7 @@ fn is_held_at<P, T, W>(cells: &Slab<Numbered<Cell<P, T, W>>>, id: TaskId) -> boo
     ensures { result ≡ held_in (cell_in id.number (slice_index_or cells.now.slots id.slot None)) }
 {
     match cells.get(id.slot) {
-        Some(entry) => entry.number == id.number && matches!(&entry.cell.state, State::Held),
+        Some(entry) => entry.number == id.number && matches!(&entry.cell.state, CellState::Held),
         None => false,
     }
 }
@@ -133,7 +134,10 @@ fn keeps_at<P, T, W>(cells: &Slab<Numbered<Cell<P, T, W>>>, id: TaskId) -> bool
     match cells.get(id.slot) {
         Some(entry) => {
             entry.number == id.number
-                && matches!(&entry.cell.state, State::Idle(_) | State::Scheduled(_))
+                && matches!(
+                    &entry.cell.state,
+                    CellState::Idle(_) | CellState::Scheduled(_)
+                )
         }
         None => false,
     }
@@ -331,10 +335,10 @@ impl<P, T, W> Cells<P, T, W> {
         is_cancelled_at(&self.cells, id)
     }
 
-    /// The law of the queues, which every call keeps: a number stands once in them where its cell
-    /// is scheduled, and else in none. It does nothing.
-    pub fn keeps_law(&self)
-        ensures { LockLaw self.now.cells self.now.global }
+    /// The law of the queues, which every call keeps: a number stands once in all of them together
+    /// where its cell is scheduled, and else in none. It does nothing.
+    pub fn law_holds(&self)
+        ensures { LockLaw self.now }
     {
         let _ = &self.next;
     }

@@ -1,31 +1,8 @@
-//! Task ids, and the values that must be spent.
-ghost use Rattle.std.specs.Prelude.{◌≡◌};
+//! The values that must be spent.
+ghost use Rattle.std.specs.Prelude.{◌≡◌, false};
 
-use crate::task::traits::Wake;
-
-/// Names a task: its number, which no other task of the same cells ever has, and the slot of its
-/// cell.
-#[derive(Debug, Clone, Copy, PartialEq, Eq)]
-pub struct TaskId {
-    pub(crate) number: u64,
-    pub(crate) slot: usize,
-}
-
-impl TaskId {
-    /// The number: tasks are numbered from 0 in order of spawning.
-    pub fn number(self) -> u64
-        ensures { result ≡ self.number }
-    {
-        self.number
-    }
-
-    /// The slot, which another task may have once this one's cell was removed.
-    pub fn slot(self) -> usize
-        ensures { result ≡ self.slot }
-    {
-        self.slot
-    }
-}
+use crate::task::future::Wake;
+use crate::task::id::TaskId;
 
 /// A task was queued, or such news is passed on: the flag is still to be exchanged.
 pub struct Notice {
@@ -91,7 +68,7 @@ impl<W: Wake> Wakeup<W> {
 
 impl Wakeup<()> {
     // A world's wakers are units, and its replies say that one came out.
-    pub(crate) fn into_waker(self) {
+    pub(crate) fn keep(self) {
         let Wakeup { waker: () } = self;
     }
 }
@@ -108,6 +85,8 @@ pub struct Taken<P> {
     pub(crate) future: P,
     pub(crate) cancelled: bool,
     pub(crate) held: Held,
+    ghost own: { held.id ≡ id },
+    ghost undropped: { held.to_drop ≡ false },
 }
 
 impl<P> Taken<P> {

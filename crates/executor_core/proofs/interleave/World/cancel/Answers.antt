@@ -1,6 +1,6 @@
 use Rattle.std.proofs.Common.{◌≡◌, ◌≢◌, subst, sym, ap, ◌∙◌, refl, true}
-use Rattle.executor_core.specs.Calls.{cell_at, undropped_in, after_cancel, cancel_queues}
-use Rattle.executor_core.specs.Steps.{info, info_or}
+use Rattle.executor_core.specs.Cells.Calls.{cell_at, undropped_in, after_cancel, cancel_queues}
+use Rattle.executor_core.specs.World.Steps.{info, info_or}
 use Rattle.executor_core.proofs.StepLemmas.{dropped_by}
 use Rattle.executor_core.proofs.HandleLemmas.{idle_undropped, cancel_notice, cancel_global, cancel_step, cancel_ended}
 use Rattle.executor_core.proofs.RowLemmas.{mark_queued, mark_stays, mark_dropped}

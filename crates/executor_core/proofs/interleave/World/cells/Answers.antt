@@ -1,6 +1,6 @@
 use Rattle.std.proofs.Common.{subst, sym}
-use Rattle.executor_core.specs.Log.{EachDropped}
-use Rattle.executor_core.specs.Agreement.{HandlesAgree}
+use Rattle.executor_core.specs.World.Log.{EachDropped}
+use Rattle.executor_core.specs.World.Agreement.{HandlesAgree}
 use Rattle.executor_core.proofs.HandleLemmas.{handle_agrees}
 use Rattle.executor_core.proofs.AgreementLemmas.{each_dropped, all_dropped}
 use Rattle.executor_core.proofs.interleave.World.cells.Goals as goal

@@ -1,7 +1,7 @@
 use Rattle.std.proofs.Common.{◌≡◌, ◌≢◌, subst, sym, ap, ◌∙◌, refl, true, false}
 use Rattle.std.specs.Prelude.{slice_set}
-use Rattle.executor_core.specs.Calls.{cell_at, after_detach, detach_answer}
-use Rattle.executor_core.specs.Steps.{info, info_or}
+use Rattle.executor_core.specs.Cells.Calls.{cell_at, after_detach, detach_answer}
+use Rattle.executor_core.specs.World.Steps.{info, info_or}
 use Rattle.executor_core.specs.declared.interleave.tasks.TaskInfo.{TaskInfo}
 use Rattle.executor_core.proofs.HandleLemmas.{detach_step, detach_global, detach_output}
 use Rattle.executor_core.proofs.RowLemmas.{detach_gives}

@@ -1,7 +1,7 @@
 use Rattle.std.proofs.Common.{◌≡◌, ◌≢◌, subst, sym, ap, ◌∙◌, refl, true, false, is_some}
 use Rattle.std.specs.Prelude.{slice_set}
-use Rattle.executor_core.specs.Calls.{cell_at, undropped_in, after_cancel, cancel_queues, after_detach, detach_answer}
-use Rattle.executor_core.specs.Steps.{info, info_or}
+use Rattle.executor_core.specs.Cells.Calls.{cell_at, undropped_in, after_cancel, cancel_queues, after_detach, detach_answer}
+use Rattle.executor_core.specs.World.Steps.{info, info_or}
 use Rattle.executor_core.specs.declared.interleave.tasks.TaskInfo.{TaskInfo}
 use Rattle.executor_core.proofs.StepLemmas.{dropped_by}
 use Rattle.executor_core.proofs.HandleLemmas.{idle_undropped, cancel_notice, cancel_global, cancel_step, cancel_ended, detach_step, detach_global, detach_output, no_output}

@@ -1,7 +1,7 @@
 use Rattle.std.proofs.Common.{◌≡◌, ◌≢◌, subst, sym, ap, ◌∙◌, true, is_some}
 use Rattle.std.specs.Prelude.{slice_set}
-use Rattle.executor_core.specs.Log.{held}
-use Rattle.executor_core.specs.Calls.{cell_at, after_end_dropped, dropped_answer}
+use Rattle.executor_core.specs.World.Log.{held}
+use Rattle.executor_core.specs.Cells.Calls.{cell_at, after_end_dropped, dropped_answer}
 use Rattle.executor_core.proofs.StepLemmas.{and_left}
 use Rattle.executor_core.proofs.DropLemmas.{drop_step}
 use Rattle.executor_core.proofs.RowLemmas.{dropped_gone}

@@ -1,5 +1,5 @@
 use Rattle.std.proofs.Common.{◌∙◌, ap}
-use Rattle.executor_core.specs.Log.{held}
+use Rattle.executor_core.specs.World.Log.{held}
 use Rattle.executor_core.proofs.interleave.World.is_out.Goals as goal
 
 pub returns : goal.returns

@@ -1,8 +1,8 @@
 use Rattle.std.proofs.Common.{◌&&◌, not, ◌≡◌, ◌≢◌, ◌<◌, length, subst, sym, ap, ◌∙◌, refl, true, is_some}
 use Rattle.std.specs.Prelude.{slice_set}
-use Rattle.executor_core.specs.Log.{held}
-use Rattle.executor_core.specs.Steps.{info}
-use Rattle.executor_core.specs.Calls.{cell_at, takes_back_in, woken_in, after_end_pending}
+use Rattle.executor_core.specs.World.Log.{held}
+use Rattle.executor_core.specs.World.Steps.{info}
+use Rattle.executor_core.specs.Cells.Calls.{cell_at, takes_back_in, woken_in, after_end_pending}
 use Rattle.executor_core.proofs.ListLemmas.{set_again, within_get, length-slice_set}
 use Rattle.executor_core.proofs.StepLemmas.{pend_step, pend_drop, and_left, unpolled_there, place_there}
 use Rattle.executor_core.proofs.RowLemmas.{pend_queued, pend_idle, pend_dropped}

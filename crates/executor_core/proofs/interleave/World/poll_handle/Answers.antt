@@ -1,7 +1,7 @@
 use Rattle.std.proofs.Common.{◌≡◌, ◌≢◌, subst, sym, ap, ◌∙◌, refl, true}
 use Rattle.std.specs.Prelude.{slice_set}
-use Rattle.executor_core.specs.Calls.{cell_at, after_poll_handle, poll_answer}
-use Rattle.executor_core.specs.Steps.{info, info_or}
+use Rattle.executor_core.specs.Cells.Calls.{cell_at, after_poll_handle, poll_answer}
+use Rattle.executor_core.specs.World.Steps.{info, info_or}
 use Rattle.executor_core.proofs.StepLemmas.{AnswerTells, answer_tells, global_handle, handle_pending, handle_cancelled, handle_output}
 use Rattle.executor_core.proofs.RowLemmas as rows
 use Rattle.executor_core.proofs.RoomLemmas.{room_step, one_event, more, more_two, tasks_same}

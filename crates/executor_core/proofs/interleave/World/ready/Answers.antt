@@ -1,8 +1,8 @@
 use Rattle.std.proofs.Common.{◌&&◌, not, ◌≡◌, ◌≢◌, ◌++◌, ◌∷◌, [], subst, sym, ap, ◌∙◌, true, false, is_some}
 use Rattle.std.specs.Prelude.{slice_set}
-use Rattle.executor_core.specs.Log.{held}
-use Rattle.executor_core.specs.Steps.{info}
-use Rattle.executor_core.specs.Calls.{cell_at, cancelled_in, after_end_ready, ready_answer}
+use Rattle.executor_core.specs.World.Log.{held}
+use Rattle.executor_core.specs.World.Steps.{info}
+use Rattle.executor_core.specs.Cells.Calls.{cell_at, cancelled_in, after_end_ready, ready_answer}
 use Rattle.executor_core.specs.declared.interleave.events.Event.TheVariants.{Finished, Dropped}
 use Rattle.executor_core.proofs.ListLemmas.{push_items, within_get}
 use Rattle.executor_core.proofs.StepLemmas.{ready_step, ready_cancelled, cancelled_is, and_left, unpolled_there}

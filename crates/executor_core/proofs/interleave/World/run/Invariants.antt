@@ -1,6 +1,6 @@
 use Rattle.std.proofs.Common.{◌≡◌, ◌≤◌, length, ◌++◌}
 use Rattle.std.specs.Vec.{vec_capacity}
-use Rattle.executor_core.specs.Steps.{RunTo}
+use Rattle.executor_core.specs.World.Steps.{RunTo}
 use Rattle.executor_core.proofs.interleave.World.run.Given as goal
 
 abbrev pub invariant-loop-step : goal.invariant-loop-step

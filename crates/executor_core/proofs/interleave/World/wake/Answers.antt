@@ -1,6 +1,6 @@
 use Rattle.std.proofs.Common.{◌≡◌, ◌≢◌, subst, sym, ap, ◌∙◌, true}
-use Rattle.executor_core.specs.Log.{spawned}
-use Rattle.executor_core.specs.Calls.{cell_at, undropped_in, wakes, after_wake}
+use Rattle.executor_core.specs.World.Log.{spawned}
+use Rattle.executor_core.specs.Cells.Calls.{cell_at, undropped_in, wakes, after_wake}
 use Rattle.executor_core.proofs.AgreementLemmas.{spawned_within}
 use Rattle.executor_core.proofs.StepLemmas.{wake_step, dropped_by}
 use Rattle.executor_core.proofs.RowLemmas.{mark_queued, mark_stays}

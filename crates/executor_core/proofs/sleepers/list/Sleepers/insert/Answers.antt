@@ -1,5 +1,5 @@
 use Rattle.std.proofs.Common.{◌≡◌, ◌∙◌, ap, length, vec_len, Ok, rules, arith}
-use Rattle.executor_core.specs.SleepersCalls.{again, change_of}
+use Rattle.executor_core.specs.Sleepers.Calls.{again, change_of}
 use Rattle.executor_core.proofs.SleeperCallLemmas.{inserting}
 use Rattle.executor_core.proofs.sleepers.list.Sleepers.insert.Goals as goal
 

@@ -1,5 +1,5 @@
 use Rattle.std.proofs.Common.{◌∙◌, ap, sym}
-use Rattle.executor_core.specs.SleepersCalls.{after_notify, notify_answer}
+use Rattle.executor_core.specs.Sleepers.Calls.{after_notify, notify_answer}
 use Rattle.executor_core.proofs.SleeperCallLemmas.{kept_list, kept_answer, notified_list, notified_answer}
 use Rattle.executor_core.proofs.sleepers.list.Sleepers.notify.Goals as goal
 

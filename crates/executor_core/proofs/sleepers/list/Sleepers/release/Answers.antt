@@ -1,5 +1,5 @@
 use Rattle.std.proofs.Common.{◌≡◌, length, arith}
-use Rattle.executor_core.specs.SleepersView.{in_use}
+use Rattle.executor_core.specs.Sleepers.View.{in_use}
 use Rattle.executor_core.proofs.SleeperCallLemmas.{count_is, release_sound}
 use Rattle.executor_core.proofs.sleepers.list.Sleepers.release.Goals as goal
 

@@ -1,7 +1,7 @@
 use Rattle.std.proofs.Common.{◌≡◌, ◌∙◌, ap, sym, None, Some}
 use Rattle.std.specs.Map.{lookup}
 use Rattle.std.specs.Prelude.{◌==◌}
-use Rattle.executor_core.specs.SleepersCalls.{after_remove, removed_of}
+use Rattle.executor_core.specs.Sleepers.Calls.{after_remove, removed_of}
 use Rattle.executor_core.proofs.SleeperCallLemmas.{change_is, is_id, is_other, removed_sound, removed_list, removed_of_found, notified_removed_list, removed_of_notified, unknown_removed_list, unknown_removed_sound, removed_of_unknown}
 use Rattle.executor_core.proofs.sleepers.list.Sleepers.remove.Goals as goal
 

@@ -1,5 +1,5 @@
 use Rattle.std.proofs.Common.{◌∙◌, ap, sym}
-use Rattle.executor_core.specs.SleepersCalls.{again, change_of, after_update, update_answer}
+use Rattle.executor_core.specs.Sleepers.Calls.{again, change_of, after_update, update_answer}
 use Rattle.executor_core.specs.declared.sleepers.list.Update.TheVariants.{WasNotified}
 use Rattle.executor_core.proofs.SleeperCallLemmas.{is_id, is_other, slept_list, slept_answer, replaced_sound, replaced_list, replaced_answer}
 use Rattle.executor_core.proofs.sleepers.list.Sleepers.update.Goals as goal

@@ -1,5 +1,5 @@
 use Rattle.std.proofs.Common.{refl, sym, ap, ◌∙◌}
-use Rattle.executor_core.specs.Calls.{after_cancel, cancel_queues, handle_in}
+use Rattle.executor_core.specs.Cells.Calls.{after_cancel, cancel_queues, handle_in}
 use Rattle.executor_core.proofs.WriteLemmas.{cell_at_is}
 use Rattle.executor_core.proofs.TableLemmas.{numbers_of-push}
 use Rattle.executor_core.proofs.RemoveLemmas.{facts_at}

@@ -1,7 +1,7 @@
 use Rattle.std.proofs.Common.{◌≡◌, Some, None, refl, sym, ap, ◌∙◌}
-use Rattle.executor_core.specs.Calls.{after_detach, detach_answer, detach_at, handle_in, cell_at}
-use Rattle.executor_core.specs.States.{is_undropped}
-use Rattle.executor_core.specs.CellChanges.{output_of}
+use Rattle.executor_core.specs.Cells.Calls.{after_detach, detach_answer, detach_at, handle_in, cell_at}
+use Rattle.executor_core.specs.Cell.{is_undropped}
+use Rattle.executor_core.specs.Cell.Changes.{output_of}
 use Rattle.executor_core.proofs.WriteLemmas.{cell_at_is}
 use Rattle.executor_core.proofs.RemoveLemmas.{facts_at, remove_table}
 use Rattle.executor_core.proofs.EndReadyLemmas.{end_handle_sound, set_table, known}

@@ -1,5 +1,5 @@
 use Rattle.std.proofs.Common.{ap, ◌∙◌}
-use Rattle.executor_core.specs.Calls.{detach_answer, cell_at}
+use Rattle.executor_core.specs.Cells.Calls.{detach_answer, cell_at}
 use Rattle.executor_core.proofs.DetachLemmas.{detach_answer-after_cancel}
 use Rattle.executor_core.proofs.task.table.Cells.drop_handle.Goals as goal
 

@@ -1,5 +1,5 @@
 use Rattle.std.proofs.Common.{◌≡◌, Some, refl, sym, ap, ◌∙◌}
-use Rattle.executor_core.specs.Calls.{after_end_dropped, dropped_answer, end_dropped_at, held_in, cell_at}
+use Rattle.executor_core.specs.Cells.Calls.{after_end_dropped, dropped_answer, end_dropped_at, held_in, cell_at}
 use Rattle.executor_core.proofs.WriteLemmas.{cell_at_is}
 use Rattle.executor_core.proofs.RemoveLemmas.{facts_at, remove_table}
 use Rattle.executor_core.proofs.EndReadyLemmas.{leave_sound, set_table, known}

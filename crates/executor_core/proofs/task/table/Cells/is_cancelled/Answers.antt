@@ -1,5 +1,5 @@
 use Rattle.std.proofs.Common.{sym, ap, ◌∙◌}
-use Rattle.executor_core.specs.Calls.{cancelled_in, cell_at}
+use Rattle.executor_core.specs.Cells.Calls.{cancelled_in, cell_at}
 use Rattle.executor_core.proofs.WriteLemmas.{cell_at_is}
 use Rattle.executor_core.proofs.task.table.Cells.is_cancelled.Goals as goal
 

@@ -1,7 +1,7 @@
 use Rattle.std.proofs.Common.{deque_capacity, sym, subst}
 use Rattle.std.proofs.lemmas.Bool.{eqb-true, eq-eqb}
-use Rattle.executor_core.specs.TableView.{IsSound}
-use Rattle.executor_core.specs.Calls.{AllDropped}
+use Rattle.executor_core.specs.Cells.View.{IsSound}
+use Rattle.executor_core.specs.Cells.Calls.{AllDropped}
 use Rattle.executor_core.proofs.SpawnLemmas.{all_dropped, none_undropped}
 use Rattle.executor_core.proofs.task.table.Cells.is_empty.Goals as goal
 

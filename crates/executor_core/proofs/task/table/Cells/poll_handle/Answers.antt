@@ -1,6 +1,6 @@
 use Rattle.std.proofs.Common.{◌≡◌, Some, refl, sym, ap, ◌∙◌}
-use Rattle.executor_core.specs.Calls.{after_poll_handle, poll_answer, poll_handle_at, handle_in, cell_at, ended_answer}
-use Rattle.executor_core.specs.States.{is_undropped}
+use Rattle.executor_core.specs.Cells.Calls.{after_poll_handle, poll_answer, poll_handle_at, handle_in, cell_at, ended_answer}
+use Rattle.executor_core.specs.Cell.{is_undropped}
 use Rattle.executor_core.proofs.WriteLemmas.{cell_at_is}
 use Rattle.executor_core.proofs.RemoveLemmas.{facts_at, remove_table}
 use Rattle.executor_core.proofs.EndReadyLemmas.{await_sound, end_handle_sound, poll_nothing, poll_absent, polled_some, poll_some, set_table, known}

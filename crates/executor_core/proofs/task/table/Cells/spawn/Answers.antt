@@ -1,7 +1,7 @@
 use Rattle.std.proofs.Common.{sym, ap, ◌∙◌, ◌≤◌, ◌+◌, ◌++◌, ◌∷◌, [], arith, deque_capacity, get_or, Some, None}
 use Rattle.std.proofs.lemmas.Grind.{common_steps}
-use Rattle.executor_core.specs.Calls.{after_spawn}
-use Rattle.executor_core.specs.TableView.{table_of}
+use Rattle.executor_core.specs.Cells.Calls.{after_spawn}
+use Rattle.executor_core.specs.Cells.View.{table_of}
 use Rattle.executor_core.proofs.SpawnLemmas.{roomier, regrown, spawn_sound, spawn_table, spawn_free}
 use Rattle.executor_core.proofs.task.table.Cells.spawn.Goals as goal
 

@@ -1,6 +1,6 @@
 use Rattle.std.proofs.Common.{◌≡◌, refl, sym, ap, ◌∙◌}
-use Rattle.executor_core.specs.Calls.{after_take}
-use Rattle.executor_core.specs.States.{is_scheduled}
+use Rattle.executor_core.specs.Cells.Calls.{after_take}
+use Rattle.executor_core.specs.Cell.{is_scheduled}
 use Rattle.executor_core.proofs.WriteLemmas.{front_cell}
 use Rattle.executor_core.proofs.TakeLemmas.{take_sound, take_table, taken_from}
 use Rattle.executor_core.proofs.task.table.Cells.take_global.Goals as goal
@@ -24,4 +24,4 @@ returns-clause-table g c =
 
 pub returns-clause-some : goal.returns-clause-some
 returns-clause-some g c =
-    rw (← c.self.view_is) (taken_from c.self.invariant c.in-Some-pop_front.id c.index_mut.result.now c.replace_with-future.result.0 c.index_mut.ensures.value c.in-Some-pop_front.ensures.items c.replace_with-future.ensures.1.0 c.replace_with-future.result.1 c.replace_with-future.ensures.1.1)
+    rw (← c.self.view_is) (taken_from c.self.invariant _ c.index_mut.result.now c.index_mut.ensures.value c.in-Some-pop_front.ensures.items c.replace_with-future.ensures.1.0 c.replace_with-future.ensures.1.1)

@@ -1,5 +1,5 @@
 use Rattle.std.proofs.Common.{◌∙◌, ap}
-use Rattle.executor_core.specs.Calls.{undropped_count}
+use Rattle.executor_core.specs.Cells.Calls.{undropped_count}
 use Rattle.executor_core.proofs.UndroppedLemmas.{undropped_is}
 use Rattle.executor_core.proofs.task.table.Cells.undropped.Goals as goal
 

@@ -1,5 +1,5 @@
 use Rattle.std.proofs.Common.{refl, sym, ap, ◌∙◌}
-use Rattle.executor_core.specs.Calls.{idle_in, wake_at}
+use Rattle.executor_core.specs.Cells.Calls.{idle_in, wake_at}
 use Rattle.executor_core.proofs.TableLemmas.{cell_at_none, number_at, numbers_of-push}
 use Rattle.executor_core.proofs.WakeLemmas.{quiet_sound, loud_sound, wake_table, wakes_at}
 use Rattle.executor_core.proofs.task.table.Cells.wake.Goals as goal

@@ -1,9 +1,9 @@
 -- Which step a world takes at a request, row by row.
 use Rattle.std.specs.Prelude.{◌≡◌, ◌≢◌, ◌⊎◌, ℕ, ◌+◌, ◌-◌, nat_lt, Bool, true, false, List, [], ◌∷◌, ◌++◌, length, Option, Some, None, cond, ◌&&◌, ◌||◌, not, slice_get, slice_set}
-use Rattle.executor_core.specs.Log.{spawned, dropped, cancelled, held, woken, idle, outputs}
+use Rattle.executor_core.specs.World.Log.{spawned, dropped, cancelled, held, woken, idle, outputs}
 use Rattle.std.specs.Map.{keys_of}
-use Rattle.executor_core.specs.Execution.{Execution}
-use Rattle.executor_core.specs.SleepersCalls.{no_sleepers, last_of, all_unnotified, after_notify}
+use Rattle.executor_core.specs.World.{Execution}
+use Rattle.executor_core.specs.Sleepers.Calls.{no_sleepers, last_of, all_unnotified, after_notify}
 use Rattle.executor_core.specs.declared.interleave.tasks.TaskInfo.{TaskInfo}
 use Rattle.executor_core.specs.declared.interleave.events.Purpose.TheVariants.{ToPoll, ToDrop}
 use Rattle.executor_core.specs.declared.interleave.events.Event.{Event}
@@ -71,9 +71,9 @@ module _ {T : Type 0} where
   cancel_row n w = mark_row (Cancelled n) n w
 
   -- trytick: the front of the global queue is taken
-  abbrev pub tick_row : List ℕ → Execution T → Reply T × Execution T
-  tick_row [] w = (reply.NoTask, w)
-  tick_row (n ∷ rest) w =
+  abbrev pub take_row : List ℕ → Execution T → Reply T × Execution T
+  take_row [] w = (reply.NoTask, w)
+  take_row (n ∷ rest) w =
       cond (cancelled n w.log)
       (reply.Drop n, noticed (logged (Took n ToDrop) (informed n (record (info n w) { to_drop = true }) (record w { global = rest }))))
       (reply.Poll n, noticed (logged (Took n ToPoll) (informed n (record (info n w) { to_drop = false }) (record w { global = rest }))))
@@ -175,7 +175,7 @@ module _ {P T : Type 0} where
   abbrev pub Does : Step P T → Execution T → Reply T → Execution T → Type 0
   Does (Spawn p) old answer new = Spawns old answer new
   Does (Wake n) old answer new = row (wake_row n old) answer new
-  Does TryTick old answer new = row (tick_row old.global old) answer new
+  Does TryTick old answer new = row (take_row old.global old) answer new
   Does (Pend n) old answer new = row (pend_row n old) answer new
   Does (Ready n t) old answer new = row (ready_row n t old) answer new
   Does (PollHandle n) old answer new = row (handle_row n old) answer new

@@ -1,9 +1,9 @@
 -- How the fields of a `World` are seen, and what holds of them.
 use Rattle.std.specs.Prelude.{◌≡◌, ◌+◌, length}
 use Rattle.std.specs.Vec.{vec_capacity}
-use Rattle.executor_core.specs.Agreement.{Agree, HasRoom}
-use Rattle.executor_core.specs.Execution.{Execution}
-use Rattle.executor_core.specs.SleepersCalls.{no_sleepers}
+use Rattle.executor_core.specs.World.Agreement.{Agree, HasRoom}
+use Rattle.executor_core.specs.World.{Execution}
+use Rattle.executor_core.specs.Sleepers.Calls.{no_sleepers}
 use Rattle.executor_core.specs.declared.interleave.World.TheInside.{Inside}
 
 module _ {P T : Type 0} where

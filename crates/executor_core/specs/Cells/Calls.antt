@@ -1,12 +1,12 @@
 -- What each call makes of the table, and what it answers.
 use Rattle.std.specs.Prelude.{◌≡◌, ◌≢◌, ℕ, ◌+◌, ◌==◌, Bool, true, false, List, [], ◌∷◌, ◌++◌, Option, Some, None, cond, is_some, count_by, ◌&&◌, ◌||◌, not}
 use Rattle.std.specs.FinMap as map
-use Rattle.executor_core.specs.Table.{Slotted, Table}
-use Rattle.executor_core.specs.States.{is_idle, is_held, is_scheduled, is_undropped}
-use Rattle.executor_core.specs.CellChanges.{new_cell, woken, taken, pended, readied, awaited, cancelled_cell, detached, disposed, takes_back, output_of, is_finished_state, wakeup_of}
+use Rattle.executor_core.specs.Cells.{Slotted, Table}
+use Rattle.executor_core.specs.Cell.{is_idle, is_held, is_scheduled, is_undropped}
+use Rattle.executor_core.specs.Cell.Changes.{new_cell, woken, taken, pended, readied, awaited, cancelled_cell, detached, disposed, takes_back, output_of, is_finished_state, wakeup_of}
 use Rattle.executor_core.specs.declared.task.cell.Cell.{Cell}
-use Rattle.executor_core.specs.declared.task.cell.State.TheVariants.{Scheduled}
-use Rattle.executor_core.specs.declared.task.values.TaskId.{TaskId}
+use Rattle.executor_core.specs.declared.task.cell.CellState.TheVariants.{Scheduled}
+use Rattle.executor_core.specs.declared.task.id.TaskId.{TaskId}
 use Rattle.executor_core.specs.declared.task.values.Taken.{Taken}
 use Rattle.executor_core.specs.declared.task.values.Held.{Held}
 use Rattle.executor_core.specs.declared.task.values.Wakeup.{Wakeup}
@@ -108,27 +108,36 @@ module _ {P T W : Type 0} where
   abbrev pub wakes : Table P T W → TaskId → Bool
   wakes table id = idle_in (cell_at table id)
 
+-- a take: what becomes of the cell, whichever queue the number stands in
+module _ {P T W : Type 0} where
+  abbrev pub with_taken_at : Table P T W → ℕ → Option (Slotted P T W) → Table P T W
+  with_taken_at table n None = table
+  with_taken_at table n (Some s) = record table { cells = map.insert table.cells n (record { slot = s.slot; cell = taken s.cell }) }
+
+  -- the number's cell is held
+  abbrev pub with_taken : Table P T W → ℕ → Table P T W
+  with_taken table n = with_taken_at table n (map.get table.cells n)
+
+  -- the task has the number, the slot, the future and the cancel mark of a scheduled cell
+  pub record IsTaken (table : Table P T W) (task : Taken P) : Type 0 where
+    pub cell : Cell P T W
+    pub found : map.get table.cells task.id.number ≡ Some (record { slot = task.id.slot; cell = cell })
+    pub future : cell.state ≡ Scheduled task.future
+    pub cancelled : task.cancelled ≡ cell.cancelled
+
 -- take_global
 module _ {P T W : Type 0} where
-  abbrev pub take_at : Table P T W → ℕ → List ℕ → Option (Slotted P T W) → Table P T W
-  take_at table n rest None = table
-  take_at table n rest (Some s) = record table { cells = map.insert table.cells n (record { slot = s.slot; cell = taken s.cell }); global = rest }
-
   abbrev pub take_first : Table P T W → List ℕ → Table P T W
   take_first table [] = table
-  take_first table (n ∷ rest) = take_at table n rest (map.get table.cells n)
+  take_first table (n ∷ rest) = record (with_taken table n) { global = rest }
 
   abbrev pub after_take : Table P T W → Table P T W
   after_take table = take_first table table.global
 
-  -- the taken task has the number at the front, and the slot, the future and the cancel mark of its scheduled cell
+  -- the task stood at the front, before these
   pub record TakesFront (table : Table P T W) (rest : List ℕ) (task : Taken P) : Type 0 where
-    pub cell : Cell P T W
-    pub first : table.global ≡ task.id.number ∷ rest
-    pub found : map.get table.cells task.id.number ≡ Some (record { slot = task.id.slot; cell = cell })
-    pub future : cell.state ≡ Scheduled task.future
-    pub cancelled : task.cancelled ≡ cell.cancelled
-    pub held : task.held ≡ record { id = task.id; to_drop = false }
+    pub taken : IsTaken table task
+    pub front : table.global ≡ task.id.number ∷ rest
 
 -- end_pending
 module _ {P T W : Type 0} where

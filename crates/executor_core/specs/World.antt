@@ -1,4 +1,9 @@
 -- What a contract sees of a `World`.
+pub mod Agreement
+pub mod Log
+pub mod Promises
+pub mod Steps
+pub mod View
 use Rattle.std.specs.Prelude.{◌≡◌, ℕ, zero, suc, Bool, List, refl, true, false, ◌⊎◌}
 use Rattle.std.proofs.Common.{inl, inr}
 use Rattle.std.specs.Coded.{Coded, code_by, coded×, coded⊎, coded_ℕ, coded_list, coded_bool}

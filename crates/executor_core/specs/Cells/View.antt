@@ -3,12 +3,13 @@ use Rattle.std.specs.Prelude.{◌≡◌, ℕ, ◌+◌, ◌<◌, ◌≤◌, ◌==
 use Rattle.std.specs.Ordering.{nat_cmp}
 use Rattle.std.specs.FinMap as map
 use Rattle.std.specs.List.{All}
-use Rattle.executor_core.specs.Table.{Slotted, Table}
-use Rattle.executor_core.specs.States.{is_idle, is_held, is_undropped, LockLaw}
-use Rattle.executor_core.specs.CellChanges.{takes_back}
+use Rattle.executor_core.specs.Cells.{Slotted, Table}
+use Rattle.executor_core.specs.Cell.{is_idle, is_held, is_undropped}
+use Rattle.executor_core.specs.Cells.Law.{ScheduledOnce}
+use Rattle.executor_core.specs.Cell.Changes.{takes_back}
 use Rattle.executor_core.specs.declared.task.cell.Cell.{Cell}
 use Rattle.executor_core.specs.declared.task.cell.Numbered.{Numbered}
-use Rattle.executor_core.specs.declared.task.values.TaskId.{TaskId}
+use Rattle.executor_core.specs.declared.task.id.TaskId.{TaskId}
 
 abbrev pub numbers_of : List TaskId → List ℕ
 numbers_of ids = list_map (λ id. id.number) ids
@@ -66,7 +67,7 @@ module _ {P T W : Type 0} where
     pub below : (i : ℕ) (c : Numbered (Cell P T W)) → slice_index_or slots i None ≡ Some c → c.number < next
     pub distinct : Distinct slots
     pub placed : All (Placed (cells_of slots)) ids
-    pub law : LockLaw (cells_of slots) (numbers_of ids)
+    pub law : ScheduledOnce (cells_of slots) (numbers_of ids)
     pub settled : (i : ℕ) (c : Numbered (Cell P T W)) → slice_index_or slots i None ≡ Some c → Settled c.cell
     pub counted : undropped ≡ length ids + count_by is_queueable slots
     pub room : undropped ≤ capacity

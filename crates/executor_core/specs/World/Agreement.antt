@@ -2,16 +2,16 @@
 use Rattle.std.specs.Prelude.{◌≡◌, ℕ, ◌+◌, ◌*◌, ◌≤◌, Bool, true, false, List, [], ◌∷◌, length, Option, Some, None, cond, ◌||◌, not, is_some, slice_get}
 use Rattle.std.specs.List.{list_any}
 use Rattle.std.specs.FinMap as map
-use Rattle.executor_core.specs.Table.{Slotted, Table}
-use Rattle.executor_core.specs.Calls.{cell_at, poll_answer, finished_in}
-use Rattle.executor_core.specs.Log.{handle_finished, is_take, is_cancel, unfollowed, spawned, dropped, cancelled, held, woken, outputs, given, polls, wakes}
-use Rattle.executor_core.specs.Promises.{InOrder}
+use Rattle.executor_core.specs.Cells.{Slotted, Table}
+use Rattle.executor_core.specs.Cells.Calls.{cell_at, poll_answer, finished_in}
+use Rattle.executor_core.specs.World.Log.{handle_finished, is_take, is_cancel, unfollowed, spawned, dropped, cancelled, held, woken, outputs, given, polls, wakes}
+use Rattle.executor_core.specs.World.Promises.{InOrder}
 use Rattle.executor_core.specs.declared.interleave.tasks.TaskInfo.{TaskInfo}
 use Rattle.executor_core.specs.declared.interleave.tasks.FutureOut.{FutureOut}
 use Rattle.executor_core.specs.declared.interleave.tasks.FutureOut.TheVariants.{Unpolled, Polled}
-use Rattle.executor_core.specs.declared.task.cell.State.{State}
-use Rattle.executor_core.specs.declared.task.cell.State.TheVariants.{Idle, Scheduled, Held, Finished, Gone}
-use Rattle.executor_core.specs.declared.task.values.TaskId.{TaskId}
+use Rattle.executor_core.specs.declared.task.cell.CellState.{CellState}
+use Rattle.executor_core.specs.declared.task.cell.CellState.TheVariants.{Idle, Scheduled, Held, Finished, Gone}
+use Rattle.executor_core.specs.declared.task.id.TaskId.{TaskId}
 use Rattle.executor_core.specs.declared.task.handles.PollHandle.{PollHandle}
 use Rattle.executor_core.specs.declared.task.handles.PollHandle.TheVariants as handle
 use Rattle.executor_core.specs.declared.interleave.events.Event.{Event}
@@ -93,7 +93,7 @@ module _ {T : Type 0} where
 
 module _ {P T : Type 0} where
   -- what the log says of a task whose cell has this state, and this woken mark
-  abbrev pub StateAgrees : State P T → Bool → Status T → Type 0
+  abbrev pub StateAgrees : CellState P T → Bool → Status T → Type 0
   StateAgrees (Idle p) w s = IsUndropped s false × (s.taken ≡ true) × (s.woken ≡ false) × (s.cancelled ≡ false) × (s.cancelled_since ≡ false)
   StateAgrees (Scheduled p) w s = IsUndropped s false × (not s.taken || s.woken || s.cancelled_since ≡ true)
   StateAgrees Held w s = IsUndropped s true × (s.taken ≡ true) × (s.woken ≡ w)

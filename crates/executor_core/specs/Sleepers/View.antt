@@ -2,7 +2,7 @@
 use Rattle.std.specs.Prelude.{◌≡◌, ℕ, ◌≤◌, Bool, ◌&&◌, nat_le, List, ◌++◌, length, Option, option_to_list, cond}
 use Rattle.std.specs.FinSet as set
 use Rattle.std.specs.Map.{keys_of}
-use Rattle.executor_core.specs.States.{times}
+use Rattle.executor_core.specs.Numbers.{times}
 use Rattle.executor_core.specs.Sleepers.{SleeperList}
 
 -- these are 1 to their total, each once

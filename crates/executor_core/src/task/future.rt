@@ -1,5 +1,5 @@
 //! What futures and wakers are.
-use crate::task::refusals::OutOfMemory;
+use crate::task::error::OutOfMemory;
 
 /// Asks whoever polls for another poll. It stands for `std::task::Waker`.
 pub trait Wake: Drop {

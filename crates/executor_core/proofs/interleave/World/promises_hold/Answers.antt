@@ -1,11 +1,11 @@
 use Rattle.std.proofs.Common.{subst}
-use Rattle.executor_core.specs.Promises.{OnePlace, FewPolls, FlagLaw, Covered}
+use Rattle.executor_core.specs.World.Promises.{OnePlace, FewPolls, FlagLaw, Covered}
 use Rattle.executor_core.proofs.AgreementLemmas.{one_place, few_polls}
 use Rattle.executor_core.proofs.NoticeLemmas.{flag_law, covered}
-use Rattle.executor_core.proofs.interleave.World.keeps_promises.Goals as goal
+use Rattle.executor_core.proofs.interleave.World.promises_hold.Goals as goal
 
 pub returns-clause-one_place : goal.returns-clause-one_place
-returns-clause-one_place g c = subst (λ w. OnePlace w.log w.global) c.self.view_is (one_place c.self.invariant.agree c.keeps_law.ensures)
+returns-clause-one_place g c = subst (λ w. OnePlace w.log w.global) c.self.view_is (one_place c.self.invariant.agree c.law_holds.ensures)
 
 pub returns-clause-few_polls : goal.returns-clause-few_polls
 returns-clause-few_polls g c = subst (λ w. FewPolls w.log) c.self.view_is (few_polls c.self.invariant.agree)

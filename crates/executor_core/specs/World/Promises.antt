@@ -1,9 +1,9 @@
 -- What holds of every log, and of the queue, the flag and the sleepers beside it.
 use Rattle.std.specs.Prelude.{◌≡◌, ◌≢◌, ℕ, ◌+◌, ◌<◌, ◌≤◌, nat_lt, Bool, true, false, ◌||◌, List, [], ◌∷◌, ◌++◌, length, cond}
 use Rattle.std.specs.FinSet as set
-use Rattle.executor_core.specs.States.{times}
+use Rattle.executor_core.specs.Numbers.{times}
 use Rattle.executor_core.specs.Sleepers.{SleeperList, is_notified}
-use Rattle.executor_core.specs.Log.{cancelled, held, dropped, owed, outputs, given, polls, wakes}
+use Rattle.executor_core.specs.World.Log.{cancelled, held, dropped, owed, outputs, given, polls, wakes}
 use Rattle.executor_core.specs.declared.interleave.events.Purpose.TheVariants.{ToPoll, ToDrop}
 use Rattle.executor_core.specs.declared.interleave.events.Event.{Event}
 use Rattle.executor_core.specs.declared.interleave.events.Event.TheVariants.{Took, Finished, Dropped, Got}

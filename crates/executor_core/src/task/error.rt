@@ -1,6 +1,6 @@
 //! Why a call gave up, with what it was handed.
 ghost use Rattle.std.specs.Prelude.{◌≡◌};
-ghost use Rattle.executor_core.specs.Refusals.{refused_future};
+ghost use Rattle.executor_core.specs.SpawnError.{refused_future};
 
 use std::alloc::AllocError;
 use thiserror::Error;

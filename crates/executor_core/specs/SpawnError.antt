@@ -1,7 +1,7 @@
 -- Why a call gave up.
 use Rattle.std.specs.Prelude.{◌≡◌, ◌≢◌, ℕ}
-use Rattle.executor_core.specs.declared.task.refusals.SpawnError.{SpawnError}
-use Rattle.executor_core.specs.declared.task.refusals.SpawnError.TheVariants.{OutOfMemory, Exhausted}
+use Rattle.executor_core.specs.declared.task.error.SpawnError.{SpawnError}
+use Rattle.executor_core.specs.declared.task.error.SpawnError.TheVariants.{OutOfMemory, Exhausted}
 
 -- the number that no task gets
 abbrev pub last_number : ℕ

@@ -1,21 +1,21 @@
 -- What each call makes of one cell.
 use Rattle.std.specs.Prelude.{Bool, true, false, Option, Some, None, cond, ◌&&◌, not}
-use Rattle.executor_core.specs.States.{is_held, is_undropped}
+use Rattle.executor_core.specs.Cell.{is_held, is_undropped}
 use Rattle.executor_core.specs.declared.task.cell.Cell.{Cell}
-use Rattle.executor_core.specs.declared.task.cell.State.{State}
-use Rattle.executor_core.specs.declared.task.cell.State.TheVariants.{Idle, Scheduled, Held, Finished, Gone}
+use Rattle.executor_core.specs.declared.task.cell.CellState.{CellState}
+use Rattle.executor_core.specs.declared.task.cell.CellState.TheVariants.{Idle, Scheduled, Held, Finished, Gone}
 use Rattle.executor_core.specs.declared.task.values.Wakeup.{Wakeup}
 
 module _ {P T : Type 0} where
   -- an idle task is scheduled
-  abbrev pub state_woken : State P T → State P T
+  abbrev pub state_woken : CellState P T → CellState P T
   state_woken (Idle p) = Scheduled p
   state_woken (Scheduled p) = Scheduled p
   state_woken Held = Held
   state_woken (Finished t) = Finished t
   state_woken Gone = Gone
 
-  abbrev pub output_of : State P T → Option T
+  abbrev pub output_of : CellState P T → Option T
   output_of (Idle p) = None
   output_of (Scheduled p) = None
   output_of Held = None
@@ -23,7 +23,7 @@ module _ {P T : Type 0} where
   output_of Gone = None
 
   -- what a handle hears of its task, by the cancel mark and the state: the future was dropped, or nobody will poll it again
-  abbrev pub is_finished_state : Bool → State P T → Bool
+  abbrev pub is_finished_state : Bool → CellState P T → Bool
   is_finished_state cancelled (Idle p) = false
   is_finished_state cancelled (Scheduled p) = cancelled
   is_finished_state cancelled Held = cancelled
