@@ -43,7 +43,9 @@ impl<F: Future<TaskWaker<W, R>>, W: Wake, R: Wait + Clone + Drop> Poller<(), ()>
 
     ghost disposals = { λ p. p.disposals };
 
-    ghost answers = { λ p future answer. Unit {0} };
+    ghost answers = { λ p id future answer. Unit {0} };
+
+    ghost disposed = { λ p id future after. Unit {0} };
 
     /// Polls the future once. One that is ready is dropped, and its output is kept in its stead.
     fn poll(&mut self, _id: TaskId, _future: ()) -> Polled<(), ()> {
