@@ -113,7 +113,8 @@ fn remove_waker<W>(pairs: &mut Vec<(usize, W)>, id: usize) -> Option<W>
 impl<W> Sleepers<W> {
     /// Nobody sleeps, and no place is reserved. It takes no memory.
     pub fn new(alloc: Global) -> Self
-        ensures { result ≡ no_sleepers }
+        ensures list { result ≡ no_sleepers }
+        ensures law { SleeperLaw result }
     {
         Sleepers {
             unnotified: Vec::new(alloc),
@@ -132,6 +133,7 @@ impl<W> Sleepers<W> {
     pub fn reserve(&mut self) -> Result<(), OutOfMemory>
         ensures ok { OnOk result (self.new ≡ record self.old { places = self.old.places + 1 }) }
         ensures refused { OnErr result (self.new ≡ self.old) }
+        ensures law { SleeperLaw self.new }
     {
         let places = self.places + 1;
         reserve_places(&mut self.unnotified, places)?;
@@ -142,7 +144,8 @@ impl<W> Sleepers<W> {
 
     /// Gives one place back, where one is free, and else changes nothing. It gives no memory back.
     pub fn release(&mut self)
-        ensures { self.new ≡ after_release self.old }
+        ensures list { self.new ≡ after_release self.old }
+        ensures law { SleeperLaw self.new }
     {
         if self.numbers() < self.places {
             self.places -= 1;
@@ -161,6 +164,7 @@ impl<W> Sleepers<W> {
         requires { self.old.is_open ≡ false }
         ensures list { self.new ≡ after_insert self.old waker }
         ensures answer { result ≡ insert_answer self.old waker }
+        ensures law { SleeperLaw self.new }
     {
         let used = self.numbers();
         if used >= self.places {
@@ -181,6 +185,7 @@ impl<W> Sleepers<W> {
         requires { self.old.is_open ≡ false }
         ensures list { self.new ≡ after_update self.old id waker }
         ensures answer { result ≡ update_answer self.old id waker }
+        ensures law { SleeperLaw self.new }
     {
         if self.notified == Some(id) {
             self.notified = None;
@@ -200,6 +205,7 @@ impl<W> Sleepers<W> {
         requires { self.old.is_open ≡ false }
         ensures list { self.new ≡ after_remove self.old id }
         ensures answer { result ≡ remove_answer self.old id }
+        ensures law { SleeperLaw self.new }
     {
         self.is_open = true;
         if self.notified == Some(id) {
@@ -231,6 +237,7 @@ impl<W> Sleepers<W> {
         requires { self.old.is_open ≡ false }
         ensures list { self.new ≡ after_notify self.old }
         ensures answer { result ≡ notify_answer self.old }
+        ensures law { SleeperLaw self.new }
     {
         let Pick { unspent: () } = pick;
         if self.notified.is_some() {
@@ -285,7 +292,8 @@ impl<W> Sleepers<W> {
 
     // What the change is about, with what the flag is to say of the list as it is now.
     fn change<X>(&self, carried: X) -> Change<X>
-        ensures { result ≡ change_of self.now carried }
+        ensures change { result ≡ change_of self.now carried }
+        ensures law { SleeperLaw self.now }
     {
         Change {
             notified: self.is_notified(),
@@ -295,7 +303,8 @@ impl<W> Sleepers<W> {
 
     // The flag was stored.
     pub(crate) fn close(&mut self)
-        ensures { self.new ≡ closed self.old }
+        ensures list { self.new ≡ closed self.old }
+        ensures law { SleeperLaw self.new }
     {
         self.is_open = false;
     }

@@ -1,6 +1,9 @@
-use Rattle.std.proofs.Common.{◌∙◌, ap, sym}
+use Rattle.std.proofs.Common.{◌∙◌, ap, subst, sym, arith, rules}
+use Rattle.std.proofs.lemmas.Grind.{common_steps}
 use Rattle.executor_core.specs.Sleepers.Calls.{after_notify, notify_answer}
 use Rattle.executor_core.proofs.SleeperCallLemmas.{kept_list, kept_answer, notified_list, notified_answer}
+use Rattle.executor_core.proofs.SleeperListLemmas.{lawful}
+use Rattle.executor_core.specs.Sleepers.{SleeperLaw}
 use Rattle.executor_core.proofs.sleepers.list.Sleepers.notify.Goals as goal
 
 pub returns-then-is_some-clause-list : goal.returns-then-is_some-clause-list
@@ -22,3 +25,18 @@ pub returns-clause-answer : goal.returns-clause-answer
 returns-clause-answer g c =
     notified_answer c.self.invariant c.self.inside.is_open c.pop.new.self.items c.in_ok-id.id c.in_ok-id.waker (sym c.is_some.ensures ∙ c.if-is_some.false) c.in_ok-id.ensures.items
     ∙ ap notify_answer c.self.view_is
+
+pub invariant_of-self : goal.invariant_of-self
+invariant_of-self g c = search rules
+
+pub invariant_of-self-2 : goal.invariant_of-self-2
+invariant_of-self-2 g c = grind (arith, common_steps)
+
+pub returns-then-is_some-clause-law : goal.returns-then-is_some-clause-law
+returns-then-is_some-clause-law g c = subst SleeperLaw c.self.view_is (lawful c.self.inside.is_open c.self.invariant)
+
+pub returns-in_err-id-clause-law : goal.returns-in_err-id-clause-law
+returns-in_err-id-clause-law g c = lawful c.self.inside.is_open (invariant_of-self g c)
+
+pub returns-clause-law : goal.returns-clause-law
+returns-clause-law g c = lawful c.self.inside.is_open (invariant_of-self-2 g c)

@@ -15,7 +15,7 @@ returns-then-eq-clause-list g c =
 
 pub returns-then-eq-clause-answer : goal.returns-then-eq-clause-answer
 returns-then-eq-clause-answer g c =
-    change_is c.change.ensures (returns-then-eq-clause-list g c)
+    change_is c.change.ensures.change (returns-then-eq-clause-list g c)
     (
     removed_of_notified c.self.invariant c.self.inside.is_open c.args.id (is_id c.self.inside.notified c.args.id (sym c.eq.ensures ∙ c.if-eq.true))
     ∙ ap (λ s. removed_of s c.args.id) c.self.view_is
@@ -38,7 +38,7 @@ returns-in_default-clause-list g c =
 pub returns-in_default-clause-answer : goal.returns-in_default-clause-answer
 returns-in_default-clause-answer g c =
     let none : lookup (λ k. k == c.args.id) c.self.inside.unnotified.items ≡ None = sym c.remove_waker.ensures.answer ∙ c.in_default.is in
-    change_is c.change-in_default.ensures (returns-in_default-clause-list g c)
+    change_is c.change-in_default.ensures.change (returns-in_default-clause-list g c)
     (
     removed_of_unknown c.self.invariant c.self.inside.is_open c.args.id (is_other c.self.inside.notified c.args.id (sym c.eq.ensures ∙ c.if-eq.false)) none
     ∙ ap (λ s. removed_of s c.args.id) c.self.view_is
@@ -59,5 +59,5 @@ returns-clause-list g c =
 pub returns-clause-answer : goal.returns-clause-answer
 returns-clause-answer g c =
     let found : lookup (λ k. k == c.args.id) c.self.inside.unnotified.items ≡ Some c.in-Some.waker = sym c.remove_waker.ensures.answer ∙ c.in-Some.is in
-    change_is c.change-2.ensures (returns-clause-list g c)
+    change_is c.change-2.ensures.change (returns-clause-list g c)
     (removed_of_found c.self.invariant c.self.inside.is_open c.args.id c.in-Some.waker found ∙ ap (λ s. removed_of s c.args.id) c.self.view_is)

@@ -2,6 +2,7 @@ use Rattle.std.proofs.Common.{◌∙◌, ap, sym}
 use Rattle.executor_core.specs.Sleepers.Calls.{again, change_of, after_update, update_answer}
 use Rattle.executor_core.specs.declared.sleepers.list.Update.TheVariants.{WasNotified}
 use Rattle.executor_core.proofs.SleeperCallLemmas.{is_id, is_other, slept_list, slept_answer, replaced_sound, replaced_list, replaced_answer}
+use Rattle.executor_core.proofs.SleeperListLemmas.{lawful}
 use Rattle.executor_core.proofs.sleepers.list.Sleepers.update.Goals as goal
 
 pub returns-then-eq-clause-list : goal.returns-then-eq-clause-list
@@ -14,7 +15,7 @@ returns-then-eq-clause-list g c =
 
 pub returns-then-eq-clause-answer : goal.returns-then-eq-clause-answer
 returns-then-eq-clause-answer g c =
-    ap WasNotified (c.change.ensures ∙ ap (λ s. change_of s again) (returns-then-eq-clause-list g c))
+    ap WasNotified (c.change.ensures.change ∙ ap (λ s. change_of s again) (returns-then-eq-clause-list g c))
     ∙ slept_answer c.self.invariant c.self.inside.is_open c.self.view_is c.args.id c.args.waker (is_id c.self.inside.notified c.args.id (sym c.eq.ensures ∙ c.if-eq.true))
 
 pub invariant_of-self-2 : goal.invariant_of-self-2
@@ -32,3 +33,6 @@ pub returns-clause-answer : goal.returns-clause-answer
 returns-clause-answer g c =
     replaced_answer c.self.invariant c.self.inside.is_open c.args.id c.args.waker c.replace_waker.result (is_other c.self.inside.notified c.args.id (sym c.eq.ensures ∙ c.if-eq.false)) c.replace_waker.ensures.answer
     ∙ ap (λ s. update_answer s c.args.id c.args.waker) c.self.view_is
+
+pub returns-clause-law : goal.returns-clause-law
+returns-clause-law g c = lawful c.self.inside.is_open (invariant_of-self-2 g c)
