@@ -1,8 +1,8 @@
 //! The table of task cells.
-ghost use Rattle.std.specs.Prelude.{◌≡◌, ◌≢◌, ℕ, ◌+◌, ◌-◌, ◌<◌, ◌≤◌, Bool, true, false, IsSome, IsTrue, ◌↔◌, List, [], ◌∷◌, ◌++◌, IfOk, IfErr, OnOk, OnErr, length, is_some, slice_index_or, None};
+ghost use Rattle.std.specs.Prelude.{◌≡◌, ◌≢◌, ℕ, ◌+◌, ◌-◌, ◌<◌, ◌≤◌, Bool, true, false, IsErr, IsTrue, ◌↔◌, List, [], ◌∷◌, ◌++◌, IfOk, IfErr, OnOk, OnErr, length, is_some, slice_index_or, None};
 ghost use Rattle.std.specs.VecDeque.{deque_capacity};
 ghost use Rattle.executor_core.specs.Cells.Calls.{wakes, after_wake, after_end_pending, EndsPending, undropped_in, cancelled_in, future_in, empty_table, after_spawn, IsFree, AllDropped, undropped_count, cell_at, held_in, handle_in, after_end_ready, ready_answer, after_end_dropped, dropped_answer};
-ghost use Rattle.executor_core.specs.SpawnError.{Refuses};
+ghost use Rattle.executor_core.specs.SpawnError.{last_number, Refuses};
 ghost use Rattle.executor_core.specs.Cells.Law.{LockLaw};
 ghost use Rattle.executor_core.specs.Cells.View.{is_numbered, cell_in, takes_back_entry};
 
@@ -159,16 +159,16 @@ fn reserve_places(global: &mut VecDeque<TaskId>, places: usize) -> Result<(), Ou
 }
 
 impl<P, T, W> Cells<P, T, W> {
-    /// No task, and none was there before.
+    /// No task, and none was there before. It takes no memory, and so is not refused.
     pub fn new(alloc: Global) -> Result<Self, OutOfMemory>
-        ensures { IfOk result (λ cells. cells ≡ empty_table 0) }
+        ensures { result ≡ Ok (empty_table 0) }
     {
         Self::first_number(alloc, 0)
     }
 
-    /// The same, with this number for the first task.
+    /// The same, with this number for the first task. It takes no memory either.
     pub fn first_number(alloc: Global, first: u64) -> Result<Self, OutOfMemory>
-        ensures { IfOk result (λ cells. cells ≡ empty_table first) }
+        ensures { result ≡ Ok (empty_table first) }
     {
         Ok(Cells {
             next: first,
@@ -190,6 +190,7 @@ impl<P, T, W> Cells<P, T, W> {
         ensures free { IfOk result (λ r. IsFree self.old r.0.slot) }
         ensures refused { OnErr result (self.new ≡ self.old) }
         ensures cause { IfErr result (Refuses self.old.next future) }
+        ensures exhausted { self.old.next ≡ last_number → IsErr result }
     {
         if self.next == u64::MAX {
             return Err(SpawnError::Exhausted(future));

@@ -1,3 +1,4 @@
+use Rattle.std.proofs.Common.{Ok, ap}
 use Rattle.executor_core.proofs.SpawnLemmas.{empty_sound, empty_is}
 use Rattle.executor_core.proofs.task.table.Cells.first_number.Goals as goal
 
@@ -5,4 +6,4 @@ pub invariant_of-result : goal.invariant_of-result
 invariant_of-result g c = rw (c.new.ensures.empty, c.new-2.ensures.items) (empty_sound c.args.first _)
 
 pub returns : goal.returns
-returns g c = rw (c.new.ensures.empty, c.new-2.ensures.items) (empty_is c.args.first)
+returns g c = rw (c.new.ensures.empty, c.new-2.ensures.items) (ap Ok (empty_is c.args.first))
