@@ -3,9 +3,9 @@ use Rattle.std.proofs.Common.{◌≡◌, ℕ, ◌+◌, ◌||◌, ◌&&◌, Bool,
 use Rattle.executor_core.specs.Cells.{Table}
 use Rattle.executor_core.specs.Cell.{is_idle, is_held, is_scheduled, is_undropped}
 use Rattle.executor_core.specs.Cells.View.{numbers_of, table_of, IsSound, Settled}
-use Rattle.executor_core.specs.Cells.Calls.{cell_at, with_cell, without_cell, end_ready_at, ready_answer, held_in, handle_in, poll_handle_at, poll_answer, ended_answer}
+use Rattle.executor_core.specs.Cells.Calls.{with_cell, without_cell, end_ready_at, ready_answer, held_in, handle_in, poll_handle_at, poll_answer, ended_answer}
 use Rattle.executor_core.specs.Cell.Changes.{readied, awaited, output_of, wakeup_of}
-use Rattle.executor_core.proofs.TableLemmas.{table_set, cell_at_some}
+use Rattle.executor_core.proofs.TableLemmas.{table_set}
 use Rattle.executor_core.proofs.WriteLemmas.{kept_sound}
 use Rattle.executor_core.specs.declared.task.cell.Cell.{Cell}
 use Rattle.executor_core.specs.declared.task.cell.Numbered.{Numbered}
@@ -89,11 +89,6 @@ module _ {P T W : Type 0} where
 
   pub answer_some : (t : T) (c : Cell P T W) {b : Bool} → is_held c.state ≡ true → c.has_handle ≡ b → ready_answer t (Some c) ≡ record { awaiter = wakeup_of c.awaiter; unwanted = cond (b && not c.cancelled) None (Some t) }
   answer_some t c held handle = rw (held, handle) refl
-
-  pub known : {next capacity undropped : ℕ} {slots : List (Option (Numbered (Cell P T W)))} {ids : List TaskId}
-      → IsSound next slots ids capacity undropped
-      → (id : TaskId) (e : Numbered (Cell P T W)) → get_or slots id.slot None ≡ Some e → e.number ≡ id.number → cell_at (table_of next slots ids) id ≡ Some e.cell
-  known {next} {slots = slots} {ids = ids} sound id e there number = cell_at_some next slots ids id e sound.distinct there number
 
   pub await_sound : {next capacity undropped : ℕ} {slots : List (Option (Numbered (Cell P T W)))} {ids : List TaskId}
       → IsSound next slots ids capacity undropped

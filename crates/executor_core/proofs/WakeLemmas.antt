@@ -1,5 +1,5 @@
 -- What a wake keeps and gives.
-use Rattle.std.proofs.Common.{◌≡◌, ℕ, ◌||◌, Bool, true, false, List, [], ◌∷◌, ◌++◌, set, get_or, Option, Some, None, cond, refl, sym, ap, ◌∙◌}
+use Rattle.std.proofs.Common.{◌≡◌, ℕ, ◌||◌, Bool, true, false, List, [], ◌∷◌, ◌++◌, set, get_or, Option, Some, None, is_some, cond, refl, sym, ap, ◌∙◌}
 use Rattle.executor_core.specs.Cells.{Table}
 use Rattle.executor_core.specs.Cell.{is_idle, is_held, is_scheduled, is_undropped}
 use Rattle.executor_core.specs.Cells.View.{Distinct, numbers_of, table_of, IsSound, Settled}
@@ -100,3 +100,12 @@ module _ {P T W : Type 0} where
 
   pub after_wake-next : (table : Table P T W) (id : TaskId) → (after_wake table id).next ≡ table.next
   after_wake-next table id = wake_at-next table id (cell_at table id)
+
+  -- there is no cell
+  pub wake_absent : (table : Table P T W) (id : TaskId) (o : Option (Cell P T W)) → is_some o ≡ false → wake_at table id o ≡ table
+  wake_absent table id None h = refl
+  wake_absent table id (Some c) h = absurd (cc)
+
+  pub wakes_absent : (o : Option (Cell P T W)) → is_some o ≡ false → idle_in o ≡ false
+  wakes_absent None h = refl
+  wakes_absent (Some c) h = absurd (cc)

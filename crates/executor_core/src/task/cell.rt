@@ -1,12 +1,13 @@
 //! The cell of one task, and what each call makes of it.
 //!
-//! Each function here takes a cell apart and gives the next one, with what comes out of it. The
-//! table puts them in place.
-ghost use Rattle.std.specs.Prelude.{◌≡◌, Bool, true, false, Some, None, cond};
+//! Each function here changes one cell in its place, or ends a removed one, and gives what comes out
+//! of it.
+ghost use Rattle.std.specs.Prelude.{◌≡◌, ◌||◌, true, false, Some, None, cond};
 ghost use Rattle.executor_core.specs.Cell.{is_idle, is_scheduled, is_held, is_undropped};
-ghost use Rattle.executor_core.specs.Cell.Changes.{new_cell, woken, taken, pended, readied, awaited, cancelled_cell, detached, disposed, wakeup_of, output_of, is_finished_state};
+ghost use Rattle.executor_core.specs.Cell.Changes.{new_cell, state_woken, woken, takes_back, taken, pended, readied, awaited, cancelled_cell, detached, disposed, wakeup_of, output_of, is_finished_state};
 
 use crate::task::values::Wakeup;
+use core::mem::replace;
 
 /// Where a task stands.
 #[derive(Drop)]
@@ -65,44 +66,25 @@ pub(crate) fn has_future<P, T, W>(cell: &Cell<P, T, W>) -> bool
     }
 }
 
-// The cell after a wake, and whether the task is to be queued.
-pub(crate) fn wake_cell<P, T, W>(cell: Cell<P, T, W>, _unit: ()) -> (Cell<P, T, W>, bool)
-    ensures { result ≡ (woken cell, is_idle cell.state) }
+// Whether the future is in the cell.
+pub(crate) fn keeps_future<P, T, W>(cell: &Cell<P, T, W>) -> bool
+    ensures { result ≡ (is_idle cell.now.state || is_scheduled cell.now.state) }
 {
-    let before = cell.state;
-    let (state, woken, queued) = match before {
-        CellState::Idle(future) => (CellState::Scheduled(future), cell.woken, true),
-        CellState::Scheduled(future) => (CellState::Scheduled(future), cell.woken, false),
-        CellState::Held => (CellState::Held, true, false),
-        CellState::Finished(output) => (CellState::Finished(output), cell.woken, false),
-        CellState::Gone => (CellState::Gone, cell.woken, false),
-    };
-    let cell = Cell {
-        state,
-        woken,
-        ..cell
-    };
-    (cell, queued)
+    matches!(&cell.state, CellState::Idle(_) | CellState::Scheduled(_))
 }
 
-// The cell after its future was taken, the future, and the cancel mark.
-pub(crate) fn take_cell<P, T, W>(cell: Cell<P, T, W>, _unit: ()) -> (Cell<P, T, W>, (P, bool))
-    requires { is_scheduled cell.state ≡ true }
-    ensures cell { result.0 ≡ taken cell }
-    ensures future { cell.state ≡ CellState.Scheduled result.1.0 }
-    ensures cancelled { result.1.1 ≡ cell.cancelled }
+// Whether the future is out.
+pub(crate) fn is_held<P, T, W>(cell: &Cell<P, T, W>) -> bool
+    ensures { result ≡ is_held cell.now.state }
 {
-    let before = cell.state;
-    let CellState::Scheduled(future) = before else {
-        unreachable!()
-    };
-    let cell = Cell {
-        state: CellState::Held,
-        woken: false,
-        ..cell
-    };
-    let cancelled = cell.cancelled;
-    (cell, (future, cancelled))
+    matches!(&cell.state, CellState::Held)
+}
+
+// Whether the future is out, and the task was not cancelled.
+pub(crate) fn takes_back<P, T, W>(cell: &Cell<P, T, W>) -> bool
+    ensures { result ≡ takes_back cell.now }
+{
+    is_held(cell) && !cell.cancelled
 }
 
 // The state of a cell whose future is out has nothing in it.
@@ -115,20 +97,62 @@ fn end_held<P, T>(state: CellState<P, T>)
     }
 }
 
-// The cell after a poll that ended pending, and whether the task is to be queued.
-pub(crate) fn pend_cell<P, T, W>(cell: Cell<P, T, W>, future: P) -> (Cell<P, T, W>, bool)
-    requires { is_held cell.state ≡ true }
-    ensures { result ≡ (pended cell future, cell.woken) }
+// Schedules an idle task, and says whether it was one.
+fn schedule<P, T>(state: &mut CellState<P, T>) -> bool
+    ensures state { state.new ≡ state_woken state.old }
+    ensures queued { result ≡ is_idle state.old }
 {
-    end_held(cell.state);
+    if !matches!(state, CellState::Idle(_)) {
+        return false;
+    }
+    let before = replace(state, CellState::Held);
+    let CellState::Idle(future) = before else {
+        unreachable!()
+    };
+    end_held(replace(state, CellState::Scheduled(future)));
+    true
+}
+
+// A wake: says whether the task is to be queued.
+pub(crate) fn wake_cell<P, T, W>(cell: &mut Cell<P, T, W>) -> bool
+    ensures cell { cell.new ≡ woken cell.old }
+    ensures queued { result ≡ is_idle cell.old.state }
+{
+    if is_held(cell) {
+        cell.woken = true;
+        return false;
+    }
+    schedule(&mut cell.state)
+}
+
+// A take: gives the future and the cancel mark.
+pub(crate) fn take_cell<P, T, W>(cell: &mut Cell<P, T, W>) -> (P, bool)
+    requires { is_scheduled cell.old.state ≡ true }
+    ensures cell { cell.new ≡ taken cell.old }
+    ensures future { cell.old.state ≡ CellState.Scheduled result.0 }
+    ensures cancelled { result.1 ≡ cell.old.cancelled }
+{
+    let before = replace(&mut cell.state, CellState::Held);
+    let CellState::Scheduled(future) = before else {
+        unreachable!()
+    };
+    cell.woken = false;
+    (future, cell.cancelled)
+}
+
+// The end of a pending poll: says whether the task is to be queued.
+pub(crate) fn pend_cell<P, T, W>(cell: &mut Cell<P, T, W>, future: P) -> bool
+    requires { is_held cell.old.state ≡ true }
+    ensures cell { cell.new ≡ pended cell.old future }
+    ensures queued { result ≡ cell.old.woken }
+{
     let state = if cell.woken {
         CellState::Scheduled(future)
     } else {
         CellState::Idle(future)
     };
-    let cell = Cell { state, ..cell };
-    let queued = cell.woken;
-    (cell, queued)
+    end_held(replace(&mut cell.state, state));
+    cell.woken
 }
 
 // The awaiter, as a waker that is to be woken.
@@ -141,27 +165,60 @@ fn wakeup<W>(awaiter: Option<W>) -> Option<Wakeup<W>>
     }
 }
 
-// The cell after its future gave this output, its awaiter, and the output where nobody wants it.
+// The end of a poll that gave this output: gives the awaiter, and the output where nobody wants it.
 pub(crate) fn ready_cell<P, T, W>(
-    cell: Cell<P, T, W>,
+    cell: &mut Cell<P, T, W>,
     output: T,
-) -> (Cell<P, T, W>, (Option<Wakeup<W>>, Option<T>))
-    requires { is_held cell.state ≡ true }
-    ensures { result ≡ (readied cell output, (wakeup_of cell.awaiter, cond cell.cancelled (Some output) None)) }
+) -> (Option<Wakeup<W>>, Option<T>)
+    requires { is_held cell.old.state ≡ true }
+    ensures cell { cell.new ≡ readied cell.old output }
+    ensures answer { result ≡ (wakeup_of cell.old.awaiter, cond cell.old.cancelled (Some output) None) }
 {
-    end_held(cell.state);
-    let awaiter = wakeup(cell.awaiter);
     let (state, unwanted) = if cell.cancelled {
         (CellState::Gone, Some(output))
     } else {
         (CellState::Finished(output), None)
     };
-    let cell = Cell {
-        state,
-        awaiter: None,
-        ..cell
-    };
-    (cell, (awaiter, unwanted))
+    end_held(replace(&mut cell.state, state));
+    (wakeup(replace(&mut cell.awaiter, None)), unwanted)
+}
+
+// The end of a task whose future was dropped without an output: gives the awaiter.
+pub(crate) fn dispose_cell<P, T, W>(cell: &mut Cell<P, T, W>) -> Option<Wakeup<W>>
+    requires { is_held cell.old.state ≡ true }
+    ensures cell { cell.new ≡ disposed cell.old }
+    ensures awaiter { result ≡ wakeup_of cell.old.awaiter }
+{
+    end_held(replace(&mut cell.state, CellState::Gone));
+    wakeup(replace(&mut cell.awaiter, None))
+}
+
+// A poll of the handle in vain: gives the awaiter before.
+pub(crate) fn await_cell<P, T, W>(cell: &mut Cell<P, T, W>, waker: W) -> Option<W>
+    ensures cell { cell.new ≡ awaited cell.old waker }
+    ensures before { result ≡ cell.old.awaiter }
+{
+    replace(&mut cell.awaiter, Some(waker))
+}
+
+// A cancel: says whether the task is to be queued.
+pub(crate) fn cancel_cell<P, T, W>(cell: &mut Cell<P, T, W>) -> bool
+    ensures cell { cell.new ≡ cancelled_cell cell.old }
+    ensures queued { result ≡ is_idle cell.old.state }
+{
+    if has_future(cell) {
+        cell.cancelled = true;
+    }
+    schedule(&mut cell.state)
+}
+
+// The end of the handle: gives the awaiter.
+pub(crate) fn detach_cell<P, T, W>(cell: &mut Cell<P, T, W>) -> Option<W>
+    ensures cell { cell.new ≡ detached cell.old }
+    ensures awaiter { result ≡ cell.old.awaiter }
+{
+    cell.has_handle = false;
+    replace(&mut cell.awaiter, None)
 }
 
 // The awaiter of a removed cell whose future was out.
@@ -202,69 +259,6 @@ pub(crate) fn output_of_ended<P, T, W>(cell: Cell<P, T, W>) -> Option<T>
         CellState::Gone => None,
         _ => unreachable!(),
     }
-}
-
-// The cell with this awaiter, and the one before.
-pub(crate) fn await_cell<P, T, W>(cell: Cell<P, T, W>, waker: W) -> (Cell<P, T, W>, Option<W>)
-    ensures { result ≡ (awaited cell waker, cell.awaiter) }
-{
-    let before = cell.awaiter;
-    let cell = Cell {
-        awaiter: Some(waker),
-        ..cell
-    };
-    (cell, before)
-}
-
-// The cell after a cancel, and whether the task is to be queued.
-pub(crate) fn cancel_cell<P, T, W>(cell: Cell<P, T, W>, _unit: ()) -> (Cell<P, T, W>, bool)
-    ensures { result ≡ (cancelled_cell cell, is_idle cell.state) }
-{
-    let before = cell.state;
-    let (state, cancelled, queued) = match before {
-        CellState::Idle(future) => (CellState::Scheduled(future), true, true),
-        CellState::Scheduled(future) => (CellState::Scheduled(future), true, false),
-        CellState::Held => (CellState::Held, true, false),
-        CellState::Finished(output) => (CellState::Finished(output), cell.cancelled, false),
-        CellState::Gone => (CellState::Gone, cell.cancelled, false),
-    };
-    let cell = Cell {
-        state,
-        cancelled,
-        ..cell
-    };
-    (cell, queued)
-}
-
-// The cell after its handle ended, and its awaiter.
-pub(crate) fn detach_cell<P, T, W>(cell: Cell<P, T, W>, _unit: ()) -> (Cell<P, T, W>, Option<W>)
-    ensures { result ≡ (detached cell, cell.awaiter) }
-{
-    let awaiter = cell.awaiter;
-    let cell = Cell {
-        has_handle: false,
-        awaiter: None,
-        ..cell
-    };
-    (cell, awaiter)
-}
-
-// The cell after its future was dropped without an output, and its awaiter.
-pub(crate) fn dispose_cell<P, T, W>(
-    cell: Cell<P, T, W>,
-    _unit: (),
-) -> (Cell<P, T, W>, Option<Wakeup<W>>)
-    requires { is_held cell.state ≡ true }
-    ensures { result ≡ (disposed cell, wakeup_of cell.awaiter) }
-{
-    end_held(cell.state);
-    let awaiter = wakeup(cell.awaiter);
-    let cell = Cell {
-        state: CellState::Gone,
-        awaiter: None,
-        ..cell
-    };
-    (cell, awaiter)
 }
 
 // Whether the future was dropped, or nobody will poll it again.

@@ -3,19 +3,15 @@
 //! A handle is there from the spawn until it was detached or dropped, or until a poll of it gave its
 //! last answer. A call finds the cell by number and slot, so the id of a task whose cell is gone
 //! never reaches the task that has the slot now.
-ghost use Rattle.std.specs.Prelude.{◌≡◌, is_some, slice_index_or, None};
+ghost use Rattle.std.specs.Prelude.{◌≡◌, is_some};
 ghost use Rattle.executor_core.specs.Cells.Calls.{after_cancel, cancel_queues, after_detach, detach_answer, after_poll_handle, poll_answer, finished_in, cell_at};
-ghost use Rattle.executor_core.specs.Cells.View.{cell_in};
 
 use crate::task::cell::{
-    Cell, Numbered, await_cell, cancel_cell, detach_cell, has_future, is_finished_cell,
-    output_of_ended,
+    Numbered, await_cell, cancel_cell, detach_cell, has_future, is_finished_cell, output_of_ended,
 };
 use crate::task::id::TaskId;
-use crate::task::table::{Cells, has_handle_at};
+use crate::task::table::Cells;
 use crate::task::values::Notice;
-use core::mem::replace_with;
-use slab::Slab;
 
 /// What a poll of a handle answers.
 #[derive(Drop)]
@@ -28,16 +24,6 @@ pub enum PollHandle<T, W> {
     Pending(Option<W>),
 }
 
-// Whether the id's future was dropped, or nobody will poll it again.
-fn is_finished_at<P, T, W>(cells: &Slab<Numbered<Cell<P, T, W>>>, id: TaskId) -> bool
-    ensures { result ≡ finished_in (cell_in id.number (slice_index_or cells.now.slots id.slot None)) }
-{
-    match cells.get(id.slot) {
-        Some(entry) => entry.number != id.number || is_finished_cell(&entry.cell),
-        None => true,
-    }
-}
-
 impl<P, T, W> Cells<P, T, W> {
     /// Asks the handle of a task for its output. It takes no memory.
     ///
@@ -47,11 +33,11 @@ impl<P, T, W> Cells<P, T, W> {
         ensures table { self.new ≡ after_poll_handle self.old id waker }
         ensures answer { result ≡ poll_answer waker (cell_at self.old id) }
     {
-        if !has_handle_at(&self.cells, id) {
+        if !self.has_handle(id) {
             return PollHandle::Cancelled(waker);
         }
         if has_future(&self.cells[id.slot].cell) {
-            let before = replace_with(&mut self.cells[id.slot].cell, waker, await_cell);
+            let before = await_cell(&mut self.cells[id.slot].cell, waker);
             return PollHandle::Pending(before);
         }
         let Numbered { number: _, cell } = self.cells.remove(id.slot);
@@ -71,10 +57,10 @@ impl<P, T, W> Cells<P, T, W> {
         ensures table { self.new ≡ after_cancel self.old id }
         ensures notice { is_some result ≡ cancel_queues self.old id }
     {
-        if !has_handle_at(&self.cells, id) {
+        if !self.has_handle(id) {
             return None;
         }
-        if !replace_with(&mut self.cells[id.slot].cell, (), cancel_cell) {
+        if !cancel_cell(&mut self.cells[id.slot].cell) {
             return None;
         }
         self.global.push_back_reserved(id);
@@ -91,11 +77,11 @@ impl<P, T, W> Cells<P, T, W> {
         ensures table { self.new ≡ after_detach self.old id }
         ensures answer { result ≡ detach_answer (cell_at self.old id) }
     {
-        if !has_handle_at(&self.cells, id) {
+        if !self.has_handle(id) {
             return (None, None);
         }
         if has_future(&self.cells[id.slot].cell) {
-            let awaiter = replace_with(&mut self.cells[id.slot].cell, (), detach_cell);
+            let awaiter = detach_cell(&mut self.cells[id.slot].cell);
             return (None, awaiter);
         }
         let Numbered { number: _, cell } = self.cells.remove(id.slot);
@@ -122,6 +108,6 @@ impl<P, T, W> Cells<P, T, W> {
     pub fn is_finished(&self, id: TaskId) -> bool
         ensures { result ≡ finished_in (cell_at self.now id) }
     {
-        is_finished_at(&self.cells, id)
+        self.cell_at(id).is_none_or(is_finished_cell)
     }
 }

@@ -1,19 +1,17 @@
 //! The table of task cells.
-ghost use Rattle.std.specs.Prelude.{◌≡◌, ◌≢◌, ℕ, ◌+◌, ◌-◌, ◌<◌, ◌≤◌, Bool, true, false, IsErr, IsTrue, ◌↔◌, List, [], ◌∷◌, ◌++◌, IfOk, IfErr, OnOk, OnErr, length, is_some, slice_index_or, None};
+ghost use Rattle.std.specs.Prelude.{◌≡◌, ◌≢◌, ℕ, ◌+◌, ◌-◌, ◌<◌, ◌≤◌, Bool, true, false, IsErr, IsTrue, ◌↔◌, List, [], ◌∷◌, ◌++◌, IfOk, IfErr, OnOk, OnErr, length, is_some, option_copied};
 ghost use Rattle.std.specs.VecDeque.{deque_capacity};
-ghost use Rattle.executor_core.specs.Cells.Calls.{wakes, after_wake, after_end_pending, EndsPending, undropped_in, cancelled_in, future_in, empty_table, after_spawn, IsFree, AllDropped, undropped_count, cell_at, held_in, handle_in, after_end_ready, ready_answer, after_end_dropped, dropped_answer};
+ghost use Rattle.executor_core.specs.Cells.Calls.{wakes, after_wake, after_end_pending, EndsPending, undropped_in, cancelled_in, future_in, empty_table, after_spawn, IsFree, AllDropped, undropped_count, cell_at, held_in, handle_in, takes_back_in, after_end_ready, ready_answer, after_end_dropped, dropped_answer};
 ghost use Rattle.executor_core.specs.SpawnError.{last_number, Refuses};
 ghost use Rattle.executor_core.specs.Cells.Law.{LockLaw};
-ghost use Rattle.executor_core.specs.Cells.View.{is_numbered, cell_in, takes_back_entry};
 
 use crate::task::cell::{
-    Cell, CellState, Numbered, awaiter_of_held, dispose_cell, has_future, new_cell, pend_cell,
-    ready_cell, wake_cell,
+    Cell, Numbered, awaiter_of_held, dispose_cell, has_future, is_held, keeps_future, new_cell,
+    pend_cell, ready_cell, takes_back, wake_cell,
 };
 use crate::task::error::{OutOfMemory, SpawnError};
 use crate::task::id::TaskId;
 use crate::task::values::{Held, Notice, Wakeup};
-use core::mem::replace_with;
 use slab::Slab;
 use std::alloc::Global;
 use std::collections::VecDeque;
@@ -61,86 +59,6 @@ impl<P, T, W> Model for Cells<P, T, W> {
     ghost view = { λ a. table_of a.next a.cells.slots a.global.items };
 
     ghost invariant = { λ a. IsSound a.next a.cells.slots a.global.items (deque_capacity a.global) a.undropped };
-}
-
-// Whether the id's cell is in its slot.
-fn holds<C>(cells: &Slab<Numbered<C>>, id: TaskId) -> bool
-    ensures { result ≡ is_numbered id.number (slice_index_or cells.now.slots id.slot None) }
-{
-    match cells.get(id.slot) {
-        Some(entry) => entry.number == id.number,
-        None => false,
-    }
-}
-
-// Whether the id's future is out, and its task was not cancelled.
-fn takes_back<P, T, W>(cells: &Slab<Numbered<Cell<P, T, W>>>, id: TaskId) -> bool
-    ensures { result ≡ takes_back_entry id.number (slice_index_or cells.now.slots id.slot None) }
-{
-    match cells.get(id.slot) {
-        Some(entry) => {
-            entry.number == id.number
-                && matches!(&entry.cell.state, CellState::Held)
-                && !entry.cell.cancelled
-        }
-        None => false,
-    }
-}
-
-// Whether the id's future is out.
-fn is_held_at<P, T, W>(cells: &Slab<Numbered<Cell<P, T, W>>>, id: TaskId) -> bool
-    ensures { result ≡ held_in (cell_in id.number (slice_index_or cells.now.slots id.slot None)) }
-{
-    match cells.get(id.slot) {
-        Some(entry) => entry.number == id.number && matches!(&entry.cell.state, CellState::Held),
-        None => false,
-    }
-}
-
-// Whether the id's handle is there.
-pub(crate) fn has_handle_at<P, T, W>(cells: &Slab<Numbered<Cell<P, T, W>>>, id: TaskId) -> bool
-    ensures { result ≡ handle_in (cell_in id.number (slice_index_or cells.now.slots id.slot None)) }
-{
-    match cells.get(id.slot) {
-        Some(entry) => entry.number == id.number && entry.cell.has_handle,
-        None => false,
-    }
-}
-
-// Whether the id's future is not dropped.
-fn is_undropped_at<P, T, W>(cells: &Slab<Numbered<Cell<P, T, W>>>, id: TaskId) -> bool
-    ensures { result ≡ undropped_in (cell_in id.number (slice_index_or cells.now.slots id.slot None)) }
-{
-    match cells.get(id.slot) {
-        Some(entry) => entry.number == id.number && has_future(&entry.cell),
-        None => false,
-    }
-}
-
-// Whether the id's task is cancelled.
-fn is_cancelled_at<P, T, W>(cells: &Slab<Numbered<Cell<P, T, W>>>, id: TaskId) -> bool
-    ensures { result ≡ cancelled_in (cell_in id.number (slice_index_or cells.now.slots id.slot None)) }
-{
-    match cells.get(id.slot) {
-        Some(entry) => entry.number == id.number && entry.cell.cancelled,
-        None => false,
-    }
-}
-
-// Whether the id's future is in its cell.
-fn keeps_at<P, T, W>(cells: &Slab<Numbered<Cell<P, T, W>>>, id: TaskId) -> bool
-    ensures { result ≡ future_in (cell_in id.number (slice_index_or cells.now.slots id.slot None)) }
-{
-    match cells.get(id.slot) {
-        Some(entry) => {
-            entry.number == id.number
-                && matches!(
-                    &entry.cell.state,
-                    CellState::Idle(_) | CellState::Scheduled(_)
-                )
-        }
-        None => false,
-    }
 }
 
 // Room for this many ids in all. A `reserve` alone grows by what is queued, which may be far less
@@ -218,10 +136,10 @@ impl<P, T, W> Cells<P, T, W> {
         ensures table { self.new ≡ after_wake self.old id }
         ensures notice { is_some result ≡ wakes self.old id }
     {
-        if !holds(&self.cells, id) {
+        if !self.has_cell(id) {
             return None;
         }
-        if !replace_with(&mut self.cells[id.slot].cell, (), wake_cell) {
+        if !wake_cell(&mut self.cells[id.slot].cell) {
             return None;
         }
         self.global.push_back_reserved(id);
@@ -237,10 +155,10 @@ impl<P, T, W> Cells<P, T, W> {
         ensures answer { EndsPending self.old held future result }
     {
         let Held { id, to_drop: _ } = held;
-        if !takes_back(&self.cells, id) {
+        if !self.takes_back(id) {
             return EndPending::Drop(future, Held { id, to_drop: true });
         }
-        if !replace_with(&mut self.cells[id.slot].cell, future, pend_cell) {
+        if !pend_cell(&mut self.cells[id.slot].cell, future) {
             return EndPending::Back(None);
         }
         self.global.push_back_reserved(id);
@@ -257,7 +175,7 @@ impl<P, T, W> Cells<P, T, W> {
         ensures answer { result ≡ ready_answer output (cell_at self.old held.id) }
     {
         let Held { id, to_drop: _ } = held;
-        if !is_held_at(&self.cells, id) {
+        if !self.is_held(id) {
             return EndReady {
                 awaiter: None,
                 unwanted: Some(output),
@@ -265,11 +183,7 @@ impl<P, T, W> Cells<P, T, W> {
         }
         self.undropped -= 1;
         if self.cells[id.slot].cell.has_handle {
-            let (awaiter, unwanted) = replace_with(
-                &mut self.cells[id.slot].cell,
-                output,
-                ready_cell,
-            );
+            let (awaiter, unwanted) = ready_cell(&mut self.cells[id.slot].cell, output);
             return EndReady { awaiter, unwanted };
         }
         let Numbered { number: _, cell } = self.cells.remove(id.slot);
@@ -290,12 +204,12 @@ impl<P, T, W> Cells<P, T, W> {
         ensures answer { result ≡ dropped_answer (cell_at self.old held.id) }
     {
         let Held { id, to_drop: _ } = held;
-        if !is_held_at(&self.cells, id) {
+        if !self.is_held(id) {
             return None;
         }
         self.undropped -= 1;
         if self.cells[id.slot].cell.has_handle {
-            return replace_with(&mut self.cells[id.slot].cell, (), dispose_cell);
+            return dispose_cell(&mut self.cells[id.slot].cell);
         }
         let Numbered { number: _, cell } = self.cells.remove(id.slot);
         awaiter_of_held(cell)
@@ -319,21 +233,59 @@ impl<P, T, W> Cells<P, T, W> {
     pub fn keeps(&self, id: TaskId) -> bool
         ensures { result ≡ future_in (cell_at self.now id) }
     {
-        keeps_at(&self.cells, id)
+        self.cell_at(id).is_some_and(keeps_future)
     }
 
     // Whether the task's future is not dropped.
     pub(crate) fn is_undropped(&self, id: TaskId) -> bool
         ensures { result ≡ undropped_in (cell_at self.now id) }
     {
-        is_undropped_at(&self.cells, id)
+        self.cell_at(id).is_some_and(has_future)
     }
 
     // Whether the task is cancelled.
     pub(crate) fn is_cancelled(&self, id: TaskId) -> bool
         ensures { result ≡ cancelled_in (cell_at self.now id) }
     {
-        is_cancelled_at(&self.cells, id)
+        self.cell_at(id).is_some_and(|cell| cell.cancelled)
+    }
+
+    // Whether the task's handle is there.
+    pub(crate) fn has_handle(&self, id: TaskId) -> bool
+        ensures { result ≡ handle_in (cell_at self.now id) }
+    {
+        self.cell_at(id).is_some_and(|cell| cell.has_handle)
+    }
+
+    // Whether the task has a cell.
+    fn has_cell(&self, id: TaskId) -> bool
+        ensures { result ≡ is_some (cell_at self.now id) }
+    {
+        self.cell_at(id).is_some()
+    }
+
+    // Whether the task's future is out.
+    fn is_held(&self, id: TaskId) -> bool
+        ensures { result ≡ held_in (cell_at self.now id) }
+    {
+        self.cell_at(id).is_some_and(is_held)
+    }
+
+    // Whether the task's future is out, and the task was not cancelled.
+    fn takes_back(&self, id: TaskId) -> bool
+        ensures { result ≡ takes_back_in (cell_at self.now id) }
+    {
+        self.cell_at(id).is_some_and(takes_back)
+    }
+
+    // The cell of the task's number, if it is in the task's slot.
+    pub(crate) fn cell_at(&self, id: TaskId) -> Option<&Cell<P, T, W>>
+        ensures { option_copied result ≡ cell_at self.now id }
+    {
+        match self.cells.get(id.slot) {
+            Some(entry) if entry.number == id.number => Some(&entry.cell),
+            _ => None,
+        }
     }
 
     /// The law of the queues, which every call keeps: a number stands once in all of them together
