@@ -18,7 +18,9 @@ impl<P: Drop, T: Copy> Poller<P, T> for Script<T> {
 
     ghost disposals = { λ s. s.disposals };
 
-    ghost answers = { λ s _ r. polled_output r ≡ s.output };
+    ghost answers = { λ s _ _ r. polled_output r ≡ s.output };
+
+    ghost disposed = { λ s _ _ after. after.output ≡ s.output };
 
     fn poll(&mut self, _id: TaskId, future: P) -> Polled<P, T> {
         self.polls += 1;

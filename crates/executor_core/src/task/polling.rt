@@ -1,7 +1,8 @@
 //! The one poll, or the one drop, of a taken task.
-ghost use Rattle.std.specs.Prelude.{◌≡◌, ℕ, ◌+◌, ◌<◌, ◌^◌, cond};
+ghost use Rattle.std.specs.Prelude.{◌≡◌, ℕ, ◌+◌, ◌<◌, ◌^◌, cond, true};
 ghost use Rattle.executor_core.specs.Polling.{RanFrom, AnsweredBy};
 ghost use Rattle.executor_core.specs.declared.task.polling.Polled.{Polled};
+ghost use Rattle.executor_core.specs.declared.task.values.TaskId.{TaskId};
 
 use crate::task::values::{Held, Taken, TaskId};
 
@@ -13,26 +14,30 @@ pub enum Polled<P, T> {
     Ready(T),
 }
 
-/// Polls futures, or drops them. Its meaning is how often it did each, and what a poll answers.
+/// Polls futures, or drops them. Its meaning is how often it did each, what a poll of a task answers,
+/// and what the disposal of a task leaves.
 pub trait Poller<P, T> {
     ghost polls: { Self → ℕ };
 
     ghost disposals: { Self → ℕ };
 
-    ghost answers: { Self → P → Polled P T → Type 0 };
+    ghost answers: { Self → TaskId → P → Polled P T → Type 0 };
+
+    ghost disposed: { Self → TaskId → P → Self → Type 0 };
 
     /// Polls the future of the task once.
     fn poll(&mut self, id: TaskId, future: P) -> Polled<P, T>
         requires room { polls self.old + 1 < 2 ^ 64 }
         ensures polls { polls self.new ≡ polls self.old + 1 }
         ensures disposals { disposals self.new ≡ disposals self.old }
-        ensures answer { answers self.old future result };
+        ensures answer { answers self.old id future result };
 
     /// Drops the future of the task.
     fn dispose(&mut self, id: TaskId, future: P)
         requires room { disposals self.old + 1 < 2 ^ 64 }
         ensures polls { polls self.new ≡ polls self.old }
-        ensures disposals { disposals self.new ≡ disposals self.old + 1 };
+        ensures disposals { disposals self.new ≡ disposals self.old + 1 }
+        ensures disposal { disposed self.old id future self.new };
 }
 
 /// What became of a taken task.
@@ -54,7 +59,8 @@ pub fn run_taken<P, T, Q: Poller<P, T>>(taken: Taken<P>, poller: &mut Q) -> Ran<
     ensures polls { Q.polls poller.new ≡ Q.polls poller.old + cond taken.cancelled 0 1 }
     ensures disposals { Q.disposals poller.new ≡ Q.disposals poller.old + cond taken.cancelled 1 0 }
     ensures ran { RanFrom taken result }
-    ensures answered { AnsweredBy (Q.answers poller.old taken.future) result }
+    ensures answered { AnsweredBy (Q.answers poller.old taken.id taken.future) result }
+    ensures disposed { taken.cancelled ≡ true → Q.disposed poller.old taken.id taken.future poller.new }
 {
     let Taken {
         id,
