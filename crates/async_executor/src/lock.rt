@@ -1,7 +1,7 @@
-//! Locks that are mostly free.
+//! Takes a lock that is usually free: tries once inline, and only then waits.
 use std::sync::{Mutex, MutexGuard, Wait};
 
-/// Waits for the lock. The first try is made in place, and only what waits is a call.
+/// Waits for the lock.
 #[inline(always)]
 pub(crate) fn lock<'a, T, R: Wait>(mutex: &'a Mutex<T>, rt: &R) -> MutexGuard<'a, T> {
     match mutex.try_lock() {

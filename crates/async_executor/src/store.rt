@@ -1,39 +1,42 @@
 //! The futures and outputs of an executor's tasks.
 //!
-//! A task has the place of its slot for as long as its cell has that slot, also while its future is out to be
-//! polled. The place bears the number of the task, so that a later task of the same slot is not taken for it.
-ghost use Rattle.std.specs.Prelude.{◌≡◌, ◌<◌, [], OnOk, IsTrue, is_some, MatchOption, vec_len};
+//! A task has the place of its slot for as long as its cell has that slot, also while its future is
+//! out to be polled. The place bears the number of the task, so that a later task of the same slot
+//! is not taken for it.
+ghost use Rattle.std.specs.Prelude.{◌≡◌, ◌<◌, [], false, OnOk, IfErr, IsTrue, is_some, vec_len};
+ghost use Rattle.executor_core.specs.Refusals.{refused_future};
 ghost use Rattle.async_executor.specs.Store.{kept_at, inserted, HasRoom, Replaces};
 
-use crate::waker::TaskWaker;
-use executor_core::task::{Future, OutOfMemory, TaskId, Wake};
+use crate::state::State;
+use executor_core::task::{
+    EndReady, Held, Notice, OutOfMemory, PollHandle, SpawnError, TaskId, Wake, Wakeup,
+};
 use std::alloc::Global;
-use std::sync::Wait;
+use std::sync::{Arc, Wait};
 
-/// What is kept of a task.
+/// What is kept of a task: its future with a share S of which its waker is made, or its output T.
 #[derive(Drop)]
-pub(crate) enum Kept<F: Future<TaskWaker<W, R>>, W: Wake, R: Wait + Clone + Drop> {
+pub enum Kept<F, S, T> {
     Nothing,
-    /// The future, and the waker that it is polled with.
-    Future(F, TaskWaker<W, R>),
-    Output(F::Output),
+    Future(F, S),
+    Output(T),
 }
 
 #[derive(Drop)]
-struct Place<F: Future<TaskWaker<W, R>>, W: Wake, R: Wait + Clone + Drop> {
+struct Place<F, S, T> {
     number: u64,
-    kept: Kept<F, W, R>,
+    kept: Kept<F, S, T>,
 }
 
 /// What is kept of all tasks, each at its slot.
 #[derive(Drop)]
-pub(crate) struct Store<F: Future<TaskWaker<W, R>>, W: Wake, R: Wait + Clone + Drop> {
-    places: Vec<Place<F, W, R>>,
+pub(crate) struct Store<F, S, T> {
+    places: Vec<Place<F, S, T>>,
 }
 
-impl<F: Future<TaskWaker<W, R>>, W: Wake, R: Wait + Clone + Drop> Store<F, W, R> {
+impl<F, S, T> Store<F, S, T> {
     /// A store without places.
-    pub(crate) fn new(alloc: Global) -> Store<F, W, R>
+    pub(crate) fn new(alloc: Global) -> Store<F, S, T>
         ensures { result.places.items ≡ [] }
     {
         Store {
@@ -50,8 +53,40 @@ impl<F: Future<TaskWaker<W, R>>, W: Wake, R: Wait + Clone + Drop> Store<F, W, R>
         Ok(())
     }
 
-    /// Gives a new task its place: that of an earlier task, or the next one. Slots are given in order.
-    pub(crate) fn insert(&mut self, id: TaskId, kept: Kept<F, W, R>)
+    // Whether the task has its place.
+    fn has_place(&self, id: TaskId) -> bool
+        ensures place { result ≡ is_some (kept_at self.now id) }
+        ensures inside { IsTrue result → id.slot < vec_len self.now.places }
+    {
+        match self.places.get(id.slot()) {
+            Some(place) => place.number == id.number(),
+            None => false,
+        }
+    }
+
+    /// Puts this in the task's place, and gives what was kept there. Without a place it is given
+    /// back.
+    pub(crate) fn replace(&mut self, id: TaskId, kept: Kept<F, S, T>) -> Kept<F, S, T>
+        ensures { Replaces self.old id kept result self.new }
+    {
+        if !self.has_place(id) {
+            return kept;
+        }
+        std::mem::replace(&mut self.places[id.slot()].kept, kept)
+    }
+
+    /// Takes what is kept of the task.
+    pub(crate) fn take(&mut self, id: TaskId) -> Kept<F, S, T>
+        ensures { Replaces self.old id Kept.Nothing result self.new }
+    {
+        self.replace(id, Kept::Nothing)
+    }
+}
+
+impl<F: Drop, S: Drop, T: Drop> Store<F, S, T> {
+    /// Gives a new task its place: that of an earlier task, or the next one. Slots are given in
+    /// order.
+    pub(crate) fn insert(&mut self, id: TaskId, kept: Kept<F, S, T>)
         requires { HasRoom self.old }
         ensures { self.new.places.items ≡ inserted self.old.places.items id kept }
     {
@@ -66,50 +101,77 @@ impl<F: Future<TaskWaker<W, R>>, W: Wake, R: Wait + Clone + Drop> Store<F, W, R>
             self.places.push_reserved(place);
         }
     }
+}
 
-    // Whether the task has its place.
-    fn has_place(&self, id: TaskId) -> bool
-        ensures place { result ≡ is_some (kept_at self.now id) }
-        ensures inside { IsTrue result → id.slot < vec_len self.now.places }
+// Each of these is one change of the store with one of the table inside it.
+impl<F: Drop, W: Wake, R: Wait + Clone + Drop, T: Drop> Store<F, Arc<State<W, R>>, T> {
+    /// As `Home::spawn`. The task's place is made before the task is queued.
+    pub(crate) fn spawn(
+        &mut self,
+        state: Arc<State<W, R>>,
+        future: F,
+    ) -> Result<(TaskId, Notice), SpawnError<F>>
+        ensures { IfErr result (λ e. refused_future e ≡ future) }
     {
-        match self.places.get(id.slot()) {
-            Some(place) => place.number == id.number(),
-            None => false,
+        if self.reserve().is_err() {
+            return Err(SpawnError::OutOfMemory(future));
+        }
+        let spawned = state.cells().spawn(());
+        match spawned {
+            Ok((id, notice)) => {
+                self.insert(id, Kept::Future(future, state));
+                Ok((id, notice))
+            }
+            Err(SpawnError::OutOfMemory(())) => Err(SpawnError::OutOfMemory(future)),
+            Err(SpawnError::Exhausted(())) => Err(SpawnError::Exhausted(future)),
         }
     }
 
-    /// Puts this in the task's place, and gives what was kept there. Without a place it is given back.
-    pub(crate) fn replace(&mut self, id: TaskId, kept: Kept<F, W, R>) -> Kept<F, W, R>
-        ensures { Replaces self.old id kept result self.new }
+    /// As `Home::end_ready`.
+    pub(crate) fn end_ready(
+        &mut self,
+        state: &State<W, R>,
+        id: TaskId,
+        held: Held,
+        output: Kept<F, Arc<State<W, R>>, T>,
+    ) -> (Kept<F, Arc<State<W, R>>, T>, Option<Wakeup<W>>)
+        requires { held.to_drop ≡ false }
     {
-        if !self.has_place(id) {
-            return kept;
+        let EndReady { awaiter, unwanted } = state.cells().end_ready(held, ());
+        match unwanted {
+            Some(()) => (output, awaiter),
+            None => (self.replace(id, output), awaiter),
         }
-        let slot = id.slot();
-        let place = Place {
-            number: id.number(),
-            kept,
-        };
-        let Place { number: _, kept } = std::mem::replace(&mut self.places[slot], place);
-        kept
     }
 
-    /// Takes what is kept of the task.
-    pub(crate) fn take(&mut self, id: TaskId) -> Kept<F, W, R>
-        ensures { Replaces self.old id Kept.Nothing result self.new }
-    {
-        self.replace(id, Kept::Nothing)
+    /// As `Home::take_ended`.
+    pub(crate) fn take_ended(
+        &mut self,
+        state: &State<W, R>,
+        id: TaskId,
+    ) -> Option<(Kept<F, Arc<State<W, R>>, T>, Option<W>)> {
+        let mut cells = state.cells();
+        if !cells.is_ended(id) {
+            return None;
+        }
+        match cells.detach(id) {
+            (Some(()), awaiter) => Some((self.take(id), awaiter)),
+            (None, awaiter) => Some((Kept::Nothing, awaiter)),
+        }
     }
 
-    /// Takes the output of the task where the table gave it out, and else nothing.
-    pub(crate) fn take_output(&mut self, id: TaskId, given: Option<()>) -> Kept<F, W, R>
-        ensures { MatchOption given
-            ((result ≡ Kept.Nothing) × (self.new.places.items ≡ self.old.places.items))
-            (λ _. Replaces self.old id Kept.Nothing result self.new) }
-    {
-        match given {
-            Some(()) => self.take(id),
-            None => Kept::Nothing,
+    /// As `Home::poll_handle`.
+    pub(crate) fn poll_handle(
+        &mut self,
+        state: &State<W, R>,
+        id: TaskId,
+        waker: W,
+    ) -> PollHandle<Kept<F, Arc<State<W, R>>, T>, W> {
+        let answer = state.cells().poll_handle(id, waker);
+        match answer {
+            PollHandle::Output((), waker) => PollHandle::Output(self.take(id), waker),
+            PollHandle::Cancelled(waker) => PollHandle::Cancelled(waker),
+            PollHandle::Pending(before) => PollHandle::Pending(before),
         }
     }
 }
