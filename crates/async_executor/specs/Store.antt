@@ -1,6 +1,7 @@
-use Rattle.std.specs.Prelude.{◌≡◌, MatchOption, ◌==◌, ℕ, Option, Some, None, cond, List, [], ◌∷◌, ◌++◌, slice_set, slice_get, length, nat_lt, vec_len, vec_capacity, ◌<◌}
+use Rattle.std.specs.Prelude.{◌==◌, Bool, true, false, ℕ, Option, Some, None, cond, List, [], ◌∷◌, ◌++◌, slice_set, slice_get, length, nat_lt, vec_len, vec_capacity, ◌<◌}
 use Rattle.executor_core.specs.declared.task.values.TaskId.{TaskId}
 use Rattle.async_executor.specs.declared.store.Kept.{Kept}
+use Rattle.async_executor.specs.declared.store.Kept.TheVariants.{Nothing, Future, Output}
 use Rattle.async_executor.specs.declared.store.Place.{Place}
 use Rattle.async_executor.specs.declared.store.Store.{Store}
 
@@ -23,12 +24,26 @@ module _ {F S T : Type 0} where
   inserted places id kept =
       cond (nat_lt id.slot (length places)) (with_place places id kept) (places ++ record { number = id.number; kept = kept } ∷ [])
 
-  -- this is kept of the task from now on, and what was kept before comes out; without a place it comes back
-  abbrev pub Replaces : Store F S T → TaskId → Kept F S T → Kept F S T → Store F S T → Type 0
-  Replaces old id kept result new =
-      MatchOption (kept_at old id)
-      ((result ≡ kept) × (new.places.items ≡ old.places.items))
-      (λ before. (result ≡ before) × (new.places.items ≡ with_place old.places.items id kept))
+  -- the task has its place, and nothing is kept there
+  abbrev pub is_vacant : Option (Kept F S T) → Bool
+  is_vacant (Some Nothing) = true
+  is_vacant (Some (Future future share)) = false
+  is_vacant (Some (Output output)) = false
+  is_vacant None = false
+
+  -- the future that is kept of the task, with its share
+  abbrev pub future_in : Option (Kept F S T) → Option (F × S)
+  future_in (Some Nothing) = None
+  future_in (Some (Future future share)) = Some (future, share)
+  future_in (Some (Output output)) = None
+  future_in None = None
+
+  -- the output that is kept of the task
+  abbrev pub output_in : Option (Kept F S T) → Option T
+  output_in (Some Nothing) = None
+  output_in (Some (Future future share)) = None
+  output_in (Some (Output output)) = Some output
+  output_in None = None
 
   -- a place more needs no memory
   abbrev pub HasRoom : Store F S T → Type 0

@@ -4,13 +4,13 @@ ghost use Rattle.executor_core.specs.Refusals.{refused_future};
 
 use crate::lock::lock;
 use crate::state::State;
-use crate::store::{Kept, Store};
+use crate::store::Store;
 use crate::waker::TaskWaker;
 use executor_core::task::{
     Future, Held, Notice, OutOfMemory, PollHandle, SpawnError, TaskId, Wake, Wakeup,
 };
 use std::alloc::Global;
-use std::sync::{Arc, Mutex, MutexGuard, Wait};
+use std::sync::{Arc, Mutex, Wait};
 
 /// A share of an executor's state and of its store.
 ///
@@ -35,11 +35,18 @@ pub trait Home: Drop {
     fn spawn(&self, future: Self::Future) -> Result<(TaskId, Notice), SpawnError<Self::Future>>
         ensures { IfErr result (λ e. refused_future e ≡ future) };
 
-    /// Takes what is kept of the task.
-    fn take(&self, id: TaskId) -> KeptIn<Self>;
+    /// Takes the future of the task, and its waker.
+    fn take(
+        &self,
+        id: TaskId,
+    ) -> Option<(Self::Future, TaskWaker<Self::Waker, Self::Runtime>)>;
 
-    /// Keeps this of the task, and gives what was kept before.
-    fn replace(&self, id: TaskId, kept: KeptIn<Self>) -> KeptIn<Self>;
+    /// Keeps the future of the waker's task again. Where the task has no place, both are given back.
+    fn put_back(
+        &self,
+        future: Self::Future,
+        waker: TaskWaker<Self::Waker, Self::Runtime>,
+    ) -> Option<(Self::Future, Arc<State<Self::Waker, Self::Runtime>>)>;
 
     /// Ends a task whose future gave this output. The output is kept where the handle wants it, and
     /// else given back.
@@ -47,33 +54,26 @@ pub trait Home: Drop {
         &self,
         id: TaskId,
         held: Held,
-        output: KeptIn<Self>,
-    ) -> (KeptIn<Self>, Option<Wakeup<Self::Waker>>)
+        output: OutputIn<Self>,
+    ) -> (Option<OutputIn<Self>>, Option<Wakeup<Self::Waker>>)
         requires { held.to_drop ≡ false };
 
-    /// Ends the handle of a task that has ended. What was kept of the task comes out, and a waker
-    /// that was left. `None` says that the task has not ended.
-    fn take_ended(&self, id: TaskId) -> Option<(KeptIn<Self>, Option<Self::Waker>)>;
+    /// Ends the handle of a task that has ended. The output comes out where there is one, and a
+    /// waker that was left. `None` says that the task has not ended.
+    fn take_ended(&self, id: TaskId) -> Option<(Option<OutputIn<Self>>, Option<Self::Waker>)>;
 
     /// Asks the handle of a task for its output, and leaves the waker where there is no answer.
     fn poll_handle(
         &self,
         id: TaskId,
         waker: Self::Waker,
-    ) -> PollHandle<KeptIn<Self>, Self::Waker>;
+    ) -> PollHandle<Option<OutputIn<Self>>, Self::Waker>;
 }
 
 /// What a task gives.
 pub type OutputIn<H> = <<H as Home>::Future as Future<
     TaskWaker<<H as Home>::Waker, <H as Home>::Runtime>,
 >>::Output;
-
-/// What is kept of a task.
-pub type KeptIn<H> = Kept<
-    <H as Home>::Future,
-    Arc<State<<H as Home>::Waker, <H as Home>::Runtime>>,
-    OutputIn<H>,
->;
 
 #[derive(Drop)]
 struct Shared<F: Future<TaskWaker<W, R>>, W: Wake, R: Wait + Clone + Drop> {
@@ -85,13 +85,6 @@ struct Shared<F: Future<TaskWaker<W, R>>, W: Wake, R: Wait + Clone + Drop> {
 #[derive(Drop)]
 pub struct SharedHome<F: Future<TaskWaker<W, R>>, W: Wake, R: Wait + Clone + Drop> {
     shared: Arc<Shared<F, W, R>>,
-}
-
-impl<F: Future<TaskWaker<W, R>>, W: Wake, R: Wait + Clone + Drop> SharedHome<F, W, R> {
-    #[inline(always)]
-    fn store(&self) -> MutexGuard<'_, Store<F, Arc<State<W, R>>, F::Output>> {
-        lock(&self.shared.store, self.shared.state.rt())
-    }
 }
 
 impl<F: Future<TaskWaker<W, R>> + Send, W: Wake + Send, R: Wait + Clone + Drop + Send + Sync> Home
@@ -127,35 +120,39 @@ where
 
     fn spawn(&self, future: F) -> Result<(TaskId, Notice), SpawnError<F>> {
         match Arc::try_clone(&self.shared.state) {
-            Ok(share) => self.store().spawn(share, future),
+            Ok(state) => lock!(self.shared.store, self.shared.state.rt()).spawn(state, future),
             Err(_) => Err(SpawnError::OutOfMemory(future)),
         }
     }
 
-    fn take(&self, id: TaskId) -> KeptIn<Self> {
-        self.store().take(id)
+    fn take(&self, id: TaskId) -> Option<(F, TaskWaker<W, R>)> {
+        lock!(self.shared.store, self.shared.state.rt()).take(id)
     }
 
-    fn replace(&self, id: TaskId, kept: KeptIn<Self>) -> KeptIn<Self> {
-        self.store().replace(id, kept)
+    fn put_back(
+        &self,
+        future: F,
+        waker: TaskWaker<W, R>,
+    ) -> Option<(F, Arc<State<W, R>>)> {
+        lock!(self.shared.store, self.shared.state.rt()).put_back(future, waker)
     }
 
     fn end_ready(
         &self,
         id: TaskId,
         held: Held,
-        output: KeptIn<Self>,
-    ) -> (KeptIn<Self>, Option<Wakeup<W>>)
+        output: F::Output,
+    ) -> (Option<F::Output>, Option<Wakeup<W>>)
         requires { held.to_drop ≡ false }
     {
-        self.store().end_ready(self.state(), id, held, output)
+        lock!(self.shared.store, self.shared.state.rt()).end_ready(self.state(), id, held, output)
     }
 
-    fn take_ended(&self, id: TaskId) -> Option<(KeptIn<Self>, Option<W>)> {
-        self.store().take_ended(self.state(), id)
+    fn take_ended(&self, id: TaskId) -> Option<(Option<F::Output>, Option<W>)> {
+        lock!(self.shared.store, self.shared.state.rt()).take_ended(self.state(), id)
     }
 
-    fn poll_handle(&self, id: TaskId, waker: W) -> PollHandle<KeptIn<Self>, W> {
-        self.store().poll_handle(self.state(), id, waker)
+    fn poll_handle(&self, id: TaskId, waker: W) -> PollHandle<Option<F::Output>, W> {
+        lock!(self.shared.store, self.shared.state.rt()).poll_handle(self.state(), id, waker)
     }
 }

@@ -2,33 +2,25 @@
 ghost use Rattle.std.specs.Prelude.{◌≡◌};
 ghost use Rattle.async_executor.specs.Poller.{AnswersOwn, DisposesOwn};
 
-use crate::state::State;
-use crate::store::Kept;
 use crate::waker::TaskWaker;
 use executor_core::task::{Future, Poll, Polled, Poller, TaskId, Wake};
-use std::sync::{Arc, Wait};
+use std::sync::Wait;
 
-/// Holds what is out of one task: the future, or after its last poll the output. It answers for this
-/// task alone, and counts the polls and the disposals that it is asked for.
+/// Holds the future of one task while it is out, and the waker that it is polled with. It answers
+/// for this task alone, and counts the polls and the disposals that it is asked for.
+#[derive(Drop)]
 pub(crate) struct TaskPoller<F: Future<TaskWaker<W, R>>, W: Wake, R: Wait + Clone + Drop> {
     id: TaskId,
-    out: Kept<F, TaskWaker<W, R>, F::Output>,
+    out: Option<(F, TaskWaker<W, R>)>,
     polls: u64,
     disposals: u64,
 }
 
 impl<F: Future<TaskWaker<W, R>>, W: Wake, R: Wait + Clone + Drop> TaskPoller<F, W, R> {
-    /// The poller of this task, of which this was kept.
-    pub(crate) fn new(id: TaskId, kept: Kept<F, Arc<State<W, R>>, F::Output>) -> TaskPoller<F, W, R>
-        ensures id { result.id ≡ id }
-        ensures polls { result.polls ≡ 0 }
-        ensures disposals { result.disposals ≡ 0 }
+    /// The poller of the task of this id.
+    pub(crate) fn new(id: TaskId, out: Option<(F, TaskWaker<W, R>)>) -> TaskPoller<F, W, R>
+        ensures { result ≡ record { id = id; out = out; polls = 0; disposals = 0 } }
     {
-        let out = match kept {
-            Kept::Nothing => Kept::Nothing,
-            Kept::Future(future, state) => Kept::Future(future, TaskWaker::new(state, id)),
-            Kept::Output(output) => Kept::Output(output),
-        };
         TaskPoller {
             id,
             out,
@@ -37,23 +29,21 @@ impl<F: Future<TaskWaker<W, R>>, W: Wake, R: Wait + Clone + Drop> TaskPoller<F, 
         }
     }
 
-    /// What is left of the task, to be kept.
-    pub(crate) fn into_kept(self) -> Kept<F, Arc<State<W, R>>, F::Output> {
+    /// The future, where it is not dropped, and its waker.
+    pub(crate) fn into_out(self) -> Option<(F, TaskWaker<W, R>)>
+        ensures { result ≡ self.out }
+    {
         let TaskPoller {
             id: _,
             out,
             polls: _,
             disposals: _,
         } = self;
-        match out {
-            Kept::Nothing => Kept::Nothing,
-            Kept::Future(future, waker) => Kept::Future(future, waker.into_state()),
-            Kept::Output(output) => Kept::Output(output),
-        }
+        out
     }
 }
 
-impl<F: Future<TaskWaker<W, R>>, W: Wake, R: Wait + Clone + Drop> Poller<(), ()>
+impl<F: Future<TaskWaker<W, R>>, W: Wake, R: Wait + Clone + Drop> Poller<(), F::Output>
     for TaskPoller<F, W, R> {
     ghost polls = { λ p. p.polls };
 
@@ -63,11 +53,11 @@ impl<F: Future<TaskWaker<W, R>>, W: Wake, R: Wait + Clone + Drop> Poller<(), ()>
 
     ghost disposed = { λ p id _ after. DisposesOwn p id after };
 
-    /// Polls the future once. One that is ready is dropped, and its output is held in its stead.
-    /// Another task's future is not there, and so it is not ready.
-    fn poll(&mut self, id: TaskId, _future: ()) -> Polled<(), ()> {
+    /// Polls the future once, and drops it where it is ready. Another task's future is not there, and
+    /// so it is not ready.
+    fn poll(&mut self, id: TaskId, _future: ()) -> Polled<(), F::Output> {
         self.polls += 1;
-        let Kept::Future(future, waker) = &mut self.out else {
+        let Some((future, waker)) = &mut self.out else {
             return Polled::Pending(());
         };
         if id != self.id {
@@ -76,8 +66,8 @@ impl<F: Future<TaskWaker<W, R>>, W: Wake, R: Wait + Clone + Drop> Poller<(), ()>
         match future.poll(waker) {
             Poll::Pending => Polled::Pending(()),
             Poll::Ready(output) => {
-                self.out = Kept::Output(output);
-                Polled::Ready(())
+                self.out = None;
+                Polled::Ready(output)
             }
         }
     }
@@ -86,7 +76,7 @@ impl<F: Future<TaskWaker<W, R>>, W: Wake, R: Wait + Clone + Drop> Poller<(), ()>
     fn dispose(&mut self, id: TaskId, _future: ()) {
         self.disposals += 1;
         if id == self.id {
-            self.out = Kept::Nothing;
+            self.out = None;
         }
     }
 }

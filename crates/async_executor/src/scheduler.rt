@@ -6,10 +6,11 @@
 ghost use Rattle.std.specs.Prelude.{◌≡◌, true, false, IfOk, IfErr};
 ghost use Rattle.executor_core.specs.Refusals.{refused_future};
 
-use crate::home::{Home, KeptIn};
+use crate::home::{Home, OutputIn};
 use crate::poller::TaskPoller;
 use crate::state::wake_if_some;
 use crate::task::TaskIn;
+use crate::waker::TaskWaker;
 use executor_core::task::{
     EndPending, Held, OutOfMemory, Ran, SpawnError, Taken, TaskId, run_taken,
 };
@@ -71,20 +72,25 @@ impl<H: Home> ExecutorIn<H> {
     {
         let id = taken.id();
         let mut poller = TaskPoller::new(id, self.home.take(id));
-        let ran = run_taken(taken, &mut poller);
-        let kept = poller.into_kept();
-        match ran {
-            Ran::Pending(held, ()) => self.end_pending(id, held, kept),
-            Ran::Ready(held, ()) => self.end_ready(id, held, kept),
+        match run_taken(taken, &mut poller) {
+            Ran::Pending(held, ()) => self.end_pending(id, held, poller.into_out()),
+            Ran::Ready(held, output) => self.end_ready(id, held, output),
             Ran::Dropped(held) => self.end_dropped(held),
         }
     }
 
     // Puts back a future that is not ready.
-    fn end_pending(&self, id: TaskId, held: Held, kept: KeptIn<H>)
+    fn end_pending(
+        &self,
+        id: TaskId,
+        held: Held,
+        out: Option<(H::Future, TaskWaker<H::Waker, H::Runtime>)>,
+    )
         requires { held.to_drop ≡ false }
     {
-        drop(self.home.replace(id, kept));
+        if let Some((future, waker)) = out {
+            drop(self.home.put_back(future, waker));
+        }
         let state = self.home.state();
         let ended = state.cells().end_pending(held, ());
         match ended {
@@ -105,10 +111,10 @@ impl<H: Home> ExecutorIn<H> {
 
     // Leaves the output to the handle. Where none is there, or the task was cancelled meanwhile, the
     // output is dropped.
-    fn end_ready(&self, id: TaskId, held: Held, kept: KeptIn<H>)
+    fn end_ready(&self, id: TaskId, held: Held, output: OutputIn<H>)
         requires { held.to_drop ≡ false }
     {
-        let (unwanted, awaiter) = self.home.end_ready(id, held, kept);
+        let (unwanted, awaiter) = self.home.end_ready(id, held, output);
         drop(unwanted);
         wake_if_some(awaiter);
     }

@@ -44,7 +44,7 @@ impl<W: Wake, R: Wait + Clone + Drop> State<W, R> {
     pub(crate) fn cells(&self) -> MutexGuard<'_, Cells<(), (), W>>
         ensures { LockLaw (mutex_guard_value result).cells (mutex_guard_value result).global }
     {
-        let cells = lock(&self.cells, &self.rt);
+        let cells = lock!(self.cells, &self.rt);
         cells.keeps_law();
         cells
     }
@@ -55,7 +55,7 @@ impl<W: Wake, R: Wait + Clone + Drop> State<W, R> {
         ensures closed { (mutex_guard_value result).sleepers.is_open ≡ false }
         ensures law { SleeperLaw (mutex_guard_value result).sleepers }
     {
-        let guard = lock(&self.sleepers, &self.rt);
+        let guard = lock!(self.sleepers, &self.rt);
         guard.sleepers.is_notified();
         guard
     }

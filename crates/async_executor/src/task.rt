@@ -9,8 +9,7 @@
 ghost use Rattle.std.specs.Prelude.{◌≡◌, false, IsTrue};
 ghost use Rattle.async_executor.specs.Answers.{is_ready, IsReadyErr, IsReadyNone};
 
-use crate::home::{Home, KeptIn, OutputIn};
-use crate::store::Kept;
+use crate::home::{Home, OutputIn};
 use executor_core::task::{Future, Poll, PollHandle, TaskId, Wake};
 use thiserror::Error;
 
@@ -80,19 +79,20 @@ impl<H: Home> TaskIn<H> {
         self.answered || self.home.state().cells().is_finished(self.id)
     }
 
-    // What is left of the task where it has ended. Where it has not, a copy of the waker is kept.
-    fn poll_ended(&self, w: &H::Waker) -> Option<KeptIn<H>> {
-        if let Some((kept, _)) = self.home.take_ended(self.id) {
-            return Some(kept);
+    // The output of the task, where it has one, once it has ended. Before that a copy of the waker is
+    // kept.
+    fn poll_output(&self, w: &H::Waker) -> Poll<Option<OutputIn<H>>> {
+        if let Some((output, _)) = self.home.take_ended(self.id) {
+            return Poll::Ready(output);
         }
         let Ok(waker) = w.copy() else {
             w.wake();
-            return None;
+            return Poll::Pending;
         };
         match self.home.poll_handle(self.id, waker) {
-            PollHandle::Output(kept, _) => Some(kept),
-            PollHandle::Cancelled(_) => Some(Kept::Nothing),
-            PollHandle::Pending(_) => None,
+            PollHandle::Output(output, _) => Poll::Ready(output),
+            PollHandle::Cancelled(_) => Poll::Ready(None),
+            PollHandle::Pending(_) => Poll::Pending,
         }
     }
 }
@@ -111,13 +111,12 @@ impl<H: Home> Future<H::Waker> for TaskIn<H> {
         if self.answered {
             return Poll::Ready(Err(Cancelled));
         }
-        let Some(kept) = self.poll_ended(w) else {
-            return Poll::Pending;
-        };
-        self.answered = true;
-        match kept {
-            Kept::Output(output) => Poll::Ready(Ok(output)),
-            _ => Poll::Ready(Err(Cancelled)),
+        match self.poll_output(w) {
+            Poll::Pending => Poll::Pending,
+            Poll::Ready(output) => {
+                self.answered = true;
+                Poll::Ready(output.ok_or(Cancelled))
+            }
         }
     }
 }

@@ -24,12 +24,12 @@ impl<W: Wake, R: Wait + Clone + Drop> TaskWaker<W, R> {
         TaskWaker { state, id }
     }
 
-    /// The share of the state that the waker was made of.
-    pub(crate) fn into_state(self) -> Arc<State<W, R>>
-        ensures { result ≡ self.state }
+    /// The share of the state and the id that the waker was made of.
+    pub(crate) fn into_parts(self) -> (Arc<State<W, R>>, TaskId)
+        ensures { result ≡ (self.state, self.id) }
     {
-        let TaskWaker { state, id: _ } = self;
-        state
+        let TaskWaker { state, id } = self;
+        (state, id)
     }
 }
 
