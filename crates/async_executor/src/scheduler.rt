@@ -8,7 +8,6 @@ ghost use Rattle.executor_core.specs.Refusals.{refused_future};
 
 use crate::home::{Home, OutputIn};
 use crate::poller::TaskPoller;
-use crate::state::wake_if_some;
 use crate::task::TaskIn;
 use crate::waker::TaskWaker;
 use executor_core::task::{
@@ -92,10 +91,17 @@ impl<H: Home> ExecutorIn<H> {
             drop(self.home.put_back(future, waker));
         }
         let state = self.home.state();
-        let ended = state.cells().end_pending(held, ());
-        match ended {
-            EndPending::Back(notice) => state.announce_if_some(notice),
-            EndPending::Drop((), held) => self.drop_pending(id, held),
+        let mut cells = state.cells();
+        match cells.end_pending(held, ()) {
+            EndPending::Back(None) => {}
+            EndPending::Back(Some(notice)) => {
+                drop(cells);
+                state.announce(notice);
+            }
+            EndPending::Drop((), held) => {
+                drop(cells);
+                self.drop_pending(id, held);
+            }
         }
     }
 
@@ -116,14 +122,19 @@ impl<H: Home> ExecutorIn<H> {
     {
         let (unwanted, awaiter) = self.home.end_ready(id, held, output);
         drop(unwanted);
-        wake_if_some(awaiter);
+        if let Some(awaiter) = awaiter {
+            awaiter.wake();
+        }
     }
 
     // Ends a task whose future was dropped.
+    #[inline(always)]
     fn end_dropped(&self, held: Held)
         requires { held.to_drop ≡ true }
     {
         let awaiter = self.home.state().cells().end_dropped(held);
-        wake_if_some(awaiter);
+        if let Some(awaiter) = awaiter {
+            awaiter.wake();
+        }
     }
 }

@@ -6,7 +6,7 @@ ghost use Rattle.executor_core.specs.Sleepers.{SleeperLaw};
 
 use crate::lock::lock;
 use executor_core::sleepers::{ClosedSleepers, Flag};
-use executor_core::task::{Cells, Notice, OutOfMemory, Pick, Wake, Wakeup};
+use executor_core::task::{Cells, Notice, OutOfMemory, Pick, Wake};
 use std::alloc::Global;
 use std::sync::{Mutex, MutexGuard, Wait};
 
@@ -69,27 +69,13 @@ impl<W: Wake, R: Wait + Clone + Drop> State<W, R> {
         }
     }
 
-    /// Spends the notice, where there is one. No lock may be held.
-    #[inline(always)]
-    pub(crate) fn announce_if_some(&self, notice: Option<Notice>) {
-        if let Some(notice) = notice {
-            self.announce(notice);
-        }
-    }
-
     // The waker is woken once the lock is given up.
     #[cold]
     #[inline(never)]
     fn notify(&self, pick: Pick) {
         let wakeup = self.sleepers().sleepers.notify(pick);
-        wake_if_some(wakeup);
-    }
-}
-
-/// Wakes the waker, where there is one. No lock may be held.
-#[inline(always)]
-pub(crate) fn wake_if_some<W: Wake>(wakeup: Option<Wakeup<W>>) {
-    if let Some(wakeup) = wakeup {
-        wakeup.wake();
+        if let Some(wakeup) = wakeup {
+            wakeup.wake();
+        }
     }
 }

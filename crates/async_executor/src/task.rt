@@ -46,7 +46,7 @@ impl<H: Home> TaskIn<H> {
         let mut cells = home.state().cells();
         if cells.is_ended(id) {
             drop(cells);
-            drop(home.take_ended(id));
+            detach_ended(&home, id);
             return;
         }
         let (_, awaiter) = cells.detach(id);
@@ -61,7 +61,9 @@ impl<H: Home> TaskIn<H> {
     {
         let state = self.home.state();
         let notice = state.cells().cancel(self.id);
-        state.announce_if_some(notice);
+        if let Some(notice) = notice {
+            state.announce(notice);
+        }
         CancelIn { task: self }
     }
 
@@ -78,23 +80,13 @@ impl<H: Home> TaskIn<H> {
     {
         self.answered || self.home.state().cells().is_finished(self.id)
     }
+}
 
-    // The output of the task, where it has one, once it has ended. Before that a copy of the waker is
-    // kept.
-    fn poll_output(&self, w: &H::Waker) -> Poll<Option<OutputIn<H>>> {
-        if let Some((output, _)) = self.home.take_ended(self.id) {
-            return Poll::Ready(output);
-        }
-        let Ok(waker) = w.copy() else {
-            w.wake();
-            return Poll::Pending;
-        };
-        match self.home.poll_handle(self.id, waker) {
-            PollHandle::Output(output, _) => Poll::Ready(output),
-            PollHandle::Cancelled(_) => Poll::Ready(None),
-            PollHandle::Pending(_) => Poll::Pending,
-        }
-    }
+// Ends the handle of a task that has ended.
+#[cold]
+#[inline(never)]
+fn detach_ended<H: Home>(home: &H, id: TaskId) {
+    drop(home.take_ended(id));
 }
 
 impl<H: Home> Future<H::Waker> for TaskIn<H> {
@@ -111,13 +103,21 @@ impl<H: Home> Future<H::Waker> for TaskIn<H> {
         if self.answered {
             return Poll::Ready(Err(Cancelled));
         }
-        match self.poll_output(w) {
-            Poll::Pending => Poll::Pending,
-            Poll::Ready(output) => {
-                self.answered = true;
-                Poll::Ready(output.ok_or(Cancelled))
-            }
+        if let Some((output, _)) = self.home.take_ended(self.id) {
+            self.answered = true;
+            return Poll::Ready(output.ok_or(Cancelled));
         }
+        let Ok(waker) = w.copy() else {
+            w.wake();
+            return Poll::Pending;
+        };
+        let output = match self.home.poll_handle(self.id, waker) {
+            PollHandle::Pending(_) => return Poll::Pending,
+            PollHandle::Output(output, _) => output,
+            PollHandle::Cancelled(_) => None,
+        };
+        self.answered = true;
+        Poll::Ready(output.ok_or(Cancelled))
     }
 }
 
@@ -131,12 +131,14 @@ impl<H: Home> Drop for TaskIn<H> {
         let mut cells = state.cells();
         if cells.is_ended(id) {
             drop(cells);
-            drop(home.take_ended(id));
+            detach_ended(&home, id);
             return;
         }
         let (notice, _, awaiter) = cells.drop_handle(id);
         drop(cells);
-        state.announce_if_some(notice);
+        if let Some(notice) = notice {
+            state.announce(notice);
+        }
         drop(awaiter);
     }
 }

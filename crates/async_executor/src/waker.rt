@@ -38,7 +38,9 @@ impl<W: Wake, R: Wait + Clone + Drop> Wake for TaskWaker<W, R> {
     /// that poll ends.
     fn wake(&self) {
         let notice = self.state.cells().wake(self.id);
-        self.state.announce_if_some(notice);
+        if let Some(notice) = notice {
+            self.state.announce(notice);
+        }
     }
 
     /// Another waker of the same task.
