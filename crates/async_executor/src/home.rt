@@ -148,6 +148,7 @@ where
         lock!(self.shared.store, self.shared.state.rt()).end_ready(self.state(), id, held, output)
     }
 
+    #[inline(always)]
     fn take_ended(&self, id: TaskId) -> Option<(Option<F::Output>, Option<W>)> {
         lock!(self.shared.store, self.shared.state.rt()).take_ended(self.state(), id)
     }

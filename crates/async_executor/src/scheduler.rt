@@ -106,8 +106,7 @@ impl<H: Home> ExecutorIn<H> {
     }
 
     // Drops a future that was put back, whose task was cancelled while it was polled.
-    #[cold]
-    #[inline(never)]
+    #[inline(always)]
     fn drop_pending(&self, id: TaskId, held: Held)
         requires { held.to_drop ≡ true }
     {

@@ -234,8 +234,10 @@ impl<F: Drop, W: Wake, R: Wait + Clone + Drop, T: Drop> Store<F, Arc<State<W, R>
         if !cells.is_ended(id) {
             return None;
         }
-        let (_, awaiter) = cells.detach(id);
-        Some((self.take_output(id), awaiter))
+        match cells.detach(id) {
+            (Some(()), awaiter) => Some((self.take_output(id), awaiter)),
+            (None, awaiter) => Some((None, awaiter)),
+        }
     }
 
     pub(crate) fn poll_handle(
