@@ -1,4 +1,3 @@
 pub mod Answers
-pub mod Task
+pub mod Poller
 pub mod Store
-pub mod Ends

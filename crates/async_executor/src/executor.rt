@@ -1,52 +1,34 @@
 //! The executor whose tasks any thread may run.
-ghost use Rattle.std.specs.Prelude.{◌≡◌, false, IfOk, IfErr};
-ghost use Rattle.async_executor.specs.Task.{task_answered};
-ghost use Rattle.executor_core.specs.SpawnError.{refused_future};
+use crate::home::SharedHome;
+use crate::scheduler::ExecutorIn;
+use crate::task::{CancelIn, FallibleTaskIn, TaskIn};
 
-use crate::scheduler;
-use crate::storage::{SharedStorage, Storage};
-pub use crate::task::{Cancel, Cancelled, FallibleTask, Task};
+pub use crate::task::Cancelled;
 pub use crate::waker::TaskWaker;
-use executor_core::task::{Future, OutOfMemory, SpawnError, Wake};
-use std::alloc::Global;
-use std::sync::Wait;
 
-/// An executor of futures of the type F, whose handles are awaited by wakers of the type W.
+/// An executor of futures of the type F, whose handles are awaited by wakers of the type W, and which
+/// waits for its locks by the right R.
 ///
-/// It may be shared and sent where F, its output and W may be sent and R may be both. Where it is dropped, it gives
-/// up its share of the tasks, which live on with the handles that are left. It stands for the `Executor` of the Rust
-/// crate.
-#[derive(Drop)]
-pub struct Executor<F: Future<TaskWaker<W, R>>, W: Wake, R: Wait + Clone + Drop> {
-    storage: SharedStorage<F, W, R>,
-}
+/// It may be shared and sent: F, its output and W may be sent, and R may be both, without which it
+/// has no methods. Where it is dropped, it gives up its share of the tasks, which live on with the
+/// handles that are left. It stands for the `Executor` of the Rust crate.
+pub type Executor<F, W, R> = ExecutorIn<SharedHome<F, W, R>>;
 
-impl<F: Future<TaskWaker<W, R>>, W: Wake, R: Wait + Clone + Drop> Executor<F, W, R> {
-    /// An executor without tasks. It keeps the right to wait for its locks, and the allocator.
-    pub fn new(rt: R, alloc: Global) -> Result<Executor<F, W, R>, OutOfMemory> {
-        let storage = SharedStorage::new(rt, alloc)?;
-        Ok(Executor { storage })
-    }
+/// The handle of a task that was spawned: a future of its output, or of `Cancelled`.
+///
+/// Where it is dropped before it has answered, the task is cancelled: its future is dropped in place
+/// of its next poll, and an output that is there is dropped with the handle. It stands for the
+/// `Task` of the Rust crate.
+pub type Task<F, W, R> = TaskIn<SharedHome<F, W, R>>;
 
-    /// Whether the future of every task was dropped. A task that was cancelled counts until then.
-    pub fn is_empty(&self) -> bool {
-        scheduler::is_empty(&self.storage)
-    }
+/// The handle of a task that was cancelled: a future that ends once the future of the task was
+/// dropped.
+///
+/// It gives the output where the task had ended before it was cancelled. Where it is dropped, the
+/// task is let go. It stands for the future that `Task::cancel` of the Rust crate gives.
+pub type Cancel<F, W, R> = CancelIn<SharedHome<F, W, R>>;
 
-    /// Schedules the future as a new task, behind all that are scheduled.
-    ///
-    /// Where memory is refused, or no number is left for the task, the future is given back and all is as before.
-    pub fn spawn(&self, future: F) -> Result<Task<F, W, R>, SpawnError<F>>
-        ensures ok { IfOk result (λ task. task_answered task ≡ false) }
-        ensures refused { IfErr result (λ e. refused_future e ≡ future) }
-    {
-        let handle = scheduler::spawn(&self.storage, future)?;
-        Ok(Task::new(handle))
-    }
-
-    /// Runs the task that was scheduled first, and says whether there was one: its future is polled once, or dropped
-    /// where the task was cancelled.
-    pub fn try_tick(&self) -> bool {
-        scheduler::try_tick(&self.storage)
-    }
-}
+/// The handle of a task: a future of its output, or of `None` where the task was cancelled.
+///
+/// Its drop is that of `Task`. It stands for the `FallibleTask` of the Rust crate.
+pub type FallibleTask<F, W, R> = FallibleTaskIn<SharedHome<F, W, R>>;

@@ -1,22 +1,27 @@
 //! Executors for futures that are written by hand.
 //!
-//! An executor, its handles and the wakers of its tasks share one `State`: the table of tasks of `executor_core`
-//! behind a lock, and the right to wait for that lock. The table holds no futures. The futures and the outputs of
-//! the tasks stand in a `Store`, each under the number of its task, and a `Storage` says where the store itself is
-//! kept and how it is lent. All that runs tasks is written once for every storage, in `scheduler` and `handle`; the
-//! public types are thin names for it.
+//! An executor, its handles and the wakers of its tasks share one `State`: the table of tasks of
+//! `executor_core` behind a lock, and the right to wait for that lock. The table holds no futures.
+//! The futures and the outputs of the tasks stand in a `Store`, each under the number of its task.
+//! There are two tables since a waker has a share of the state, and a future may keep its waker: a
+//! table with futures in it would be a part of itself.
 //!
-//! Where both are locked, the store is locked first and the table second. Neither is locked while a future is
-//! polled or dropped, an output is dropped, or a waker is woken or dropped.
+//! A `Home` is where the store is kept. `ExecutorIn`, `TaskIn`, `CancelIn` and `FallibleTaskIn` are
+//! written once for every home, and the public types are names for them at one home.
+//!
+//! Where both are locked, the store is locked first and the table second. Neither is locked while a
+//! future is polled or dropped, an output is dropped, or a waker is copied, woken or dropped.
 #![tactic(auto)]
 
 pub mod executor;
-pub(crate) mod handle;
+pub(crate) mod home;
 pub(crate) mod lock;
 pub(crate) mod poller;
 pub(crate) mod scheduler;
 pub(crate) mod state;
-pub(crate) mod storage;
 pub(crate) mod store;
 pub(crate) mod task;
 pub(crate) mod waker;
+
+pub use executor::{Cancel, Cancelled, Executor, FallibleTask, Task, TaskWaker};
+pub use executor_core::task::{Future, OutOfMemory, Poll, SpawnError, Wake};

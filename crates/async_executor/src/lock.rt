@@ -1,17 +1,21 @@
-//! Locks that are mostly free.
+//! Takes a lock that is usually free: tries once inline, and only then waits.
 use std::sync::{Mutex, MutexGuard, Wait};
 
-/// Waits for the lock. The first try is made in place, and only what waits is a call.
-#[inline(always)]
-pub(crate) fn lock<'a, T, R: Wait>(mutex: &'a Mutex<T>, rt: &R) -> MutexGuard<'a, T> {
-    match mutex.try_lock() {
-        Some(guard) => guard,
-        None => wait_for(mutex, rt),
-    }
+/// Waits for a lock. It is no function, since each call that may wait costs its caller a test.
+macro_rules! lock {
+    ($mutex:expr, $rt:expr) => {
+        match $mutex.try_lock() {
+            Some(guard) => guard,
+            None => crate::lock::wait_for(&$mutex, $rt),
+        }
+    };
 }
 
+pub(crate) use lock;
+
+/// Waits for a lock that was not free.
 #[cold]
 #[inline(never)]
-fn wait_for<'a, T, R: Wait>(mutex: &'a Mutex<T>, rt: &R) -> MutexGuard<'a, T> {
+pub(crate) fn wait_for<'a, T, R: Wait>(mutex: &'a Mutex<T>, rt: &R) -> MutexGuard<'a, T> {
     mutex.lock(rt)
 }

@@ -1,70 +1,82 @@
 //! Polls the future of a taken task.
 ghost use Rattle.std.specs.Prelude.{◌≡◌};
+ghost use Rattle.async_executor.specs.Poller.{AnswersOwn, DisposesOwn};
 
-use crate::store::Kept;
 use crate::waker::TaskWaker;
 use executor_core::task::{Future, Poll, Polled, Poller, TaskId, Wake};
 use std::sync::Wait;
 
-/// Holds what is kept of one task while the task is out: the future, or after its last poll the output. It counts
-/// the polls and the disposals that it makes.
+/// Holds the future of one task while it is out, and the waker that it is polled with. It answers
+/// for this task alone, and counts the polls and the disposals that it is asked for.
+#[derive(Drop)]
 pub(crate) struct TaskPoller<F: Future<TaskWaker<W, R>>, W: Wake, R: Wait + Clone + Drop> {
-    kept: Kept<F, W, R>,
+    id: TaskId,
+    out: Option<(F, TaskWaker<W, R>)>,
     polls: u64,
     disposals: u64,
 }
 
 impl<F: Future<TaskWaker<W, R>>, W: Wake, R: Wait + Clone + Drop> TaskPoller<F, W, R> {
-    pub(crate) fn new(kept: Kept<F, W, R>) -> TaskPoller<F, W, R>
-        ensures polls { result.polls ≡ 0 }
-        ensures disposals { result.disposals ≡ 0 }
+    /// The poller of the task of this id.
+    pub(crate) fn new(id: TaskId, out: Option<(F, TaskWaker<W, R>)>) -> TaskPoller<F, W, R>
+        ensures { result ≡ record { id = id; out = out; polls = 0; disposals = 0 } }
     {
         TaskPoller {
-            kept,
+            id,
+            out,
             polls: 0,
             disposals: 0,
         }
     }
 
-    /// What is left of the task.
-    pub(crate) fn into_kept(self) -> Kept<F, W, R> {
+    /// The future, where it is not dropped, and its waker.
+    pub(crate) fn into_out(self) -> Option<(F, TaskWaker<W, R>)>
+        ensures { result ≡ self.out }
+    {
         let TaskPoller {
-            kept,
+            id: _,
+            out,
             polls: _,
             disposals: _,
         } = self;
-        kept
+        out
     }
 }
 
-impl<F: Future<TaskWaker<W, R>>, W: Wake, R: Wait + Clone + Drop> Poller<(), ()>
+impl<F: Future<TaskWaker<W, R>>, W: Wake, R: Wait + Clone + Drop> Poller<(), F::Output>
     for TaskPoller<F, W, R> {
     ghost polls = { λ p. p.polls };
 
     ghost disposals = { λ p. p.disposals };
 
-    ghost answers = { λ p id future answer. Unit {0} };
+    ghost answers = { λ p id _ answer. AnswersOwn p id answer };
 
-    ghost disposed = { λ p id future after. Unit {0} };
+    ghost disposed = { λ p id _ after. DisposesOwn p id after };
 
-    /// Polls the future once. One that is ready is dropped, and its output is kept in its stead.
-    fn poll(&mut self, _id: TaskId, _future: ()) -> Polled<(), ()> {
+    /// Polls the future once, and drops it where it is ready. Another task's future is not there, and
+    /// so it is not ready.
+    fn poll(&mut self, id: TaskId, _future: ()) -> Polled<(), F::Output> {
         self.polls += 1;
-        let Kept::Future(future, waker) = &mut self.kept else {
+        let Some((future, waker)) = &mut self.out else {
             return Polled::Pending(());
         };
+        if id != self.id {
+            return Polled::Pending(());
+        }
         match future.poll(waker) {
             Poll::Pending => Polled::Pending(()),
             Poll::Ready(output) => {
-                self.kept = Kept::Output(output);
-                Polled::Ready(())
+                self.out = None;
+                Polled::Ready(output)
             }
         }
     }
 
-    /// Drops the future.
-    fn dispose(&mut self, _id: TaskId, _future: ()) {
+    /// Drops the future, where it is that of this task.
+    fn dispose(&mut self, id: TaskId, _future: ()) {
         self.disposals += 1;
-        self.kept = Kept::Nothing;
+        if id == self.id {
+            self.out = None;
+        }
     }
 }

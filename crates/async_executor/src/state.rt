@@ -1,7 +1,12 @@
 //! What an executor, its handles and the wakers of its tasks share.
+ghost use Rattle.std.specs.Prelude.{◌≡◌, false};
+ghost use Rattle.std.specs.Sync.Mutex.{mutex_guard_value};
+ghost use Rattle.executor_core.specs.Cells.Law.{LockLaw};
+ghost use Rattle.executor_core.specs.Sleepers.{SleeperLaw};
+
 use crate::lock::lock;
 use executor_core::sleepers::{ClosedSleepers, Flag};
-use executor_core::task::{Cells, Notice, OutOfMemory, Pick, Wake, Wakeup};
+use executor_core::task::{Cells, Notice, OutOfMemory, Pick, Wake};
 use std::alloc::Global;
 use std::sync::{Mutex, MutexGuard, Wait};
 
@@ -33,24 +38,34 @@ impl<W: Wake, R: Wait + Clone + Drop> State<W, R> {
         &self.rt
     }
 
-    /// Waits for the table of tasks, which is locked until the guard is dropped.
+    /// Waits for the table of tasks, which is locked until the guard is dropped. It comes with its
+    /// law: a task stands once in the queues where it is scheduled, and else in none.
     #[inline(always)]
-    pub(crate) fn cells(&self) -> MutexGuard<'_, Cells<(), (), W>> {
-        lock(&self.cells, &self.rt)
+    pub(crate) fn cells(&self) -> MutexGuard<'_, Cells<(), (), W>>
+        ensures { LockLaw (mutex_guard_value result) }
+    {
+        let cells = lock!(self.cells, &self.rt);
+        cells.law_holds();
+        cells
+    }
+
+    /// Waits for the sleepers, which are locked until the guard is dropped. They come with their
+    /// law, and the flag was stored for each change of their list.
+    fn sleepers(&self) -> MutexGuard<'_, ClosedSleepers<W>>
+        ensures closed { (mutex_guard_value result).sleepers.is_open ≡ false }
+        ensures law { SleeperLaw (mutex_guard_value result).sleepers }
+    {
+        let guard = lock!(self.sleepers, &self.rt);
+        guard.sleepers.is_notified();
+        guard
     }
 
     /// Spends the notice of a task that was queued or taken: where somebody sleeps and nobody was
     /// notified since, a sleeper is woken. No lock may be held. It stands for `State::notify`.
+    #[inline(always)]
     pub(crate) fn announce(&self, notice: Notice) {
         if let Some(pick) = self.flag.exchange(notice) {
             self.notify(pick);
-        }
-    }
-
-    /// Spends the notice, where there is one. No lock may be held.
-    pub(crate) fn announce_any(&self, notice: Option<Notice>) {
-        if let Some(notice) = notice {
-            self.announce(notice);
         }
     }
 
@@ -58,14 +73,9 @@ impl<W: Wake, R: Wait + Clone + Drop> State<W, R> {
     #[cold]
     #[inline(never)]
     fn notify(&self, pick: Pick) {
-        let wakeup = lock(&self.sleepers, &self.rt).sleepers.notify(pick);
-        wake_any(wakeup);
-    }
-}
-
-/// Wakes the waker, where there is one. No lock may be held.
-pub(crate) fn wake_any<W: Wake>(wakeup: Option<Wakeup<W>>) {
-    if let Some(wakeup) = wakeup {
-        wakeup.wake();
+        let wakeup = self.sleepers().sleepers.notify(pick);
+        if let Some(wakeup) = wakeup {
+            wakeup.wake();
+        }
     }
 }

@@ -1,16 +1,16 @@
 //! The handles of an executor's tasks.
 //!
-//! `Task`, `Cancel` and `FallibleTask` are three names for one handle, and differ in what they answer. Each of them
-//! cancels its task when it is dropped before it has answered.
+//! `CancelIn` and `FallibleTaskIn` are names for a `TaskIn`, and differ from it in what they answer.
+//! Each of them cancels its task when it is dropped before it has answered.
+//!
+//! What a handle does to a task that has ended is one change of the store and of the table, since
+//! the task may have to leave its slot and its place to a new one. What it does before is a change
+//! of the table alone.
 ghost use Rattle.std.specs.Prelude.{◌≡◌, false, IsTrue};
 ghost use Rattle.async_executor.specs.Answers.{is_ready, IsReadyErr, IsReadyNone};
-ghost use Rattle.async_executor.specs.Task.{task_answered, cancel_answered, fallible_answered};
 
-use crate::handle::Handle;
-use crate::storage::SharedStorage;
-use crate::waker::TaskWaker;
-use executor_core::task::{Future, Poll, Wake};
-use std::sync::Wait;
+use crate::home::{Home, OutputIn};
+use executor_core::task::{Future, Poll, PollHandle, TaskId, Wake};
 use thiserror::Error;
 
 /// A task has no output to give: it was cancelled, or its handle has answered before.
@@ -18,131 +18,187 @@ use thiserror::Error;
 #[error("the task was cancelled")]
 pub struct Cancelled;
 
-/// The handle of a task that was spawned: a future of its output, or of `Cancelled`.
-///
-/// Where it is dropped before it has answered, the task is cancelled: its future is dropped in place of its next
-/// poll, and an output that is there is dropped with the handle. It stands for the `Task` of the Rust crate.
-#[derive(Drop)]
-pub struct Task<F: Future<TaskWaker<W, R>>, W: Wake, R: Wait + Clone + Drop> {
-    handle: Handle<SharedStorage<F, W, R>>,
+/// A share of an executor, and one of its tasks. Its drop cancels the task.
+pub struct TaskIn<H: Home> {
+    home: H,
+    id: TaskId,
+    answered: bool,
 }
 
-impl<F: Future<TaskWaker<W, R>>, W: Wake, R: Wait + Clone + Drop> Task<F, W, R> {
-    pub(crate) fn new(handle: Handle<SharedStorage<F, W, R>>) -> Task<F, W, R>
-        ensures { result.handle ≡ handle }
+impl<H: Home> TaskIn<H> {
+    /// The handle of a new task.
+    pub(crate) fn new(home: H, id: TaskId) -> TaskIn<H>
+        ensures { result.answered ≡ false }
     {
-        Task { handle }
+        TaskIn {
+            home,
+            id,
+            answered: false,
+        }
     }
 
     /// Lets the task run on without a handle. Its output is dropped once it is there.
     pub fn detach(self) {
-        let Task { handle } = self;
-        handle.detach();
+        let TaskIn { home, id, answered } = self;
+        if answered {
+            return;
+        }
+        let mut cells = home.state().cells();
+        if cells.is_ended(id) {
+            drop(cells);
+            detach_ended(&home, id);
+            return;
+        }
+        let (_, awaiter) = cells.detach(id);
+        drop(cells);
+        drop(awaiter);
     }
 
-    /// Cancels the task at once: it is scheduled, and its future is dropped in place of its next poll. What is given
-    /// is a future that ends once the future of the task was dropped.
-    pub fn cancel(self) -> Cancel<F, W, R>
-        ensures { cancel_answered result ≡ task_answered self }
+    /// Cancels the task at once: it is scheduled, and its future is dropped in place of its next
+    /// poll. What is given is a future that ends once the future of the task was dropped.
+    pub fn cancel(self) -> CancelIn<H>
+        ensures { result.task.answered ≡ self.answered }
     {
-        let Task { handle } = self;
-        handle.cancel();
-        Cancel { handle }
+        let state = self.home.state();
+        let notice = state.cells().cancel(self.id);
+        if let Some(notice) = notice {
+            state.announce(notice);
+        }
+        CancelIn { task: self }
     }
 
     /// The same task, with `None` in place of `Cancelled`.
-    pub fn fallible(self) -> FallibleTask<F, W, R>
-        ensures { fallible_answered result ≡ task_answered self }
+    pub fn fallible(self) -> FallibleTaskIn<H>
+        ensures { result.task.answered ≡ self.answered }
     {
-        let Task { handle } = self;
-        FallibleTask { handle }
+        FallibleTaskIn { task: self }
     }
 
     /// Whether the task has ended or was cancelled, or this handle has answered.
     pub fn is_finished(&self) -> bool
-        ensures { IsTrue (task_answered self.now) → IsTrue result }
+        ensures { IsTrue self.now.answered → IsTrue result }
     {
-        self.handle.is_finished()
+        self.answered || self.home.state().cells().is_finished(self.id)
     }
 }
 
-impl<F: Future<TaskWaker<W, R>>, W: Wake, R: Wait + Clone + Drop> Future<W> for Task<F, W, R> {
-    type Output = Result<F::Output, Cancelled>;
+// Ends the handle of a task that has ended.
+#[cold]
+#[inline(never)]
+fn detach_ended<H: Home>(home: &H, id: TaskId) {
+    drop(home.take_ended(id));
+}
 
-    /// Gives the output, which goes out once: a handle that has answered answers `Cancelled` from then on. While
-    /// there is no answer, a copy of the waker is kept, in place of an earlier one, and is woken once there is one.
-    /// Where the copy is refused, the waker itself is woken and nothing is kept.
-    fn poll(&mut self, w: &W) -> Poll<Result<F::Output, Cancelled>>
-        ensures answered { task_answered self.new ≡ is_ready result }
-        ensures again { IsTrue (task_answered self.old) → IsReadyErr result }
+impl<H: Home> Future<H::Waker> for TaskIn<H> {
+    type Output = Result<OutputIn<H>, Cancelled>;
+
+    /// Gives the output, which goes out once: a handle that has answered answers `Cancelled` from
+    /// then on. While there is no answer, a copy of the waker is kept, in place of an earlier one,
+    /// and is woken once there is one. Where the copy is refused, the waker itself is woken and
+    /// nothing is kept.
+    fn poll(&mut self, w: &H::Waker) -> Poll<Result<OutputIn<H>, Cancelled>>
+        ensures answered { self.new.answered ≡ is_ready result }
+        ensures again { IsTrue self.old.answered → IsReadyErr result }
     {
-        self.handle.poll(w)
+        if self.answered {
+            return Poll::Ready(Err(Cancelled));
+        }
+        if let Some((output, _)) = self.home.take_ended(self.id) {
+            self.answered = true;
+            return Poll::Ready(output.ok_or(Cancelled));
+        }
+        let Ok(waker) = w.copy() else {
+            w.wake();
+            return Poll::Pending;
+        };
+        let output = match self.home.poll_handle(self.id, waker) {
+            PollHandle::Pending(_) => return Poll::Pending,
+            PollHandle::Output(output, _) => output,
+            PollHandle::Cancelled(_) => None,
+        };
+        self.answered = true;
+        Poll::Ready(output.ok_or(Cancelled))
     }
 }
 
-/// The handle of a task that was cancelled: a future that ends once the future of the task was dropped.
-///
-/// It gives the output where the task had ended before it was cancelled. Where it is dropped, the task is let go. It
-/// stands for the future that `Task::cancel` of the Rust crate gives.
+impl<H: Home> Drop for TaskIn<H> {
+    fn drop(self) {
+        let TaskIn { home, id, answered } = self;
+        if answered {
+            return;
+        }
+        let state = home.state();
+        let mut cells = state.cells();
+        if cells.is_ended(id) {
+            drop(cells);
+            detach_ended(&home, id);
+            return;
+        }
+        let (notice, _, awaiter) = cells.drop_handle(id);
+        drop(cells);
+        if let Some(notice) = notice {
+            state.announce(notice);
+        }
+        drop(awaiter);
+    }
+}
+
+/// The handle of a task that was cancelled, with `None` in place of `Cancelled`.
 #[derive(Drop)]
-pub struct Cancel<F: Future<TaskWaker<W, R>>, W: Wake, R: Wait + Clone + Drop> {
-    handle: Handle<SharedStorage<F, W, R>>,
+pub struct CancelIn<H: Home> {
+    task: TaskIn<H>,
 }
 
-impl<F: Future<TaskWaker<W, R>>, W: Wake, R: Wait + Clone + Drop> Future<W> for Cancel<F, W, R> {
-    type Output = Option<F::Output>;
+impl<H: Home> Future<H::Waker> for CancelIn<H> {
+    type Output = Option<OutputIn<H>>;
 
     /// As the poll of `Task`, with `None` in place of `Cancelled`.
-    fn poll(&mut self, w: &W) -> Poll<Option<F::Output>>
-        ensures answered { cancel_answered self.new ≡ is_ready result }
-        ensures again { IsTrue (cancel_answered self.old) → IsReadyNone result }
+    fn poll(&mut self, w: &H::Waker) -> Poll<Option<OutputIn<H>>>
+        ensures answered { self.new.task.answered ≡ is_ready result }
+        ensures again { IsTrue self.old.task.answered → IsReadyNone result }
     {
-        some_if_ok(self.handle.poll(w))
+        some_if_ok(self.task.poll(w))
     }
 }
 
-/// The handle of a task: a future of its output, or of `None` where the task was cancelled.
-///
-/// Its drop is that of `Task`. It stands for the `FallibleTask` of the Rust crate.
+/// The handle of a task, with `None` in place of `Cancelled`.
 #[derive(Drop)]
-pub struct FallibleTask<F: Future<TaskWaker<W, R>>, W: Wake, R: Wait + Clone + Drop> {
-    handle: Handle<SharedStorage<F, W, R>>,
+pub struct FallibleTaskIn<H: Home> {
+    task: TaskIn<H>,
 }
 
-impl<F: Future<TaskWaker<W, R>>, W: Wake, R: Wait + Clone + Drop> FallibleTask<F, W, R> {
+impl<H: Home> FallibleTaskIn<H> {
     /// As `Task::detach`.
     pub fn detach(self) {
-        let FallibleTask { handle } = self;
-        handle.detach();
+        let FallibleTaskIn { task } = self;
+        task.detach();
     }
 
     /// As `Task::cancel`.
-    pub fn cancel(self) -> Cancel<F, W, R>
-        ensures { cancel_answered result ≡ fallible_answered self }
+    pub fn cancel(self) -> CancelIn<H>
+        ensures { result.task.answered ≡ self.task.answered }
     {
-        let FallibleTask { handle } = self;
-        handle.cancel();
-        Cancel { handle }
+        let FallibleTaskIn { task } = self;
+        task.cancel()
     }
 
     /// As `Task::is_finished`.
     pub fn is_finished(&self) -> bool
-        ensures { IsTrue (fallible_answered self.now) → IsTrue result }
+        ensures { IsTrue self.now.task.answered → IsTrue result }
     {
-        self.handle.is_finished()
+        self.task.is_finished()
     }
 }
 
-impl<F: Future<TaskWaker<W, R>>, W: Wake, R: Wait + Clone + Drop> Future<W>
-    for FallibleTask<F, W, R> {
-    type Output = Option<F::Output>;
+impl<H: Home> Future<H::Waker> for FallibleTaskIn<H> {
+    type Output = Option<OutputIn<H>>;
 
     /// As the poll of `Task`, with `None` in place of `Cancelled`.
-    fn poll(&mut self, w: &W) -> Poll<Option<F::Output>>
-        ensures answered { fallible_answered self.new ≡ is_ready result }
-        ensures again { IsTrue (fallible_answered self.old) → IsReadyNone result }
+    fn poll(&mut self, w: &H::Waker) -> Poll<Option<OutputIn<H>>>
+        ensures answered { self.new.task.answered ≡ is_ready result }
+        ensures again { IsTrue self.old.task.answered → IsReadyNone result }
     {
-        some_if_ok(self.handle.poll(w))
+        some_if_ok(self.task.poll(w))
     }
 }
 

@@ -1,13 +1,15 @@
 //! The wakers that tasks are polled with.
+ghost use Rattle.std.specs.Prelude.{◌≡◌};
+
 use crate::state::State;
 use executor_core::task::{OutOfMemory, TaskId, Wake};
 use std::sync::{Arc, Wait};
 
 /// Schedules one task of an executor for another poll.
 ///
-/// It may be kept and sent on: it outlives the task and the executor, and then wakes nothing. It stands for the
-/// `std::task::Waker` that the Rust crate hands to its futures, and as it is a `Wake`, an executor may be driven
-/// from within a task of another one.
+/// It may be kept and sent on: it outlives the task and the executor, and then wakes nothing. It
+/// stands for the `std::task::Waker` that the Rust crate hands to its futures, and as it is a `Wake`,
+/// an executor may be driven from within a task of another one.
 #[derive(Drop)]
 pub struct TaskWaker<W, R> {
     state: Arc<State<W, R>>,
@@ -16,16 +18,29 @@ pub struct TaskWaker<W, R> {
 
 impl<W: Wake, R: Wait + Clone + Drop> TaskWaker<W, R> {
     /// The waker of the task of this id.
-    pub(crate) fn new(state: Arc<State<W, R>>, id: TaskId) -> TaskWaker<W, R> {
+    pub(crate) fn new(state: Arc<State<W, R>>, id: TaskId) -> TaskWaker<W, R>
+        ensures { result ≡ record { state = state; id = id } }
+    {
         TaskWaker { state, id }
+    }
+
+    /// The share of the state and the id that the waker was made of.
+    pub(crate) fn into_parts(self) -> (Arc<State<W, R>>, TaskId)
+        ensures { result ≡ (self.state, self.id) }
+    {
+        let TaskWaker { state, id } = self;
+        (state, id)
     }
 }
 
 impl<W: Wake, R: Wait + Clone + Drop> Wake for TaskWaker<W, R> {
-    /// Schedules the task where it waits for a wake. Where it is being polled, it is scheduled once that poll ends.
+    /// Schedules the task where it waits for a wake. Where it is being polled, it is scheduled once
+    /// that poll ends.
     fn wake(&self) {
         let notice = self.state.cells().wake(self.id);
-        self.state.announce_any(notice);
+        if let Some(notice) = notice {
+            self.state.announce(notice);
+        }
     }
 
     /// Another waker of the same task.

@@ -60,7 +60,7 @@ fn refused(rt: &impl Print, row: Row) -> io::Result<ExitCode> {
     Ok(ExitCode::FAILURE)
 }
 
-fn print_counts<R: Wait + Clone + Drop + Print>(rt: &R, alloc: Global) -> io::Result<ExitCode> {
+fn print_counts<R: Wait + Clone + Drop + Send + Sync + Print>(rt: &R, alloc: Global) -> io::Result<ExitCode> {
     for row in Row::ALL {
         let Some(count) = row.run(rt, alloc, SMALL) else {
             return refused(rt, row);
@@ -87,7 +87,7 @@ fn print_time(rt: &impl Print, row: Row, operations: u64, time: Duration) -> io:
 }
 
 // The shortest time of the runs, or `None` where memory was refused.
-fn fastest<R: Wait + Clone + Drop + Clock>(
+fn fastest<R: Wait + Clone + Drop + Send + Sync + Clock>(
     rt: &R,
     alloc: Global,
     row: Row,

@@ -56,7 +56,7 @@ impl Row {
 
     /// Runs this many operations on a new executor, and counts those that did what they were to do. `None` where
     /// memory was refused.
-    pub fn run<R: Wait + Clone + Drop>(
+    pub fn run<R: Wait + Clone + Drop + Send + Sync>(
         self,
         rt: &R,
         alloc: Global,
@@ -74,7 +74,7 @@ impl Row {
     }
 }
 
-fn ticks<R: Wait + Clone + Drop>(ex: &Executor<Yields, IdleWaker, R>, times: u64) -> u64 {
+fn ticks<R: Wait + Clone + Drop + Send + Sync>(ex: &Executor<Yields, IdleWaker, R>, times: u64) -> u64 {
     let mut count = 0u64;
     for _ in 0..times {
         if ex.try_tick() {
@@ -84,7 +84,7 @@ fn ticks<R: Wait + Clone + Drop>(ex: &Executor<Yields, IdleWaker, R>, times: u64
     count
 }
 
-fn spawn_try_tick<R: Wait + Clone + Drop>(
+fn spawn_try_tick<R: Wait + Clone + Drop + Send + Sync>(
     ex: &Executor<Yields, IdleWaker, R>,
     operations: u64,
 ) -> Option<u64> {
@@ -98,7 +98,7 @@ fn spawn_try_tick<R: Wait + Clone + Drop>(
     Some(count)
 }
 
-fn spawn_drain<R: Wait + Clone + Drop>(
+fn spawn_drain<R: Wait + Clone + Drop + Send + Sync>(
     ex: &Executor<Yields, IdleWaker, R>,
     operations: u64,
 ) -> Option<u64> {
@@ -108,7 +108,7 @@ fn spawn_drain<R: Wait + Clone + Drop>(
     Some(ticks(ex, operations))
 }
 
-fn yield_try_tick<R: Wait + Clone + Drop>(
+fn yield_try_tick<R: Wait + Clone + Drop + Send + Sync>(
     ex: &Executor<Yields, IdleWaker, R>,
     operations: u64,
 ) -> Option<u64> {
@@ -116,14 +116,14 @@ fn yield_try_tick<R: Wait + Clone + Drop>(
     Some(ticks(ex, operations))
 }
 
-fn empty_try_tick<R: Wait + Clone + Drop>(
+fn empty_try_tick<R: Wait + Clone + Drop + Send + Sync>(
     ex: &Executor<Yields, IdleWaker, R>,
     operations: u64,
 ) -> u64 {
     operations.saturating_sub(ticks(ex, operations))
 }
 
-fn spawn_drop<R: Wait + Clone + Drop>(
+fn spawn_drop<R: Wait + Clone + Drop + Send + Sync>(
     ex: &Executor<Yields, IdleWaker, R>,
     operations: u64,
 ) -> Option<u64> {
@@ -137,7 +137,7 @@ fn spawn_drop<R: Wait + Clone + Drop>(
     Some(count)
 }
 
-fn spawn_cancel<R: Wait + Clone + Drop>(
+fn spawn_cancel<R: Wait + Clone + Drop + Send + Sync>(
     ex: &Executor<Yields, IdleWaker, R>,
     operations: u64,
 ) -> Option<u64> {

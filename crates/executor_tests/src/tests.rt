@@ -12,10 +12,14 @@ use std::sync::Wait;
 use std::test::Fail;
 
 // The task of this future. A test fails where it is refused.
-fn spawned<F: Future<TaskWaker<W, R>>, W: Wake, R: Wait + Clone + Drop>(
-    ex: &Executor<F, W, R>,
-    future: F,
-) -> Result<Task<F, W, R>, Fail> {
+fn spawned<
+    F: Future<TaskWaker<W, R>> + Send,
+    W: Wake + Send,
+    R: Wait + Clone + Drop + Send + Sync,
+>(ex: &Executor<F, W, R>, future: F) -> Result<Task<F, W, R>, Fail>
+where
+    F::Output: Send,
+{
     match ex.spawn(future) {
         Ok(task) => Ok(task),
         Err(_) => Err("refused".into()),

@@ -37,7 +37,7 @@ impl<W> Future<W> for Adds<'_> {
     }
 }
 
-fn made<'a, R: Wait + Clone + Drop>(
+fn made<'a, R: Wait + Clone + Drop + Send + Sync>(
     rt: &R,
     alloc: Global,
     outcome: &mut Outcome,
@@ -50,7 +50,7 @@ fn made<'a, R: Wait + Clone + Drop>(
 }
 
 // Spawns a task, and again where that is refused.
-fn spawned<'a, R: Wait + Clone + Drop>(
+fn spawned<'a, R: Wait + Clone + Drop + Send + Sync>(
     ex: &Executor<Adds<'a>, IdleWaker, R>,
     future: Adds<'a>,
     outcome: &mut Outcome,
@@ -72,7 +72,7 @@ fn spawned<'a, R: Wait + Clone + Drop>(
 }
 
 // Runs all tasks, which have to be those that were spawned, and no more.
-fn run_all<R: Wait + Clone + Drop>(
+fn run_all<R: Wait + Clone + Drop + Send + Sync>(
     ex: &Executor<Adds<'_>, IdleWaker, R>,
     sum: &AtomicU64,
     outcome: &mut Outcome,
@@ -89,7 +89,7 @@ fn run_all<R: Wait + Clone + Drop>(
 }
 
 /// Spawns tasks on a new executor and runs them. A call that is refused is made again.
-pub fn spawn_and_run<R: Wait + Clone + Drop>(rt: &R, alloc: Global, outcome: &mut Outcome) {
+pub fn spawn_and_run<R: Wait + Clone + Drop + Send + Sync>(rt: &R, alloc: Global, outcome: &mut Outcome) {
     let sum = AtomicU64::new(0);
     let Some(ex) = made(rt, alloc, outcome) else {
         return outcome.expect(false);

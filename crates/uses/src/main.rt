@@ -49,7 +49,7 @@ impl Sum {
 }
 
 // What the task gives, where it gives something.
-fn output_of<R: Wait + Clone + Drop>(task: Task<Sum, Unheard, R>) -> Option<u64> {
+fn output_of<R: Wait + Clone + Drop + Send + Sync>(task: Task<Sum, Unheard, R>) -> Option<u64> {
     let mut task = task;
     match task.poll(&Unheard) {
         Poll::Ready(Ok(output)) => Some(output),

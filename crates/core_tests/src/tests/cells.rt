@@ -23,7 +23,9 @@ impl Poller<u8, u64> for Answers {
 
     ghost disposals = { λ a. a.disposals };
 
-    ghost answers = { λ a p r. Unit {0} };
+    ghost answers = { λ a id p r. Unit {0} };
+
+    ghost disposed = { λ a id p after. Unit {0} };
 
     fn poll(&mut self, _id: TaskId, future: u8) -> Polled<u8, u64> {
         self.polls += 1;

@@ -20,7 +20,7 @@ impl<P: Drop, T: Copy> Poller<P, T> for Script<T> {
 
     ghost answers = { λ s _ _ r. polled_output r ≡ s.output };
 
-    ghost disposed = { λ _ _ _ _. Unit {0} };
+    ghost disposed = { λ s _ _ after. after.output ≡ s.output };
 
     fn poll(&mut self, _id: TaskId, future: P) -> Polled<P, T> {
         self.polls += 1;

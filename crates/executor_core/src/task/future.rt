@@ -27,3 +27,12 @@ pub trait Future<W>: Drop {
     /// Goes on as far as it can, and has the waker woken once it can go on.
     fn poll(&mut self, w: &W) -> Poll<Self::Output>;
 }
+
+/// A future on the heap is polled there, and only its address is moved.
+impl<W, F: Future<W>> Future<W> for Box<F> {
+    type Output = F::Output;
+
+    fn poll(&mut self, w: &W) -> Poll<F::Output> {
+        (**self).poll(w)
+    }
+}

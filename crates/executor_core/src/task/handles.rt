@@ -3,8 +3,8 @@
 //! A handle is there from the spawn until it was detached or dropped, or until a poll of it gave its
 //! last answer. A call finds the cell by number and slot, so the id of a task whose cell is gone
 //! never reaches the task that has the slot now.
-ghost use Rattle.std.specs.Prelude.{◌≡◌, is_some};
-ghost use Rattle.executor_core.specs.Cells.Calls.{after_cancel, cancel_queues, after_detach, detach_answer, after_poll_handle, poll_answer, finished_in, cell_at};
+ghost use Rattle.std.specs.Prelude.{◌≡◌, is_some, not};
+ghost use Rattle.executor_core.specs.Cells.Calls.{after_cancel, cancel_queues, after_detach, detach_answer, after_poll_handle, poll_answer, finished_in, undropped_in, cell_at};
 
 use crate::task::cell::{
     Numbered, await_cell, cancel_cell, detach_cell, has_future, is_finished_cell, output_of_ended,
@@ -109,5 +109,15 @@ impl<P, T, W> Cells<P, T, W> {
         ensures { result ≡ finished_in (cell_at self.now id) }
     {
         self.cell_at(id).is_none_or(is_finished_cell)
+    }
+
+    /// Whether the task's future was dropped, so that its handle has its last answer. A task that was
+    /// cancelled has not ended while its future is there.
+    ///
+    /// It looks at the cell and not at the handle. Of a task without a cell it is true.
+    pub fn is_ended(&self, id: TaskId) -> bool
+        ensures { result ≡ not (undropped_in (cell_at self.now id)) }
+    {
+        !self.is_undropped(id)
     }
 }

@@ -15,11 +15,14 @@ use std::thread::Threads;
 
 // Waits until another thread halts, then asks all of the executor, by a task that is spawned, run and given up, and
 // lets the thread go on.
-fn uses_beside<F: Future<TaskWaker<W, R>>, W: Wake, R: Wait + Clone + Drop>(
-    ex: &Executor<F, W, R>,
-    halt: &Halt,
-    future: F,
-) -> bool {
+fn uses_beside<
+    F: Future<TaskWaker<W, R>> + Send,
+    W: Wake + Send,
+    R: Wait + Clone + Drop + Send + Sync,
+>(ex: &Executor<F, W, R>, halt: &Halt, future: F) -> bool
+where
+    F::Output: Send,
+{
     let halted = halt.await_other();
     let _ = ex.is_empty();
     let spawned = match ex.spawn(future) {

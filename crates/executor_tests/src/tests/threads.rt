@@ -140,7 +140,7 @@ fn a_pending_task_that_was_cancelled_is_dropped_at_once(rt: HostRuntime) -> Resu
 }
 
 // Runs tasks until this many threads are done.
-fn ticks_until<R: Wait + Clone + Drop>(
+fn ticks_until<R: Wait + Clone + Drop + Send + Sync>(
     ex: &Executor<Yields, CountingWaker, R>,
     done: &Counter,
     threads: u64,
@@ -156,7 +156,7 @@ fn ticks_until<R: Wait + Clone + Drop>(
 }
 
 // Spawns tasks one by one, each of which yields once, and counts those that give the number of their polls.
-fn awaits_each<R: Wait + Clone + Drop>(
+fn awaits_each<R: Wait + Clone + Drop + Send + Sync>(
     ex: &Executor<Yields, CountingWaker, R>,
     waker: &CountingWaker,
     tasks: u64,
@@ -204,7 +204,7 @@ fn no_output_is_lost_between_threads(rt: HostRuntime) -> Result<(), Fail> {
 }
 
 // Spawns and gives up tasks, and runs tasks, until all of them are over.
-fn spawns_and_ticks<R: Wait + Clone + Drop>(
+fn spawns_and_ticks<R: Wait + Clone + Drop + Send + Sync>(
     ex: &Executor<Ready<CountsDrop>, CountingWaker, R>,
     drops: &Counter,
     tasks: u64,
