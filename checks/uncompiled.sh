@@ -81,9 +81,8 @@ functions() {
 # beside others or alone.
 place_of() {
     file=$(field "$1" file)
-    lines=$(add_edit "$1" | tr ' ' ,)
-    [ -n "$lines" ] || return 1
-    functions "$top/crates/$(field "$1" crate)/$file" | sed -n "${lines}p" | sort -u > "$copy/parts"
+    add_edit "$1" "$copy" || return 1
+    functions "$top/crates/$(field "$1" crate)/$file" | sed -n "$(old_lines "$1" "$top")p" | sort -u > "$copy/parts"
     echo "$file:$(cut -d' ' -f1 "$copy/parts" | sort -u | paste -sd-)" \
         "$(grep -qv body "$copy/parts" && echo alone || echo beside)"
 }
@@ -109,7 +108,7 @@ apply_round() {
         "$copy/left" > "$copy/round"
     : > "$copy/tried"
     while read -r place error edit way; do
-        ! add_edit "$edits/$edit" > "$copy/lines" 2>&1 || echo "$place $error $edit $way" >> "$copy/tried"
+        ! add_edit "$edits/$edit" "$copy" 2> "$copy/log" || echo "$place $error $edit $way" >> "$copy/tried"
     done < "$copy/round"
 }
 
