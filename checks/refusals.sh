@@ -5,10 +5,17 @@
 # be wrong, and in the end each call has to have met one. exsim answers `out of memory`: at its
 # start with status 2 and nothing more, or at a spawn, after which it has to show what it showed
 # before, and to go on as if that spawn had not been asked for.
+#
+# The programs are those that the gate built, or are built by `rt run` where a source is newer. The
+# library of fail_nth.c counts their requests, and says whether it refused one. The last request of
+# refusals is refused once more by `rt try`, which also finds a bad access.
 # Usage: checks/refusals.sh, anywhere. RT names the command rt. Its last line counts the runs.
 set -eu
 rt=${RT:-rt}
-crates=$(cd "$(dirname "$0")/../crates" && pwd)
+top=$(cd "$(dirname "$0")/.." && pwd)
+work=$(mktemp -d)
+trap 'rm -rf "$work"' EXIT
+trap 'exit 1' INT TERM
 passed=0
 
 give_up() {
@@ -17,35 +24,72 @@ give_up() {
     exit 1
 }
 
+# Finds the program of a crate. It may take memory only by what the library counts.
+find_program() {
+    program=$top/crates/$1/out/$1
+    if [ ! -x "$program" ] || find "$top"/crates/*/src -name '*.rt' -newer "$program" | grep -q .; then
+        (cd "$top/crates/$1" && "$rt" run < /dev/null) > "$work/log" 2>&1 || give_up "$(cat "$work/log")"
+    fi
+    grep -aqw malloc "$program" || give_up "$1 does not call malloc"
+    others='[a-z_]*calloc|reallocarray|[a-z_]*memalign|aligned_alloc|p?valloc|[a-z_]*strn?dup|mmap(64)?|s?brk'
+    others=$(grep -aowE "$others" "$program" | sort -u)
+    [ -z "$others" ] || give_up "$1 takes memory by what is not counted: $others"
+}
+
+# Runs the program with its Nth request refused, and keeps what it answered.
+run_refused() {
+    out=$(timeout 60 env LD_PRELOAD="$work/fail_nth.so" FAIL_ALLOC="$n" "$program" 2>&1 3> "$work/refused") &&
+        status=0 || status=$?
+}
+is_refused() { [ -s "$work/refused" ]; }
+
 # The calls that a line of refusals gives this count.
 calls() { printf '%s\n' "${line#refused: }" | sed 's/; wrong: 0$//; s/, /\n/g' | sed -n "s/ $1\$//p"; }
 
-cd "$crates/refusals"
-met=
-for n in $(seq 1 99); do
-    out=$("$rt" try --fail-alloc "$n" 2>&1) && status=0 || status=$?
+# Reads the line of refusals, which has to name one call where a request was refused, and else none.
+read_line() {
     line=$(printf '%s\n' "$out" | grep '^refused: .*; wrong: 0$' || :)
-    [ "$status" = 0 ] && [ -n "$line" ] || give_up "$out"
+    [ "$status" = 0 ] && [ -n "$line" ] || give_up "refusals, request $n, status $status: $out"
     call=$(calls 1)
-    echo "refusals, request $n: ${call:-none is refused}"
-    [ -n "$call" ] || break
+    [ "$(printf '%s' "$call" | grep -c '')" = "$1" ] || give_up "refusals, request $n: $line"
+}
+
+"$(dirname "$("$rt" doc)")/toolchain/bin/clang" --target=x86_64-unknown-linux-gnu -shared -fPIC \
+    -O1 -nostdlib -fuse-ld=lld -o "$work/fail_nth.so" "$top/checks/fail_nth.c"
+
+find_program refusals
+met=
+for n in $(seq 1 999); do
+    run_refused
+    is_refused || break
+    read_line 1
+    echo "refusals, request $n: $call"
     met="$met
 $call"
     passed=$((passed + 1))
 done
+! is_refused || give_up "refusals has more than $n requests"
+read_line 0
+[ "$passed" -gt 0 ] || give_up "no request of refusals is refused"
 [ "$(printf '%s\n' "$met" | sed 1d | sort -u)" = "$(calls 0 | sort -u)" ] ||
     give_up "not each call met a refusal: $met"
 
-cd "$crates/exsim"
-run() { printf 'show\nspawn\nshow\nspawn\nshow\n' | "$rt" try "$@" 2> /dev/null; }
-whole=$(run)
+n=$((n - 1))
+out=$(cd "$top/crates/refusals" && "$rt" try --fail-alloc "$n" --seconds 60 2>&1) && status=0 || status=$?
+read_line 1
+echo "refusals, request $n, by rt try: $call"
+passed=$((passed + 1))
+
+find_program exsim
+printf 'show\nspawn\nshow\nspawn\nshow\n' > "$work/steps"
+whole=$("$program" < "$work/steps")
 starts=0
 spawns=0
-for n in $(seq 1 99); do
-    out=$(run --fail-alloc "$n") && status=0 || status=$?
+for n in $(seq 1 999); do
+    run_refused < "$work/steps"
+    is_refused || break
     case "$status $out" in
         "2 out of memory") starts=$((starts + 1)) ;;
-        "0 $whole") break ;;
         "0 "*)
             kept=$(printf '%s\n' "$out" | awk '
                 /^out of memory$/ { refused++; getline; wrong = wrong || $0 != shown; next }
@@ -53,14 +97,16 @@ for n in $(seq 1 99); do
                 END { if (refused != 1 || wrong) print "wrong" }')
             case "$whole" in
                 "$kept"*) spawns=$((spawns + 1)) ;;
-                *) give_up "$out" ;;
+                *) give_up "exsim, request $n: $out" ;;
             esac
             ;;
-        *) give_up "status $status: $out" ;;
+        *) give_up "exsim, request $n, status $status: $out" ;;
     esac
     echo "exsim, request $n: status $status"
     passed=$((passed + 1))
 done
+! is_refused || give_up "exsim has more than $n requests"
+[ "$status $out" = "0 $whole" ] || give_up "exsim, with no request refused, status $status: $out"
 echo "exsim, refused at its start: $starts, at a spawn: $spawns"
 [ "$starts" -gt 0 ] && [ "$spawns" -gt 0 ] || give_up "not each place of exsim met a refusal"
 echo "$passed passed, 0 failed"

@@ -1,59 +1,151 @@
 #!/bin/sh
-# Misuse that must not compile. Each block of lines of a file NAME.rt.txt is, under the file's head,
-# a crate above executor_core: each line that ends in '//~ ERROR' has to be refused with that error,
-# and no other line. A file NAME.edit changes a crate of the repository, which then has to be
-# refused with the error that it names.
+# Misuse that must not compile. A file NAME.rt.txt is a crate above executor_core: each line that
+# ends in '//~ ERROR' has to be refused with that error, and no other line. A file NAME.edit changes
+# a crate of the repository, which then has to be refused with the error that it names, in the
+# function that it changes, and nowhere else.
+#
+# A check reports the errors of all functions together, up to some number. So the marked lines of a
+# file, each a function, are tried together, and so are edits that change the bodies of different
+# functions. What is judged is taken away, and the rest is tried again. An edit that changes more
+# than a body is tried alone. `--only=` proves nothing: these errors come before any proof.
 # Usage: checks/uncompiled.sh, anywhere. RT names the command rt. Its last line counts the files.
 set -eu
 . "$(dirname "$0")/edits"
-copy_repository
+copy_sources
 mkdir -p "$copy/crates/misuse/src"
 echo 'misuse: executor_core' >> "$copy/crates.txt"
-check() { (cd "$copy/crates/$1" && "$rt" check) > "$copy/log" 2>&1; }
+edits=$top/checks/uncompiled
 
-# The head is what stands above the first line that is marked; a block ends at an empty line.
-for file in "$top"/checks/uncompiled/*.rt.txt; do
-    rm -rf "$copy/blocks"
-    mkdir "$copy/blocks"
-    awk -v to="$copy/blocks/" '
-        !started && !/\/\/~ / { head = head $0 "\n"; next }
-        { started = 1 }
-        /^$/ { block = 0; next }
-        !block { block = 1; name = to sprintf("%02d", ++count); printf "%s", head > name }
-        { print > name }' "$file"
-    lines=0
-    wrong=0
-    for block in "$copy"/blocks/*; do
-        cp "$block" "$copy/crates/misuse/src/lib.rt"
-        check misuse && status=0 || status=$?
-        sed -n 's/^src\/lib.rt:\([0-9]*\):.*error\[\([a-z-]*\)\].*/\1 \2/p' "$copy/log" | sort -u > "$copy/found"
-        sed -n 's/^.*\/\/~ \([a-z-]*\)$/\1/p' "$block" > "$copy/names"
-        grep -n '//~ ' "$block" | cut -d: -f1 | paste -d' ' - "$copy/names" | sort -u > "$copy/wanted"
-        if [ "$status" != 0 ] && [ -s "$copy/wanted" ] && cmp -s "$copy/found" "$copy/wanted"; then
-            lines=$((lines + $(wc -l < "$copy/wanted")))
+# Checks a crate of the copy, and keeps its errors as 'FILE LINE ERROR'. The line 'only=' says that
+# the crate compiles: rt would go on to prove the crates below. Where some errors are not reported, the
+# last line may have more of them, and is left out where it is not the only one.
+find_errors() {
+    (cd "$copy/crates/$1" && timeout 120 "$rt" check --only= 2>&1) | sed '/^only=/q' > "$copy/log"
+    sed -n 's/^\([^ :]*\):\([0-9]*\):[0-9]*: error\(\[\([a-z-]*\)\]\)\{0,1\}.*/\1 \2 \4/p' "$copy/log" |
+        sort -u -k1,1 -k2,2n -k3 > "$copy/found"
+    is_cut=$(grep -c ' and [0-9]* more errors$' "$copy/log") || return 0
+    awk '{ place[NR] = $1 " " $2; line[NR] = $0 }
+        END { for (n = 1; n <= NR; n++) if (place[n] != place[NR] || place[1] == place[NR]) print line[n] }' \
+        "$copy/found" > "$copy/whole"
+    mv "$copy/whole" "$copy/found"
+}
+
+# Keeps the lines of the first file that the second lacks, if there are any.
+lacks() {
+    grep -vxF -f "$2" "$1" > "$copy/lacking" || :
+    [ -s "$copy/lacking" ]
+}
+
+try_lines() {
+    name=$(basename "$1")
+    misuse=$copy/crates/misuse/src/lib.rt
+    cp "$1" "$misuse"
+    while grep -q '//~ ' "$misuse"; do
+        find_errors misuse
+        awk '/\/\/~ / { print "src/lib.rt", NR, $NF }' "$misuse" > "$copy/wanted"
+        if lacks "$copy/found" "$copy/wanted"; then
+            fail "$name: refused otherwise than marked:" "$copy/lacking"
+            return
+        elif [ ! -s "$copy/found" ]; then
+            fail "$name: not refused as marked:" "$copy/wanted"
+            return
+        fi
+        awk 'NR == FNR { judged[$2]; next } FNR in judged { $0 = "" } { print }' \
+            "$copy/found" "$misuse" > "$copy/rest"
+        mv "$copy/rest" "$misuse"
+    done
+    pass "$name: $(grep -c '//~ ' "$1") lines refused, as they must be"
+}
+
+# Prints for each line of a file, which is in rt fmt's layout, the number of the function that it is
+# a part of, and whether of its head or its body; or 'no function'.
+functions() {
+    awk '
+        !inside && /^ *(pub(\([a-z]+\))? )?fn / {
+            inside = 1
+            part = "head"
+            first = NR
+            match($0, /^ */)
+            indent = substr($0, 1, RLENGTH)
+            count++
+        }
+        { print inside ? count " " part : "no function" }
+        inside && part == "head" {
+            if (/;$/ || NR == first && /\{.*\}$/) inside = 0
+            else if ($0 ~ "^" indent "([^ ].*)?[{]$") part = "body"
+        }
+        $0 == indent "}" { inside = 0 }' "$1"
+}
+
+# Prints where an edit changes the copy, as FILE:NUMBER of the function, and whether it is tried
+# beside others or alone.
+place_of() {
+    file=$(field "$1" file)
+    add_edit "$1" "$copy" || return 1
+    functions "$top/crates/$(field "$1" crate)/$file" | sed -n "$(old_lines "$1" "$top")p" | sort -u > "$copy/parts"
+    echo "$file:$(cut -d' ' -f1 "$copy/parts" | sort -u | paste -sd-)" \
+        "$(grep -qv body "$copy/parts" && echo alone || echo beside)"
+}
+
+# Plans the edits of a crate, as lines 'PLACE ERROR EDIT beside|alone' of the file left.
+plan_edits() {
+    : > "$copy/left"
+    for edit in $(cd "$edits" && grep -lx "crate: $1" *.edit); do
+        restore_sources "$1"
+        if place=$(place_of "$edits/$edit" 2> "$copy/log"); then
+            echo "${place% *} $(field "$edits/$edit" error) $edit ${place#* }" >> "$copy/left"
         else
-            echo "$(basename "$file"), a block is refused otherwise than marked, status $status:"
-            cat "$block"
-            diff "$copy/found" "$copy/wanted" || cat "$copy/log"
-            wrong=1
+            fail "$edit: it cannot be applied:" "$copy/log"
         fi
     done
-    if [ "$wrong" = 0 ] && [ "$lines" != 0 ]; then
-        pass "$(basename "$file"): $lines lines refused, as they must be"
-    else
-        fail "$(basename "$file"): not refused as marked"
-    fi
-done
+}
 
-for edit in "$top"/checks/uncompiled/*.edit; do
-    [ -f "$edit" ] || continue
-    apply_edit "$edit"
-    check "$(field "$edit" crate)" && status=0 || status=$?
-    undo_edit "$edit"
-    if [ "$status" != 0 ] && grep -q "^src/.*error\[$(field "$edit" error)\]" "$copy/log"; then
-        pass "$(basename "$edit"): refused, as it must be"
-    else
-        fail "$(basename "$edit"): not refused as $(field "$edit" error), status $status:" "$copy/log"
+# Applies edits that are left to a crate of the copy: one that is tried alone, or those of different
+# functions. Where an edit's new text is the old text of another, that one waits.
+apply_round() {
+    restore_sources "$1"
+    awk 'NR > 1 && $4 == "alone" || $1 in taken { next } { taken[$1]; print } $4 == "alone" { exit }' \
+        "$copy/left" > "$copy/round"
+    : > "$copy/tried"
+    while read -r place error edit way; do
+        ! add_edit "$edits/$edit" "$copy" 2> "$copy/log" || echo "$place $error $edit $way" >> "$copy/tried"
+    done < "$copy/round"
+}
+
+# Judges the edits that were applied, and takes them from the file left. What is not refused is tried
+# again where the list of errors was cut.
+judge_round() {
+    while read -r file line error; do
+        number=$( (functions "$copy/crates/$1/$file" || :) 2>&1 | sed -n "${line}p" | cut -d' ' -f1)
+        echo "$file:$number $error"
+    done < "$copy/found" | sort -u > "$copy/refused"
+    awk 'NR == FNR { refused[$0]; next } ($1 " " $2) in refused' "$copy/refused" "$copy/tried" > "$copy/judged"
+    while read -r _ _ edit _; do
+        pass "$edit: refused, as it must be"
+    done < "$copy/judged"
+    cut -d' ' -f1,2 "$copy/tried" > "$copy/wanted"
+    ! lacks "$copy/refused" "$copy/wanted" || fail "$1: of these errors, some are not what an edit names:" "$copy/found"
+    if [ "$is_cut" = 0 ] || [ ! -s "$copy/judged" ]; then
+        lacks "$copy/tried" "$copy/judged" || :
+        while read -r _ error edit _; do
+            fail "$edit: not refused as $error"
+        done < "$copy/lacking"
+        cp "$copy/tried" "$copy/judged"
     fi
+    lacks "$copy/left" "$copy/judged" || :
+    mv "$copy/lacking" "$copy/left"
+}
+
+for file in "$edits"/*.rt.txt; do
+    try_lines "$file"
+done
+for crate in $(cat "$edits"/*.edit | sed -n 's/^crate: //p' | sort -u); do
+    plan_edits "$crate"
+    while [ -s "$copy/left" ]; do
+        apply_round "$crate"
+        find_errors "$crate"
+        judge_round "$crate"
+    done
+    restore_sources "$crate"
 done
 count
