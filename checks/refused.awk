@@ -21,7 +21,7 @@ function owner(path) {
 # Whether the file answers a goal of this name.
 function answers(path, goal,    line, found) {
     while ((getline line < path) > 0)
-        found = found || index(line, "pub " goal " : goal." goal) == 1
+        found = found || index(line, "pub " goal " :") == 1
     close(path)
     return found
 }
