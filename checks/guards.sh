@@ -22,19 +22,11 @@ asked() {
     done
 }
 
-# A copy of the repository for a crate's rounds, and a folder of what is proved of the crate: what its
-# last check kept, or else a check of the copy.
-make_room() {
-    room=$copy/$1
-    kept=$top/crates/$1/out/incremental
-    mkdir "$room"
-    (cd "$top" && tar cf - --exclude=./.git --exclude='./crates/*/out/incremental' .) |
-        (cd "$room" && tar xf -)
-    if [ ! -d "$kept" ]; then
-        kept=$room/kept
-        (cd "$room/crates/$1" && "$rt" check) > "$room/log" 2>&1 || :
-        mv "$room/crates/$1/out/incremental" "$kept"
-    fi
+# Proves a crate in its place where nothing is kept of it: its rounds stand on that proof.
+prove() {
+    [ -d "$top/crates/$1/out/incremental" ] ||
+        (cd "$top/crates/$1" && "$rt" check) > "$copy/log" 2>&1 ||
+        cat "$copy/log"
 }
 
 # The rounds of a crate, as lines 'ROUND FUNCTION GUARD'.
@@ -50,10 +42,10 @@ rounds() {
 
 # Tries the guards of a round of this crate, the lines of $room/round.
 try_round() {
-    rm -rf "$room/crates/$1/src" "$room/crates/$1/out/incremental"
-    cp -Rp "$top/crates/$1/src" "$room/crates/$1/src"
-    mkdir -p "$room/crates/$1/out"
-    cp -Rp "$kept" "$room/crates/$1/out/incremental"
+    for part in src out/incremental; do
+        rm -rf "$room/crates/$1/$part"
+        cp -Rp "$top/crates/$1/$part" "$room/crates/$1/$part"
+    done
     while read -r _ _ guard; do
         add_edit "$guard" "$room"
     done < "$room/round"
@@ -86,9 +78,12 @@ judge() {
     fi
 }
 
-# Tries all rounds of a crate.
+# Tries all rounds of a crate, in a copy of the repository with what is built of its crates.
 try_crate() {
-    make_room "$1"
+    room=$copy/$1
+    mkdir "$room"
+    (cd "$top" && tar cf - --exclude=./.git --exclude='./crates/*/out/incremental' .) |
+        (cd "$room" && tar xf -)
     rounds "$1" > "$room/rounds"
     for round in $(cut -d' ' -f1 "$room/rounds" | uniq); do
         grep "^$round " "$room/rounds" > "$room/round"
@@ -100,6 +95,10 @@ try_crate() {
 
 asked "$@" > "$copy/asked"
 while read -r guard; do
+    case $(field "$guard" file) in
+        src/*) ;;
+        *) fail "$(basename "$guard"): it changes no file of src/" ;;
+    esac
     times=$(count_old "$guard" "$top")
     [ "$times" = 1 ] || fail "$(basename "$guard"): its old text stands $times times in its file, and not once"
 done < "$copy/asked"
@@ -108,6 +107,9 @@ if [ "$failed" != 0 ]; then
 fi
 
 crates=$(while read -r guard; do field "$guard" crate; done < "$copy/asked" | sort -u)
+for crate in $crates; do
+    prove "$crate"
+done
 for crate in $crates; do
     try_crate "$crate" &
 done

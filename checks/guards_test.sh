@@ -54,12 +54,10 @@ pub returns : goal.returns
 returns c = omega (arith, c.twice-double.ensures)
 END
 
-# Makes a guard of this name, function, old text and new text, with further lines.
+# Makes a guard of this name, function, old text, new text and further line.
 guard() {
-    name=$1
-    printf 'crate: sums\nfunction: %s\nfile: src/lib.rt\nold: %s\nnew: %s\n' "$2" "$3" "$4" > "$copy/checks/guards/$name.edit"
-    shift 4
-    printf '%s\n' "$@" >> "$copy/checks/guards/$name.edit"
+    printf 'crate: sums\nfunction: %s\nfile: src/lib.rt\nold: %s\nnew: %s\n%s\n' "$2" "$3" "$4" "${5:-}" \
+        > "$copy/checks/guards/$1.edit"
 }
 
 # Tries the guards, or those that are asked for.
@@ -74,6 +72,15 @@ says() {
     fi
 }
 
+# The case holds where this line is the last, and the exit status is this.
+ends() {
+    if [ "$(tail -n 1 "$copy/said")" = "$2" ] && [ "$status" = "$3" ]; then
+        pass "$1"
+    else
+        fail "$1: the status is $status, and the last line not '$2'" "$copy/said"
+    fi
+}
+
 guard by_search twice '    x + x\n' '    x + 1\n'
 guard by_an_answer thrice 'double + x\n' 'double + 1\n'
 guard of_a_constant limit 'u64 = 100' 'u64 = 101' 'alone: yes'
@@ -81,11 +88,9 @@ try_guards
 says 'a goal that no search proves' 'by_search.edit: twice is refused, as it must be: returns$'
 says 'a goal that its answer does not prove' 'by_an_answer.edit: thrice is refused, as it must be: returns$'
 says 'a round of its own' 'of_a_constant.edit: limit is refused, as it must be: returns$'
-says 'right guards pass' '3 passed, 0 failed$'
+ends 'right guards pass' '3 passed, 0 failed' 0
 
-# What follows stands on what is kept, as after the gate.
 rm "$copy/checks/guards/by_an_answer.edit"
-(cd "$copy/crates/sums" && "$rt" check > "$copy/said")
 guard of_nothing four 'twice(2)' 'twice(1 + 1)'
 guard of_a_name thrice 'double = twice(x);\n    double + x' 'other = twice(x);\n    other + 1'
 guard of_another four '    x + x\n' '    x + 2\n' 'alone: yes'
@@ -94,7 +99,7 @@ says 'a body that is right' 'of_nothing.edit: four is not refused$'
 says 'an answer that names what is there no more' 'of_a_name.edit: thrice is not refused by a goal of its own:$'
 says 'a goal of a function that is called' 'of_another.edit: four is not refused by a goal of its own:$'
 says 'a function that no guard changes' 'sums: what no guard of this round changes is refused too:$'
-says 'wrong guards fail' '0 passed, 4 failed$'
+ends 'wrong guards fail' '0 passed, 4 failed' 1
 
 guard unread twice '    x + x\n' '    x + y\n'
 rm "$copy/checks/guards/by_search.edit"
@@ -102,7 +107,10 @@ try_guards sums twice
 says 'a text that cannot be read' 'unread.edit: twice was not tried, since the round cannot be read:$'
 
 guard unfound twice 'y + y' 'y + 1'
+guard of_a_proof thrice 'omega' 'grind'
+sed -i 's/^file: .*/file: proofs\/thrice\/Answers.antt/' "$copy/checks/guards/of_a_proof.edit"
 try_guards
 says 'an old text that is not there' 'unfound.edit: its old text stands 0 times in its file, and not once$'
-says 'no guard is tried then' '0 passed, 1 failed$'
+says 'an edit of a proof' 'of_a_proof.edit: it changes no file of src/$'
+ends 'no guard is tried then' '0 passed, 2 failed' 1
 count
