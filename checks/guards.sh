@@ -1,14 +1,14 @@
 #!/bin/sh
-# Guards: wrong bodies that the prover has to refuse, each by a goal of the function that it changes.
-# A function is proved over the contracts alone of those that it calls, so wrong bodies of different
-# functions of a crate are tried in one check, which may refuse no other function.
+# Guards: wrong bodies that the prover has to refuse, each by a goal of the function that it
+# changes. A function is proved over the contracts alone of those that it calls, so wrong bodies of
+# different functions of a crate are tried in one check, which may refuse no other function.
 #
-# A guard is a file of checks/guards with the lines 'crate: NAME', 'function: PATH' as a check prints
-# it below the crate, 'file: PATH', 'old: TEXT' and 'new: TEXT'. The Nth guard of a function is tried
-# in the Nth round. One with a line 'alone: yes' has a round of its own: it changes a type or its
-# view, which other functions read.
-# Usage: checks/guards.sh [CRATE [FUNCTION..]], anywhere: all guards, or those of a crate, or those of
-# some functions of it. RT names the command rt. Its last line counts the guards.
+# A guard is a file of checks/guards with the lines 'crate: NAME', 'function: PATH' as a check
+# prints it below the crate, 'file: PATH', 'old: TEXT' and 'new: TEXT'. The Nth guard of a function
+# is tried in the Nth round. One with a line 'alone: yes' has a round of its own: it changes a type
+# or its view, which other functions read.
+# Usage: checks/guards.sh [CRATE [FUNCTION..]], anywhere: all guards, or those of a crate, or those
+# of some functions of it. RT names the command rt. Its last line counts the guards.
 set -eu
 . "$(dirname "$0")/edits"
 checks=$top/checks
@@ -17,7 +17,8 @@ checks=$top/checks
 asked() {
     for guard in "$checks"/guards/*.edit; do
         [ $# = 0 ] || [ "$(field "$guard" crate)" = "$1" ] || continue
-        [ $# -le 1 ] || (shift && printf '%s\n' "$@") | grep -qFx "$(field "$guard" function)" || continue
+        [ $# -le 1 ] || (shift && printf '%s\n' "$@") |
+            grep -qFx "$(field "$guard" function)" || continue
         echo "$guard"
     done
 }
@@ -61,7 +62,8 @@ try_round() {
     fi
     awk 'NR == FNR { changed[$2 ":"]; next }
         !/^(read|waiting )/ && !($2 in changed)' "$room/round" "$room/found" > "$room/others"
-    [ ! -s "$room/others" ] || fail "$1: what no guard of this round changes is refused too:" "$room/others"
+    [ ! -s "$room/others" ] ||
+        fail "$1: what no guard of this round changes is refused too:" "$room/others"
 }
 
 # Says whether a function is refused as its guard asks.
@@ -100,7 +102,8 @@ while read -r guard; do
         *) fail "$(basename "$guard"): it changes no file of src/" ;;
     esac
     times=$(count_old "$guard" "$top")
-    [ "$times" = 1 ] || fail "$(basename "$guard"): its old text stands $times times in its file, and not once"
+    [ "$times" = 1 ] ||
+        fail "$(basename "$guard"): its old text stands $times times in its file, and not once"
 done < "$copy/asked"
 if [ "$failed" != 0 ]; then
     count || exit

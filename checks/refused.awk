@@ -26,6 +26,12 @@ function answers(path, goal,    line, found) {
     return found
 }
 
+# Whether an error says that a name is gone or a text cannot be read, and not that a goal is open.
+function is_of_text(line) {
+    return line ~ /has no field|has no `|is not in scope|is no name|was not admitted/ ||
+        line ~ /is missing at the end|expected the end|cannot continue/
+}
+
 function add_goal(name, goal) {
     if (!((name, goal) in told))
         goals[name] = goals[name] " " goal
@@ -48,7 +54,7 @@ function add_goal(name, goal) {
     sub(/`.*/, "", goal)
     if (name == "")
         print "beside: " $0
-    else if (goal == "" || !answers(path, goal) || $0 ~ /has no field|has no `|is not in scope|is no name|was not admitted|is missing at the end|expected the end|cannot continue/)
+    else if (goal == "" || !answers(path, goal) || is_of_text($0))
         unread[name] = unread[name] "\nunread " name ": " $0
     else
         add_goal(name, goal)
@@ -79,7 +85,7 @@ function add_goal(name, goal) {
     next
 }
 
-/^(struct|enum|union|trait|impl|type|const|static) [^ ]*: / && !/: proved/ && !/; it waits for the proof of [^;]*$/ {
+/^(struct|enum|union|trait|impl) [^ ]*: / && !/: proved/ && !/; it waits for the proof of / {
     print "beside: " $0
 }
 
