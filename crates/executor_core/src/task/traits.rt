@@ -27,3 +27,12 @@ pub trait Future<W>: Drop {
     /// Goes on as far as it can, and has the waker woken once it can go on.
     fn poll(&mut self, w: &W) -> Poll<Self::Output>;
 }
+
+/// A future in a box, which is moved by its address: each of its polls is one of the future.
+impl<W, F: Future<W>> Future<W> for Box<F> {
+    type Output = F::Output;
+
+    fn poll(&mut self, w: &W) -> Poll<F::Output> {
+        (**self).poll(w)
+    }
+}
