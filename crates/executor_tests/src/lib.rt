@@ -1,10 +1,6 @@
-//! Tests of the executors that cross crates, with the futures and wakers that they use.
+//! Tests of the executors that cross crates.
 #![tactic(auto)]
 
-pub mod counters;
 pub mod crossing;
-pub mod futures;
-pub mod meetings;
 #[cfg(test)]
 mod tests;
-pub mod wakers;

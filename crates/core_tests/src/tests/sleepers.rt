@@ -171,3 +171,33 @@ fn a_list_change_and_its_store_go_under_one_lock(rt: HostRuntime) -> Result<(), 
     assert_eq!(rt; wakes.get(), 1);
     Ok(())
 }
+
+#[test]
+fn a_true_flag_gives_no_pick(rt: HostRuntime) -> Result<(), Fail> {
+    let flag = Flag::new();
+    let mut tasks = Tasks::new(rt.alloc())?;
+    let mut sleepers = three_places(&rt)?;
+    let (_, notice) = tasks.spawn(0)?;
+    let pick = flag.exchange(notice);
+    let is_pick = pick.is_some();
+    assert!(rt; !notify(&mut sleepers, pick) && !is_pick);
+    assert!(rt; flag.get());
+    Ok(())
+}
+
+#[test]
+fn a_change_that_leaves_nobody_asleep_sets_the_flag(rt: HostRuntime) -> Result<(), Fail> {
+    let flag = Flag::new();
+    let mut empty = Tasks::new(rt.alloc())?;
+    let mut sleepers = three_places(&rt)?;
+    match sleepers.insert(new_counter(&rt)?) {
+        Ok((_, change)) => search_in_vain(&mut empty, flag.store(change, &mut sleepers)),
+        Err(_) => assert!(rt; false),
+    }
+    assert!(rt; !flag.get());
+    let change = sleepers.remove(1);
+    let Removed { notice, waker } = flag.store(change, &mut sleepers);
+    assert!(rt; !is_spent(notice) && waker.is_some());
+    assert!(rt; flag.get());
+    Ok(())
+}

@@ -1,140 +1,158 @@
 //! What becomes of tasks that are cancelled.
-use crate::counters::Counter;
-use crate::futures::{LeavesWaker, Never, Ready};
-use crate::tests::spawned;
-use crate::wakers::CountingWaker;
-use async_executor::executor::Executor;
-use executor_core::task::{Future, Poll};
-use std::sync::{Arc, Mutex};
 use std::test::Fail;
+use test_parts::future::Kind::{LeavesWaker, Never, Ready};
+use test_parts::line::Answer::{Cancelled, Output, Pending};
+use test_parts::line::Line::{
+    Cancel, Count, Detach, DropHandle, Empty, Fallible, Finished, Poll, Spawn, Tick,
+};
+use test_parts::player::play;
+use test_parts::record::Moment::{FutureDrop, FuturePoll, WakerWake};
 
 #[test]
 fn a_cancel_after_the_end_gives_the_output(rt: HostRuntime) -> Result<(), Fail> {
-    let alloc = rt.alloc();
-    let waker = CountingWaker::new(alloc)?;
-    let ex = Executor::new(rt.clone()?, alloc)?;
-    let task = spawned(&ex, Ready::new(7u64))?;
-    assert!(rt; ex.try_tick());
-    let mut cancel = task.cancel();
-    assert_eq!(rt; cancel.poll(&waker), Poll::Ready(Some(7)));
-    assert_eq!(rt; cancel.poll(&waker), Poll::Ready(None));
-    assert!(rt; !ex.try_tick());
-    Ok(())
+    play(
+        &rt,
+        &[
+            Spawn(Ready(7)),
+            Tick(true),
+            Cancel(0),
+            Poll(0, Output(7)),
+            Poll(0, Cancelled),
+            Tick(false),
+        ],
+    )
 }
 
 #[test]
 fn a_fallible_task_gives_the_output(rt: HostRuntime) -> Result<(), Fail> {
-    let alloc = rt.alloc();
-    let waker = CountingWaker::new(alloc)?;
-    let ex = Executor::new(rt.clone()?, alloc)?;
-    let task = spawned(&ex, Ready::new(7u64))?;
-    assert!(rt; ex.try_tick());
-    let mut fallible = task.fallible();
-    assert!(rt; fallible.is_finished());
-    assert_eq!(rt; fallible.poll(&waker), Poll::Ready(Some(7)));
-    assert_eq!(rt; fallible.poll(&waker), Poll::Ready(None));
-    let task = spawned(&ex, Ready::new(8u64))?;
-    let mut cancel = task.fallible().cancel();
-    assert!(rt; ex.try_tick());
-    assert_eq!(rt; cancel.poll(&waker), Poll::Ready(None));
-    Ok(())
+    play(
+        &rt,
+        &[
+            Spawn(Ready(7)),
+            Tick(true),
+            Fallible(0),
+            Finished(0, true),
+            Poll(0, Output(7)),
+            Poll(0, Cancelled),
+            Spawn(Ready(8)),
+            Fallible(1),
+            Cancel(1),
+            Tick(true),
+            Poll(1, Cancelled),
+        ],
+    )
 }
 
 #[test]
 fn a_cancelled_task_is_dropped_unpolled(rt: HostRuntime) -> Result<(), Fail> {
-    let alloc = rt.alloc();
-    let waker = CountingWaker::new(alloc)?;
-    let polls = Counter::new(alloc)?;
-    let drops = Counter::new(alloc)?;
-    let ex = Executor::new(rt.clone()?, alloc)?;
-    let task = spawned(&ex, Never::new(&polls, &drops)?)?;
-    let mut cancel = task.cancel();
-    assert_eq!(rt; cancel.poll(&waker), Poll::Pending);
-    assert!(rt; !ex.is_empty());
-    assert!(rt; ex.try_tick());
-    assert!(rt; ex.is_empty());
-    assert_eq!(rt; waker.wakes(), 1);
-    assert_eq!(rt; cancel.poll(&waker), Poll::Ready(None));
-    assert_eq!(rt; (polls.get(), drops.get()), (0, 1));
-    assert!(rt; !ex.try_tick());
-    Ok(())
+    play(
+        &rt,
+        &[
+            Spawn(Never),
+            Cancel(0),
+            Poll(0, Pending),
+            Empty(false),
+            Tick(true),
+            Empty(true),
+            Count(0, WakerWake, 1),
+            Poll(0, Cancelled),
+            Count(0, FuturePoll, 0),
+            Count(0, FutureDrop, 1),
+            Tick(false),
+        ],
+    )
 }
 
 #[test]
 fn an_idle_task_that_is_cancelled_is_scheduled(rt: HostRuntime) -> Result<(), Fail> {
-    let alloc = rt.alloc();
-    let waker = CountingWaker::new(alloc)?;
-    let polls = Counter::new(alloc)?;
-    let drops = Counter::new(alloc)?;
-    let ex = Executor::new(rt.clone()?, alloc)?;
-    let mut task = spawned(&ex, Never::new(&polls, &drops)?)?;
-    assert!(rt; ex.try_tick());
-    assert!(rt; !ex.try_tick());
-    assert_eq!(rt; task.poll(&waker), Poll::Pending);
-    let mut cancel = task.cancel();
-    assert_eq!(rt; waker.wakes(), 0);
-    assert_eq!(rt; cancel.poll(&waker), Poll::Pending);
-    assert!(rt; ex.try_tick());
-    assert_eq!(rt; waker.wakes(), 1);
-    assert_eq!(rt; cancel.poll(&waker), Poll::Ready(None));
-    assert_eq!(rt; (polls.get(), drops.get()), (1, 1));
-    Ok(())
+    play(
+        &rt,
+        &[
+            Spawn(Never),
+            Tick(true),
+            Tick(false),
+            Poll(0, Pending),
+            Cancel(0),
+            Count(0, WakerWake, 0),
+            Poll(0, Pending),
+            Tick(true),
+            Count(0, WakerWake, 1),
+            Poll(0, Cancelled),
+            Count(0, FuturePoll, 1),
+            Count(0, FutureDrop, 1),
+        ],
+    )
 }
 
 #[test]
 fn a_dropped_handle_cancels(rt: HostRuntime) -> Result<(), Fail> {
-    let alloc = rt.alloc();
-    let polls = Counter::new(alloc)?;
-    let drops = Counter::new(alloc)?;
-    let ex: Executor<Never, CountingWaker, _> = Executor::new(rt.clone()?, alloc)?;
-    drop(spawned(&ex, Never::new(&polls, &drops)?)?);
-    drop(spawned(&ex, Never::new(&polls, &drops)?)?.fallible());
-    drop(spawned(&ex, Never::new(&polls, &drops)?)?.cancel());
-    assert!(rt; !ex.is_empty());
-    for dropped in 0..3u64 {
-        assert_eq!(rt; drops.get(), dropped);
-        assert!(rt; ex.try_tick());
-    }
-    assert_eq!(rt; (polls.get(), drops.get()), (0, 3));
-    assert!(rt; ex.is_empty());
-    assert!(rt; !ex.try_tick());
-    Ok(())
+    play(
+        &rt,
+        &[
+            Spawn(Never),
+            DropHandle(0),
+            Spawn(Never),
+            Fallible(1),
+            DropHandle(1),
+            Spawn(Never),
+            Cancel(2),
+            DropHandle(2),
+            Empty(false),
+            Count(0, FutureDrop, 0),
+            Tick(true),
+            Count(0, FutureDrop, 1),
+            Count(1, FutureDrop, 0),
+            Tick(true),
+            Count(1, FutureDrop, 1),
+            Count(2, FutureDrop, 0),
+            Tick(true),
+            Count(2, FutureDrop, 1),
+            Count(0, FuturePoll, 0),
+            Count(1, FuturePoll, 0),
+            Count(2, FuturePoll, 0),
+            Empty(true),
+            Tick(false),
+        ],
+    )
 }
 
 #[test]
 fn a_dropped_cancel_lets_the_task_go(rt: HostRuntime) -> Result<(), Fail> {
-    let alloc = rt.alloc();
-    let waker = CountingWaker::new(alloc)?;
-    let polls = Counter::new(alloc)?;
-    let drops = Counter::new(alloc)?;
-    let ex = Executor::new(rt.clone()?, alloc)?;
-    let task = spawned(&ex, Never::new(&polls, &drops)?)?;
-    assert!(rt; ex.try_tick());
-    let mut cancel = task.cancel();
-    assert_eq!(rt; cancel.poll(&waker), Poll::Pending);
-    drop(cancel);
-    assert!(rt; ex.try_tick());
-    // The waker went with the handle.
-    assert_eq!(rt; waker.wakes(), 0);
-    assert_eq!(rt; (polls.get(), drops.get()), (1, 1));
-    assert!(rt; ex.is_empty());
-    Ok(())
+    play(
+        &rt,
+        &[
+            Spawn(Never),
+            Tick(true),
+            Cancel(0),
+            Poll(0, Pending),
+            DropHandle(0),
+            Tick(true),
+            // The waker went with the handle.
+            Count(0, WakerWake, 0),
+            Count(0, FuturePoll, 1),
+            Count(0, FutureDrop, 1),
+            Empty(true),
+        ],
+    )
 }
 
 #[test]
 fn detached_tasks_are_not_cancelled(rt: HostRuntime) -> Result<(), Fail> {
-    let alloc = rt.alloc();
-    let place = Arc::new(alloc, Mutex::new(None))?;
-    let polls = Counter::new(alloc)?;
-    let drops = Counter::new(alloc)?;
-    let ex: Executor<LeavesWaker<_>, CountingWaker, _> = Executor::new(rt.clone()?, alloc)?;
-    spawned(&ex, LeavesWaker::new(0, &place, &polls, &drops)?)?.detach();
-    spawned(&ex, LeavesWaker::new(0, &place, &polls, &drops)?)?
-        .fallible()
-        .detach();
-    assert!(rt; ex.try_tick());
-    assert!(rt; ex.try_tick());
-    assert_eq!(rt; (polls.get(), drops.get()), (2, 2));
-    assert!(rt; ex.is_empty());
-    Ok(())
+    play(
+        &rt,
+        &[
+            Spawn(LeavesWaker(0)),
+            Detach(0),
+            Spawn(LeavesWaker(0)),
+            Fallible(1),
+            Detach(1),
+            Tick(true),
+            Tick(true),
+            Count(0, FuturePoll, 1),
+            Count(1, FuturePoll, 1),
+            Count(0, FutureDrop, 1),
+            Count(1, FutureDrop, 1),
+            Empty(true),
+        ],
+    )
 }

@@ -1,0 +1,162 @@
+//! Futures that are written by hand.
+use crate::record::{AtDrop, Moment, Record};
+use executor_core::task::{Future, Poll, Wake};
+use std::alloc::{AllocError, Global};
+use std::sync::{Arc, Mutex};
+
+/// Ready with its output at the first poll.
+#[derive(Drop)]
+pub struct Ready<T> {
+    output: Option<T>,
+}
+
+impl<T> Ready<T> {
+    pub fn new(output: T) -> Ready<T> {
+        Ready {
+            output: Some(output),
+        }
+    }
+}
+
+impl<T: Drop, W> Future<W> for Ready<T> {
+    type Output = T;
+
+    fn poll(&mut self, _w: &W) -> Poll<T> {
+        match self.output.take() {
+            Some(output) => Poll::Ready(output),
+            None => Poll::Pending,
+        }
+    }
+}
+
+/// What a future does at its polls.
+#[derive(Clone, Copy, Debug)]
+pub enum Kind {
+    /// It is ready with this at its first poll.
+    Ready(u64),
+    /// It wakes itself at its first poll, and is ready with this.
+    WakesAndReady(u64),
+    /// It is never ready.
+    Never,
+    /// It wakes itself at this number of polls, and is ready with the number of its polls at the
+    /// next.
+    Yields(u64),
+    /// It leaves its waker where others find it at this number of polls, and is ready with the
+    /// number of its polls at the next.
+    LeavesWaker(u64),
+    /// It keeps its own waker, and is never ready.
+    KeepsWaker,
+}
+
+/// Where a future leaves its waker, and others find it.
+#[derive(Drop)]
+pub struct WakerPlace<W> {
+    waker: Arc<Mutex<Option<W>>>,
+}
+
+impl<W: Drop> WakerPlace<W> {
+    /// A place where no waker is yet.
+    pub fn new(alloc: Global) -> Result<WakerPlace<W>, AllocError> {
+        Ok(WakerPlace {
+            waker: Arc::new(alloc, Mutex::new(None))?,
+        })
+    }
+
+    /// The same place.
+    pub fn share(&self) -> Result<WakerPlace<W>, AllocError> {
+        Ok(WakerPlace {
+            waker: Arc::try_clone(&self.waker)?,
+        })
+    }
+
+    /// Leaves a waker here, and gives the one that was here before.
+    pub fn replace(&self, waker: Option<W>) -> Option<W> {
+        match self.waker.try_lock() {
+            Some(mut place) => std::mem::replace(&mut *place, waker),
+            None => waker,
+        }
+    }
+
+    /// Takes the waker that is here.
+    pub fn take(&self) -> Option<W> {
+        self.replace(None)
+    }
+}
+
+/// A number that counts its drop.
+#[derive(Drop)]
+pub struct Output {
+    pub number: u64,
+    drops: AtDrop,
+}
+
+/// A future of one of the kinds, which counts its polls, its drop, and the drop of its output.
+#[derive(Drop)]
+pub struct TestFuture<W> {
+    kind: Kind,
+    polls: u64,
+    kept: Option<W>,
+    place: WakerPlace<W>,
+    output: Option<Record>,
+    parts: AtDrop,
+}
+
+impl<W: Wake> TestFuture<W> {
+    pub fn new(
+        kind: Kind,
+        place: WakerPlace<W>,
+        record: &Record,
+    ) -> Result<TestFuture<W>, AllocError> {
+        Ok(TestFuture {
+            kind,
+            polls: 0,
+            kept: None,
+            place,
+            output: Some(record.share()?),
+            parts: AtDrop::new(record.share()?, Moment::FutureDrop),
+        })
+    }
+
+    // What the future does with its waker, and then the number that it is ready with.
+    fn act(&mut self, w: &W) -> Option<u64> {
+        match self.kind {
+            Kind::Ready(number) => return Some(number),
+            Kind::WakesAndReady(number) => {
+                w.wake();
+                return Some(number);
+            }
+            Kind::Yields(0) | Kind::LeavesWaker(0) => return Some(self.polls),
+            Kind::Yields(left) => {
+                self.kind = Kind::Yields(left - 1);
+                w.wake();
+            }
+            Kind::LeavesWaker(left) => {
+                self.kind = Kind::LeavesWaker(left - 1);
+                drop(self.place.replace(w.copy().ok()));
+            }
+            Kind::KeepsWaker => self.kept = w.copy().ok(),
+            Kind::Never => {}
+        }
+        None
+    }
+}
+
+impl<W: Wake> Future<W> for TestFuture<W> {
+    type Output = Output;
+
+    fn poll(&mut self, w: &W) -> Poll<Output> {
+        self.polls = self.polls.saturating_add(1);
+        let number = self.act(w);
+        self.parts.record().meet(Moment::FuturePoll);
+        let Some(number) = number else {
+            return Poll::Pending;
+        };
+        match self.output.take() {
+            Some(record) => Poll::Ready(Output {
+                number,
+                drops: AtDrop::new(record, Moment::OutputDrop),
+            }),
+            None => Poll::Pending,
+        }
+    }
+}

@@ -1,0 +1,82 @@
+//! Two threads that wait for each other.
+use std::alloc::{AllocError, Global};
+use std::sync::Arc;
+use std::sync::atomic::{AtomicU64, Ordering};
+use std::thread::yield_now;
+
+/// How often one looks for the other.
+pub const TURNS: u32 = 10_000_000;
+
+#[derive(Drop)]
+struct Counts {
+    halts: AtomicU64,
+    releases: AtomicU64,
+    misses: AtomicU64,
+}
+
+/// A point where one thread halts, once or several times, until another one lets it go on.
+#[derive(Drop)]
+pub struct Halt {
+    counts: Arc<Counts>,
+}
+
+impl Halt {
+    pub fn new(alloc: Global) -> Result<Halt, AllocError> {
+        let counts = Counts {
+            halts: AtomicU64::new(0),
+            releases: AtomicU64::new(0),
+            misses: AtomicU64::new(0),
+        };
+        Ok(Halt {
+            counts: Arc::new(alloc, counts)?,
+        })
+    }
+
+    /// The same point.
+    pub fn share(&self) -> Result<Halt, AllocError> {
+        Ok(Halt {
+            counts: Arc::try_clone(&self.counts)?,
+        })
+    }
+
+    /// Halts here until another thread lets it go on, or the turns are over.
+    pub fn halt(&self) {
+        let before = self.counts.halts.fetch_add(1, Ordering::SeqCst);
+        if !is_above(&self.counts.releases, before) {
+            self.counts.misses.fetch_add(1, Ordering::SeqCst);
+        }
+    }
+
+    /// Waits until a thread halts here, and says whether one did so in time.
+    pub fn await_other(&self) -> bool {
+        let released = self.counts.releases.load(Ordering::SeqCst);
+        is_above(&self.counts.halts, released)
+    }
+
+    /// Lets those go on that halt here now.
+    pub fn release(&self) {
+        let halts = self.counts.halts.load(Ordering::SeqCst);
+        self.counts.releases.store(halts, Ordering::SeqCst);
+    }
+
+    /// Lets those go on that halt here, now or later.
+    pub fn open(&self) {
+        self.counts.releases.store(u64::MAX, Ordering::SeqCst);
+    }
+
+    /// Whether each that halted here was let go on in time.
+    pub fn was_passed(&self) -> bool {
+        self.counts.misses.load(Ordering::SeqCst) == 0
+    }
+}
+
+// Waits until the number is above this one, and says whether it was so in time.
+fn is_above(number: &AtomicU64, limit: u64) -> bool {
+    for _ in 0..TURNS {
+        if number.load(Ordering::SeqCst) > limit {
+            return true;
+        }
+        yield_now();
+    }
+    false
+}

@@ -1,0 +1,81 @@
+//! The lines that a test is made of.
+use crate::future::Kind;
+use crate::record::Moment;
+
+/// What a call answers.
+#[derive(Clone, Copy, PartialEq, Eq, Debug)]
+pub enum Answer {
+    /// A poll of a handle is pending.
+    Pending,
+    /// A poll of a handle gives this output.
+    Output(u64),
+    /// A poll of a handle gives `Cancelled`, or `None`.
+    Cancelled,
+    /// A tick ran a task.
+    Ticked,
+    /// A tick found no task.
+    Idle,
+    /// A handle is gone.
+    Gone,
+}
+
+/// What is done, and what has to come of it. A task has the number of its spawn.
+#[derive(Clone, Copy, Debug)]
+pub enum Line {
+    /// A task of this future is spawned.
+    Spawn(Kind),
+    /// A tick by this thread answers this.
+    Tick(bool),
+    /// The executor is empty, or not.
+    Empty(bool),
+    /// The executor is dropped.
+    DropExecutor,
+
+    /// A poll of this task's handle answers this. An output is kept.
+    Poll(usize, Answer),
+    /// The task is finished, or not.
+    Finished(usize, bool),
+    /// The task is cancelled.
+    Cancel(usize),
+    /// The task's handle becomes a fallible one.
+    Fallible(usize),
+    /// The task is detached.
+    Detach(usize),
+    /// The task's handle is dropped.
+    DropHandle(usize),
+    /// The output that the task's handle gave is dropped.
+    DropOutput(usize),
+
+    /// The waker that the task's future left is woken.
+    Wake(usize),
+    /// A copy of it is woken.
+    WakeCopy(usize),
+    /// It is sent to another thread, and woken and dropped there.
+    WakeElsewhere(usize),
+
+    /// The waker that the task's handle is polled by refuses to be copied.
+    Refuse(usize),
+    /// The task's handle is polled by another waker from now on.
+    AnotherWaker(usize),
+    /// That other waker was woken so often.
+    OtherWoken(usize, u64),
+    /// This came so often for the task's future, its output, or the first waker of its handle.
+    Count(usize, Moment, u64),
+
+    /// The thread that meets this halts.
+    HaltAt(usize, Moment),
+    /// Another thread ticks, and halts.
+    TickHalts,
+    /// Another thread polls the task's handle, and halts.
+    PollHalts(usize),
+    /// Another thread detaches the task, and halts.
+    DetachHalts(usize),
+    /// Another thread drops the task's handle, and halts.
+    DropHalts(usize),
+    /// The executor can be used: a task is spawned and given up, and a tick runs a task.
+    Used,
+    /// The other thread goes on, and halts again.
+    HaltsAgain,
+    /// The other thread goes on, and its call answers this.
+    Returns(Answer),
+}

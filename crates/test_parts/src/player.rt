@@ -1,0 +1,256 @@
+//! Takes the lines of a test in turn.
+use crate::future::{Kind, Output};
+use crate::halt::Halt;
+use crate::line::{Answer, Line};
+use crate::record::Moment;
+use crate::task::{Entry, FutureWaker, Handle, TaskFuture};
+use crate::waker::TestWaker;
+use async_executor::executor::Executor;
+use executor_core::task::Wake;
+use std::alloc::Global;
+use std::sync::{Arc, Wait};
+use std::test::Fail;
+use std::thread;
+use std::thread::{JoinHandle, Threads};
+
+type TestExecutor<R> = Executor<TaskFuture<R>, TestWaker, R>;
+
+// A call that another thread makes.
+#[derive(Drop)]
+enum Call<R: Wait + Clone + Drop + Send + Sync> {
+    Tick(Arc<TestExecutor<R>>),
+    Poll(usize, Handle<R>, TestWaker),
+    Detach(Handle<R>),
+    Drop(Handle<R>),
+}
+
+// What a call gives back: its answer, and the task's handle and waker where it polled.
+#[derive(Drop)]
+struct Return<R: Wait + Clone + Drop + Send + Sync> {
+    answer: Answer,
+    polled: Option<(usize, Handle<R>, TestWaker)>,
+}
+
+impl<R: Wait + Clone + Drop + Send + Sync> Call<R> {
+    fn make(self) -> Return<R> {
+        let answer = match self {
+            Call::Tick(ex) => {
+                if ex.try_tick() {
+                    Answer::Ticked
+                } else {
+                    Answer::Idle
+                }
+            }
+            Call::Poll(task, mut handle, waker) => {
+                let (answer, _) = handle.poll(&waker);
+                return Return {
+                    answer,
+                    polled: Some((task, handle, waker)),
+                };
+            }
+            Call::Detach(handle) => {
+                handle.detach();
+                Answer::Gone
+            }
+            Call::Drop(handle) => {
+                drop(handle);
+                Answer::Gone
+            }
+        };
+        Return {
+            answer,
+            polled: None,
+        }
+    }
+}
+
+#[derive(Drop)]
+struct Player<R: Wait + Threads + Clone + Drop + Send + Sync + 'static> {
+    entries: Vec<Entry<R>>,
+    ex: Option<Arc<TestExecutor<R>>>,
+    other: Option<JoinHandle<Return<R>>>,
+    halt: Halt,
+    alloc: Global,
+    rt: R,
+}
+
+impl<R: Wait + Threads + Clone + Drop + Send + Sync + 'static> Player<R> {
+    fn new(rt: R, alloc: Global) -> Result<Player<R>, Fail> {
+        let ex = Executor::new(rt.clone()?, alloc)?;
+        Ok(Player {
+            entries: Vec::new(alloc),
+            ex: Some(Arc::new(alloc, ex)?),
+            other: None,
+            halt: Halt::new(alloc)?,
+            alloc,
+            rt,
+        })
+    }
+
+    // Whether what comes of the line is what has to.
+    fn holds(&mut self, line: Line) -> Result<bool, Fail> {
+        match line {
+            Line::Spawn(kind) => self.spawn(kind),
+            Line::Tick(answer) => Ok(self.tick() == Some(answer)),
+            Line::Empty(answer) => Ok(self.is_empty() == Some(answer)),
+            Line::DropExecutor => Ok(self.ex.take().is_some()),
+            Line::Used => self.is_used(),
+            Line::TickHalts => self.tick_halts(),
+            Line::PollHalts(task) => self.poll_halts(task),
+            Line::DetachHalts(task) => self.detach_halts(task),
+            Line::DropHalts(task) => self.drop_halts(task),
+            Line::WakeElsewhere(task) => self.wake_elsewhere(task),
+            Line::HaltsAgain => {
+                self.halt.release();
+                Ok(self.halt.await_other())
+            }
+            Line::Returns(answer) => Ok(self.returned() == Some(answer)),
+            Line::Poll(task, _)
+            | Line::Finished(task, _)
+            | Line::Cancel(task)
+            | Line::Fallible(task)
+            | Line::Detach(task)
+            | Line::DropHandle(task)
+            | Line::DropOutput(task)
+            | Line::Wake(task)
+            | Line::WakeCopy(task)
+            | Line::AnotherWaker(task)
+            | Line::OtherWoken(task, _)
+            | Line::Refuse(task)
+            | Line::HaltAt(task, _)
+            | Line::Count(task, _, _) => match self.entries.get_mut(task) {
+                Some(entry) => entry.holds(line),
+                None => Ok(false),
+            },
+        }
+    }
+
+    fn spawn(&mut self, kind: Kind) -> Result<bool, Fail> {
+        let Some(ex) = &self.ex else {
+            return Ok(false);
+        };
+        let entry = Entry::spawn(ex, kind, self.alloc, &self.halt)?;
+        self.entries.push(entry)?;
+        Ok(true)
+    }
+
+    fn tick(&self) -> Option<bool> {
+        match &self.ex {
+            Some(ex) => Some(ex.try_tick()),
+            None => None,
+        }
+    }
+
+    fn is_empty(&self) -> Option<bool> {
+        match &self.ex {
+            Some(ex) => Some(ex.is_empty()),
+            None => None,
+        }
+    }
+
+    // Asks all of the executor, by a task that is spawned and given up.
+    fn is_used(&mut self) -> Result<bool, Fail> {
+        if self.is_empty().is_none() || !self.spawn(Kind::Never)? {
+            return Ok(false);
+        }
+        let given_up = match self.entries.last_mut() {
+            Some(entry) => entry.give_up(),
+            None => false,
+        };
+        Ok(given_up && self.tick() == Some(true))
+    }
+
+    // Has another thread make the call, and waits until it halts.
+    fn start(&mut self, call: Call<R>) -> Result<bool, Fail> {
+        self.other = Some(thread::spawn(&self.rt, move || call.make())?);
+        Ok(self.halt.await_other())
+    }
+
+    fn tick_halts(&mut self) -> Result<bool, Fail> {
+        let Some(ex) = &self.ex else {
+            return Ok(false);
+        };
+        let ex = Arc::try_clone(ex)?;
+        self.start(Call::Tick(ex))
+    }
+
+    fn poll_halts(&mut self, task: usize) -> Result<bool, Fail> {
+        let Some(entry) = self.entries.get_mut(task) else {
+            return Ok(false);
+        };
+        match (entry.handle.take(), entry.waker.take()) {
+            (Some(handle), Some(waker)) => self.start(Call::Poll(task, handle, waker)),
+            _ => Ok(false),
+        }
+    }
+
+    fn taken_handle(&mut self, task: usize) -> Option<Handle<R>> {
+        match self.entries.get_mut(task) {
+            Some(entry) => entry.handle.take(),
+            None => None,
+        }
+    }
+
+    fn detach_halts(&mut self, task: usize) -> Result<bool, Fail> {
+        match self.taken_handle(task) {
+            Some(handle) => self.start(Call::Detach(handle)),
+            None => Ok(false),
+        }
+    }
+
+    fn drop_halts(&mut self, task: usize) -> Result<bool, Fail> {
+        match self.taken_handle(task) {
+            Some(handle) => self.start(Call::Drop(handle)),
+            None => Ok(false),
+        }
+    }
+
+    // Lets the other thread go on, and gives what its call answers, where it halted in time.
+    fn returned(&mut self) -> Option<Answer> {
+        let Some(other) = self.other.take() else {
+            return None;
+        };
+        self.halt.open();
+        let Return { answer, polled } = other.join(&self.rt);
+        if let Some((task, handle, waker)) = polled {
+            if let Some(entry) = self.entries.get_mut(task) {
+                entry.handle = Some(handle);
+                entry.waker = Some(waker);
+            }
+        }
+        if self.halt.was_passed() {
+            Some(answer)
+        } else {
+            None
+        }
+    }
+
+    fn wake_elsewhere(&mut self, task: usize) -> Result<bool, Fail> {
+        let waker = match self.entries.get_mut(task) {
+            Some(entry) => entry.take_left(),
+            None => None,
+        };
+        let Some(waker) = waker else {
+            return Ok(false);
+        };
+        let child = thread::spawn(&self.rt, move || waker.wake())?;
+        child.join(&self.rt);
+        Ok(true)
+    }
+}
+
+/// Takes the lines in turn, on a new executor. The test fails at the first that does not hold.
+pub fn play<R: AllocGlobal + Wait + Threads + Clone + Drop + Send + Sync + 'static>(
+    rt: &R,
+    lines: &[Line],
+) -> Result<(), Fail> {
+    let mut player = Player::new(rt.clone()?, rt.alloc())?;
+    for (before, line) in lines.iter().enumerate() {
+        if !player.holds(*line)? {
+            player.halt.open();
+            let place = before.saturating_add(1);
+            return Err(Fail::new(format_args!("line {place} does not hold: {line:?}")));
+        }
+    }
+    Ok(())
+}

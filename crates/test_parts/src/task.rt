@@ -1,0 +1,246 @@
+//! One task of a test.
+use crate::future::{Kind, Output, TestFuture, WakerPlace};
+use crate::halt::Halt;
+use crate::line::{Answer, Line};
+use crate::record::{Moment, Record};
+use crate::waker::TestWaker;
+use async_executor::executor::{Cancel, Executor, FallibleTask, Task, TaskWaker};
+use executor_core::task::{Future, Poll, Wake};
+use std::alloc::Global;
+use std::sync::Wait;
+use std::test::Fail;
+
+/// The wakers that futures are polled with.
+pub type FutureWaker<R> = TaskWaker<TestWaker, R>;
+
+/// The futures of a test.
+pub type TaskFuture<R> = TestFuture<FutureWaker<R>>;
+
+/// A handle of any kind.
+#[derive(Drop)]
+pub enum Handle<R: Wait + Clone + Drop + Send + Sync> {
+    Task(Task<TaskFuture<R>, TestWaker, R>),
+    Cancel(Cancel<TaskFuture<R>, TestWaker, R>),
+    Fallible(FallibleTask<TaskFuture<R>, TestWaker, R>),
+}
+
+impl<R: Wait + Clone + Drop + Send + Sync> Handle<R> {
+    pub fn poll(&mut self, w: &TestWaker) -> (Answer, Option<Output>) {
+        let answer = match self {
+            Handle::Task(task) => match task.poll(w) {
+                Poll::Ready(answer) => Poll::Ready(answer.ok()),
+                Poll::Pending => Poll::Pending,
+            },
+            Handle::Cancel(cancel) => cancel.poll(w),
+            Handle::Fallible(fallible) => fallible.poll(w),
+        };
+        match answer {
+            Poll::Pending => (Answer::Pending, None),
+            Poll::Ready(None) => (Answer::Cancelled, None),
+            Poll::Ready(Some(output)) => (Answer::Output(output.number), Some(output)),
+        }
+    }
+
+    fn is_finished(&self) -> Option<bool> {
+        match self {
+            Handle::Task(task) => Some(task.is_finished()),
+            Handle::Cancel(_) => None,
+            Handle::Fallible(fallible) => Some(fallible.is_finished()),
+        }
+    }
+
+    fn cancel(self) -> Handle<R> {
+        match self {
+            Handle::Task(task) => Handle::Cancel(task.cancel()),
+            Handle::Cancel(cancel) => Handle::Cancel(cancel),
+            Handle::Fallible(fallible) => Handle::Cancel(fallible.cancel()),
+        }
+    }
+
+    fn fallible(self) -> Handle<R> {
+        match self {
+            Handle::Task(task) => Handle::Fallible(task.fallible()),
+            other => other,
+        }
+    }
+
+    /// Detaches the task, and says whether the handle can.
+    pub fn detach(self) -> bool {
+        match self {
+            Handle::Task(task) => {
+                task.detach();
+                true
+            }
+            Handle::Cancel(_) => false,
+            Handle::Fallible(fallible) => {
+                fallible.detach();
+                true
+            }
+        }
+    }
+}
+
+/// A task, its handle, and the waker that its handle is polled by.
+#[derive(Drop)]
+pub struct Entry<R: Wait + Clone + Drop + Send + Sync> {
+    pub handle: Option<Handle<R>>,
+    pub waker: Option<TestWaker>,
+    first: Option<TestWaker>,
+    output: Option<Output>,
+    place: WakerPlace<FutureWaker<R>>,
+    record: Record,
+    other: Record,
+}
+
+impl<R: Wait + Clone + Drop + Send + Sync> Entry<R> {
+    /// A new task of this executor.
+    pub fn spawn(
+        ex: &Executor<TaskFuture<R>, TestWaker, R>,
+        kind: Kind,
+        alloc: Global,
+        halt: &Halt,
+    ) -> Result<Entry<R>, Fail> {
+        let place = WakerPlace::new(alloc)?;
+        let record = Record::with_halt(alloc, halt)?;
+        let other = Record::with_halt(alloc, halt)?;
+        let waker = TestWaker::new(&record)?;
+        let future = TestFuture::new(kind, place.share()?, &record)?;
+        let task = spawned(ex, future)?;
+        Ok(Entry {
+            handle: Some(Handle::Task(task)),
+            waker: Some(waker),
+            first: None,
+            output: None,
+            place,
+            record,
+            other,
+        })
+    }
+
+    /// Whether what comes of the line, which is one on this task, is what has to.
+    pub fn holds(&mut self, line: Line) -> Result<bool, Fail> {
+        Ok(match line {
+            Line::Poll(_, answer) => self.poll() == Some(answer),
+            Line::Finished(_, answer) => self.is_finished() == Some(answer),
+            Line::Cancel(_) => self.cancel(),
+            Line::Fallible(_) => self.fallible(),
+            Line::Detach(_) => self.detach(),
+            Line::DropHandle(_) => self.handle.take().is_some(),
+            Line::DropOutput(_) => self.output.take().is_some(),
+            Line::Wake(_) => self.wake(),
+            Line::WakeCopy(_) => self.wake_copy()?,
+            Line::AnotherWaker(_) => self.change_waker()?,
+            Line::OtherWoken(_, times) => self.other.times(Moment::WakerWake) == times,
+            Line::Refuse(_) => {
+                self.record.refuse();
+                true
+            }
+            Line::HaltAt(_, moment) => {
+                self.record.halt_at(moment);
+                true
+            }
+            Line::Count(_, moment, times) => self.record.times(moment) == times,
+            _ => false,
+        })
+    }
+
+    // An output is kept.
+    fn poll(&mut self) -> Option<Answer> {
+        let (Some(handle), Some(waker)) = (&mut self.handle, &self.waker) else {
+            return None;
+        };
+        let (answer, output) = handle.poll(waker);
+        if output.is_some() {
+            self.output = output;
+        }
+        Some(answer)
+    }
+
+    fn is_finished(&self) -> Option<bool> {
+        match &self.handle {
+            Some(handle) => handle.is_finished(),
+            None => None,
+        }
+    }
+
+    /// Drops the handle, and says whether there is one, which is not finished.
+    pub fn give_up(&mut self) -> bool {
+        let unfinished = self.is_finished() == Some(false);
+        self.handle = None;
+        unfinished
+    }
+
+    fn cancel(&mut self) -> bool {
+        match self.handle.take() {
+            Some(handle) => {
+                self.handle = Some(handle.cancel());
+                true
+            }
+            None => false,
+        }
+    }
+
+    fn fallible(&mut self) -> bool {
+        match self.handle.take() {
+            Some(handle) => {
+                self.handle = Some(handle.fallible());
+                true
+            }
+            None => false,
+        }
+    }
+
+    fn detach(&mut self) -> bool {
+        match self.handle.take() {
+            Some(handle) => handle.detach(),
+            None => false,
+        }
+    }
+
+    /// The waker that the task's future left.
+    pub fn take_left(&mut self) -> Option<FutureWaker<R>> {
+        self.place.take()
+    }
+
+    fn wake(&mut self) -> bool {
+        match self.place.take() {
+            Some(waker) => {
+                waker.wake();
+                self.place.replace(Some(waker)).is_none()
+            }
+            None => false,
+        }
+    }
+
+    fn wake_copy(&mut self) -> Result<bool, Fail> {
+        match self.place.take() {
+            Some(waker) => {
+                waker.copy()?.wake();
+                Ok(self.place.replace(Some(waker)).is_none())
+            }
+            None => Ok(false),
+        }
+    }
+
+    // The first waker is kept, so that it is not dropped.
+    fn change_waker(&mut self) -> Result<bool, Fail> {
+        let other = TestWaker::new(&self.other)?;
+        self.first = self.waker.replace(other);
+        Ok(self.first.is_some())
+    }
+}
+
+/// The task of this future. A test fails where it is refused.
+pub fn spawned<
+    F: Future<TaskWaker<W, R>> + Send,
+    W: Wake + Send,
+    R: Wait + Clone + Drop + Send + Sync,
+>(ex: &Executor<F, W, R>, future: F) -> Result<Task<F, W, R>, Fail>
+where
+    F::Output: Send,
+{
+    match ex.spawn(future) {
+        Ok(task) => Ok(task),
+        Err(_) => Err("refused".into()),
+    }
+}

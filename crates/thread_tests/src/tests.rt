@@ -1,0 +1,4 @@
+mod locks;
+mod races;
+mod stack;
+mod threads;

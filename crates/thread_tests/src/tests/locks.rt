@@ -1,0 +1,234 @@
+//! No lock is held while something of the caller's runs: it halts, and another thread uses the same
+//! executor.
+use std::test::Fail;
+use test_parts::future::Kind::{Never, Ready};
+use test_parts::line::Answer::{Gone, Output, Pending, Ticked};
+use test_parts::line::Line::{
+    AnotherWaker, Cancel, Count, Detach, DetachHalts, DropHalts, DropHandle, HaltAt, HaltsAgain,
+    Poll, PollHalts, Refuse, Returns, Spawn, Tick, TickHalts, Used,
+};
+use test_parts::player::play;
+use test_parts::record::Moment::{
+    FutureDrop, FuturePoll, OutputDrop, WakerCopy, WakerDrop, WakerWake,
+};
+
+#[test]
+fn while_a_future_is_polled(rt: HostRuntime) -> Result<(), Fail> {
+    play(
+        &rt,
+        &[
+            Spawn(Ready(7)),
+            HaltAt(0, FuturePoll),
+            Detach(0),
+            TickHalts,
+            Used,
+            Count(1, FutureDrop, 1),
+            Returns(Ticked),
+            Count(0, FutureDrop, 1),
+        ],
+    )
+}
+
+#[test]
+fn while_a_future_is_dropped(rt: HostRuntime) -> Result<(), Fail> {
+    play(
+        &rt,
+        &[
+            Spawn(Ready(7)),
+            HaltAt(0, FutureDrop),
+            Detach(0),
+            TickHalts,
+            Used,
+            Count(1, FutureDrop, 1),
+            Returns(Ticked),
+            Count(0, FutureDrop, 1),
+        ],
+    )
+}
+
+#[test]
+fn while_a_cancelled_future_is_dropped(rt: HostRuntime) -> Result<(), Fail> {
+    play(
+        &rt,
+        &[
+            Spawn(Ready(7)),
+            HaltAt(0, FutureDrop),
+            DropHandle(0),
+            TickHalts,
+            Used,
+            Count(1, FutureDrop, 1),
+            Returns(Ticked),
+            Count(0, FuturePoll, 0),
+            Count(0, FutureDrop, 1),
+        ],
+    )
+}
+
+#[test]
+fn while_an_unwanted_output_is_dropped(rt: HostRuntime) -> Result<(), Fail> {
+    play(
+        &rt,
+        &[
+            Spawn(Ready(7)),
+            HaltAt(0, OutputDrop),
+            Detach(0),
+            TickHalts,
+            Used,
+            Returns(Ticked),
+        ],
+    )
+}
+
+#[test]
+fn while_a_handle_drops_its_output(rt: HostRuntime) -> Result<(), Fail> {
+    play(
+        &rt,
+        &[
+            Spawn(Ready(7)),
+            HaltAt(0, OutputDrop),
+            Tick(true),
+            DropHalts(0),
+            Used,
+            Returns(Gone),
+        ],
+    )
+}
+
+#[test]
+fn while_a_detached_output_is_dropped(rt: HostRuntime) -> Result<(), Fail> {
+    play(
+        &rt,
+        &[
+            Spawn(Ready(7)),
+            HaltAt(0, OutputDrop),
+            Tick(true),
+            DetachHalts(0),
+            Used,
+            Returns(Gone),
+        ],
+    )
+}
+
+#[test]
+fn while_an_awaiter_is_woken(rt: HostRuntime) -> Result<(), Fail> {
+    play(
+        &rt,
+        &[
+            Spawn(Ready(7)),
+            HaltAt(0, WakerWake),
+            Poll(0, Pending),
+            TickHalts,
+            Used,
+            Returns(Ticked),
+        ],
+    )
+}
+
+#[test]
+fn while_the_awaiter_of_a_cancel_is_woken(rt: HostRuntime) -> Result<(), Fail> {
+    play(
+        &rt,
+        &[
+            Spawn(Ready(7)),
+            HaltAt(0, WakerWake),
+            Cancel(0),
+            Poll(0, Pending),
+            TickHalts,
+            Used,
+            Returns(Ticked),
+        ],
+    )
+}
+
+#[test]
+fn while_an_earlier_waker_is_dropped(rt: HostRuntime) -> Result<(), Fail> {
+    play(
+        &rt,
+        &[
+            Spawn(Never),
+            HaltAt(0, WakerDrop),
+            Poll(0, Pending),
+            AnotherWaker(0),
+            PollHalts(0),
+            Used,
+            Returns(Pending),
+        ],
+    )
+}
+
+#[test]
+fn while_a_handle_drops_its_waker(rt: HostRuntime) -> Result<(), Fail> {
+    play(
+        &rt,
+        &[
+            Spawn(Ready(7)),
+            HaltAt(0, WakerDrop),
+            Poll(0, Pending),
+            DropHalts(0),
+            Used,
+            Returns(Gone),
+        ],
+    )
+}
+
+#[test]
+fn while_a_detached_waker_is_dropped(rt: HostRuntime) -> Result<(), Fail> {
+    play(
+        &rt,
+        &[
+            Spawn(Ready(7)),
+            HaltAt(0, WakerDrop),
+            Poll(0, Pending),
+            DetachHalts(0),
+            Used,
+            Returns(Gone),
+        ],
+    )
+}
+
+#[test]
+fn while_a_waker_is_copied(rt: HostRuntime) -> Result<(), Fail> {
+    play(
+        &rt,
+        &[
+            Spawn(Never),
+            HaltAt(0, WakerCopy),
+            PollHalts(0),
+            Used,
+            Returns(Pending),
+        ],
+    )
+}
+
+#[test]
+fn while_a_waker_that_cannot_be_copied_is_woken(rt: HostRuntime) -> Result<(), Fail> {
+    play(
+        &rt,
+        &[
+            Spawn(Never),
+            Refuse(0),
+            HaltAt(0, WakerWake),
+            PollHalts(0),
+            Used,
+            Returns(Pending),
+        ],
+    )
+}
+
+#[test]
+fn while_a_waker_that_is_not_needed_is_dropped(rt: HostRuntime) -> Result<(), Fail> {
+    play(
+        &rt,
+        &[
+            Spawn(Ready(7)),
+            HaltAt(0, WakerCopy),
+            HaltAt(0, WakerDrop),
+            PollHalts(0),
+            // The task ends while the waker is copied, so the copy is not needed.
+            Tick(true),
+            HaltsAgain,
+            Used,
+            Returns(Output(7)),
+        ],
+    )
+}

@@ -1,0 +1,238 @@
+//! Executors that several threads use with no order between them.
+use async_executor::executor::{Executor, Task};
+use executor_core::task::{Future, Poll};
+use std::alloc::AllocError;
+use std::sync::Wait;
+use std::sync::atomic::{AtomicU64, Ordering};
+use std::test::Fail;
+use std::thread;
+use std::thread::yield_now;
+use test_parts::future::{Kind, TestFuture, WakerPlace};
+use test_parts::halt::{Halt, TURNS};
+use test_parts::record::{Moment, Record};
+use test_parts::task::{FutureWaker, TaskFuture, spawned};
+use test_parts::waker::TestWaker;
+
+// An executor, the record of its futures and their outputs, a waker for its handles, and what the
+// threads count.
+#[derive(Drop)]
+struct Fixture<R: Wait + Clone + Drop + Send + Sync> {
+    ex: Executor<TaskFuture<R>, TestWaker, R>,
+    waker: TestWaker,
+    record: Record,
+    place: WakerPlace<FutureWaker<R>>,
+    halt: Halt,
+    good: AtomicU64,
+    done: AtomicU64,
+}
+
+impl<R: Wait + Clone + Drop + Send + Sync + AllocGlobal> Fixture<R> {
+    fn new(rt: &R) -> Result<Fixture<R>, Fail> {
+        let alloc = rt.alloc();
+        let halt = Halt::new(alloc)?;
+        let record = Record::with_halt(alloc, &halt)?;
+        Ok(Fixture {
+            ex: Executor::new(rt.clone()?, alloc)?,
+            waker: TestWaker::new(&Record::new(alloc)?)?,
+            record,
+            place: WakerPlace::new(alloc)?,
+            halt,
+            good: AtomicU64::new(0),
+            done: AtomicU64::new(0),
+        })
+    }
+}
+
+impl<R: Wait + Clone + Drop + Send + Sync> Fixture<R> {
+    fn future(&self, kind: Kind) -> Result<TaskFuture<R>, AllocError> {
+        TestFuture::new(kind, self.place.share()?, &self.record)
+    }
+
+    fn task(&self, kind: Kind) -> Option<Task<TaskFuture<R>, TestWaker, R>> {
+        let Ok(future) = self.future(kind) else {
+            return None;
+        };
+        self.ex.spawn(future).ok()
+    }
+
+    // Whether this thread runs the task to its end.
+    fn ticks_to_end(&self, task: &Task<TaskFuture<R>, TestWaker, R>) -> bool {
+        self.ex.try_tick() && task.is_finished()
+    }
+
+    // Runs tasks until this many threads are done.
+    fn ticks_until(&self, threads: u64) {
+        for _ in 0..TURNS {
+            if self.done.load(Ordering::SeqCst) >= threads {
+                return;
+            }
+            if !self.ex.try_tick() {
+                yield_now();
+            }
+        }
+    }
+
+    // Spawns tasks one by one, each of which yields once, and counts those that give the number of
+    // their polls.
+    fn awaits_each(&self, tasks: u64) {
+        for _ in 0..tasks {
+            let Some(mut task) = self.task(Kind::Yields(1)) else {
+                return;
+            };
+            if self.awaited(&mut task) == Some(2) {
+                self.good.fetch_add(1, Ordering::SeqCst);
+            }
+        }
+        self.done.fetch_add(1, Ordering::SeqCst);
+    }
+
+    // What the task gives in the end.
+    fn awaited(&self, task: &mut Task<TaskFuture<R>, TestWaker, R>) -> Option<u64> {
+        for _ in 0..TURNS {
+            match task.poll(&self.waker) {
+                Poll::Pending => yield_now(),
+                Poll::Ready(Ok(output)) => return Some(output.number),
+                Poll::Ready(Err(_)) => return None,
+            }
+        }
+        None
+    }
+
+    // Spawns and gives up tasks, and runs tasks, until all of them are over.
+    fn spawns_and_ticks(&self, tasks: u64, all: u64) {
+        for i in 0..tasks {
+            let Some(task) = self.task(Kind::Ready(i)) else {
+                return;
+            };
+            if i % 2 == 0 {
+                task.detach();
+            } else {
+                drop(task);
+            }
+            self.ex.try_tick();
+        }
+        for _ in 0..TURNS {
+            if self.record.times(Moment::FutureDrop) >= all {
+                return;
+            }
+            if !self.ex.try_tick() {
+                yield_now();
+            }
+        }
+    }
+
+    // Spawns tasks and gives them up, and lets the other thread go on after each spawn.
+    fn spawns_beside(&self) {
+        for _ in 0..TURNS {
+            let Some(task) = self.task(Kind::Never) else {
+                return;
+            };
+            self.halt.release();
+            drop(task);
+            self.ex.try_tick();
+            if self.done.load(Ordering::SeqCst) > 0 || !self.halt.was_passed() {
+                break;
+            }
+        }
+        self.halt.open();
+    }
+
+    // Lets finished tasks go, whose outputs halt in their drop.
+    fn lets_go(&self, tasks: Vec<Task<TaskFuture<R>, TestWaker, R>>) {
+        for (i, task) in tasks.into_iter().enumerate() {
+            if i % 2 == 0 {
+                task.detach();
+            } else {
+                drop(task);
+            }
+        }
+        self.done.fetch_add(1, Ordering::SeqCst);
+    }
+}
+
+#[test]
+fn one_of_two_threads_runs_the_task(rt: HostRuntime) -> Result<(), Fail> {
+    let all = Fixture::new(&rt)?;
+    let mut task = spawned(&all.ex, all.future(Kind::Ready(7))?)?;
+    let (shared, handle) = (&all, &task);
+    let (one, two) = thread::join(
+        &rt,
+        || shared.ticks_to_end(handle),
+        || shared.ticks_to_end(handle),
+    );
+    assert!(rt; one != two);
+    assert_eq!(rt; all.awaited(&mut task), Some(7));
+    Ok(())
+}
+
+#[test]
+fn an_executor_and_a_handle_are_sent(rt: HostRuntime) -> Result<(), Fail> {
+    let all = Fixture::new(&rt)?;
+    let task = spawned(&all.ex, all.future(Kind::Ready(7))?)?;
+    let child = thread::spawn(&rt, move || all.ex.try_tick())?;
+    assert!(rt; child.join(&rt));
+    let all = Fixture::new(&rt)?;
+    let child = thread::spawn(&rt, move || {
+        let mut task = task;
+        all.awaited(&mut task)
+    })?;
+    assert_eq!(rt; child.join(&rt), Some(7));
+    Ok(())
+}
+
+#[test]
+fn no_output_is_lost_between_threads(rt: HostRuntime) -> Result<(), Fail> {
+    let all = Fixture::new(&rt)?;
+    let shared = &all;
+    thread::scope(thread::scope_env(), &rt, |scope| {
+        for _ in 0..2u8 {
+            let _ = scope.spawn(move || shared.ticks_until(2));
+            let _ = scope.spawn(move || shared.awaits_each(20_000));
+        }
+    });
+    assert_eq!(rt; all.done.load(Ordering::SeqCst), 2);
+    assert_eq!(rt; all.good.load(Ordering::SeqCst), 40_000);
+    assert!(rt; all.ex.is_empty());
+    Ok(())
+}
+
+#[test]
+fn each_task_of_four_threads_ends_once(rt: HostRuntime) -> Result<(), Fail> {
+    let all = Fixture::new(&rt)?;
+    let shared = &all;
+    thread::scope(thread::scope_env(), &rt, |scope| {
+        for _ in 0..4u8 {
+            let _ = scope.spawn(move || shared.spawns_and_ticks(10_000, 40_000));
+        }
+    });
+    assert_eq!(rt; all.record.times(Moment::FutureDrop), 40_000);
+    assert!(rt; all.ex.is_empty());
+    assert!(rt; !all.ex.try_tick());
+    Ok(())
+}
+
+#[test]
+fn an_output_of_a_handle_that_goes_is_not_left_to_a_spawn(rt: HostRuntime) -> Result<(), Fail> {
+    let all = Fixture::new(&rt)?;
+    let mut tasks = Vec::new(rt.alloc());
+    for i in 0..OUTPUTS {
+        tasks.push(spawned(&all.ex, all.future(Kind::Ready(i))?)?)?;
+        all.ex.try_tick();
+    }
+    all.record.halt_at(Moment::OutputDrop);
+    let shared = &all;
+    thread::join(
+        &rt,
+        move || shared.lets_go(tasks),
+        move || shared.spawns_beside(),
+    );
+    assert_eq!(rt; all.record.times(Moment::OutputDrop), OUTPUTS);
+    assert!(rt;
+        all.halt.was_passed(),
+        "a spawn drops an output under a lock"
+    );
+    Ok(())
+}
+
+// How many outputs are let go.
+const OUTPUTS: u64 = 2_000;

@@ -1,0 +1,154 @@
+//! In which order a task's parts are dropped and its awaiter is woken: they halt, and another thread
+//! looks.
+use std::test::Fail;
+use test_parts::future::Kind::{Never, Ready, WakesAndReady, Yields};
+use test_parts::line::Answer::{Cancelled, Pending, Ticked};
+use test_parts::line::Line::{
+    Cancel, Count, Detach, DropHandle, Empty, HaltAt, HaltsAgain, Poll, Returns, Spawn, Tick,
+    TickHalts,
+};
+use test_parts::player::play;
+use test_parts::record::Moment::{FutureDrop, FuturePoll, OutputDrop, WakerWake};
+
+#[test]
+fn a_task_that_is_cancelled_in_its_poll_gives_nothing(rt: HostRuntime) -> Result<(), Fail> {
+    play(
+        &rt,
+        &[
+            Spawn(WakesAndReady(7)),
+            HaltAt(0, FuturePoll),
+            Poll(0, Pending),
+            TickHalts,
+            Cancel(0),
+            Returns(Ticked),
+            Count(0, WakerWake, 1),
+            Count(0, OutputDrop, 1),
+            Count(0, FutureDrop, 1),
+            Poll(0, Cancelled),
+            Empty(true),
+            Tick(false),
+        ],
+    )
+}
+
+#[test]
+fn a_handle_that_goes_in_a_poll_leaves_the_output(rt: HostRuntime) -> Result<(), Fail> {
+    play(
+        &rt,
+        &[
+            Spawn(WakesAndReady(7)),
+            HaltAt(0, FuturePoll),
+            TickHalts,
+            DropHandle(0),
+            Returns(Ticked),
+            Count(0, OutputDrop, 1),
+            Count(0, FutureDrop, 1),
+            Empty(true),
+            Tick(false),
+        ],
+    )
+}
+
+#[test]
+fn a_task_that_is_detached_in_its_poll_leaves_the_output(rt: HostRuntime) -> Result<(), Fail> {
+    play(
+        &rt,
+        &[
+            Spawn(WakesAndReady(7)),
+            HaltAt(0, FuturePoll),
+            TickHalts,
+            Detach(0),
+            Returns(Ticked),
+            Count(0, OutputDrop, 1),
+            Count(0, FutureDrop, 1),
+            Empty(true),
+            Tick(false),
+        ],
+    )
+}
+
+#[test]
+fn a_pending_task_that_was_cancelled_is_dropped_at_once(rt: HostRuntime) -> Result<(), Fail> {
+    play(
+        &rt,
+        &[
+            Spawn(Yields(5)),
+            HaltAt(0, FuturePoll),
+            TickHalts,
+            Cancel(0),
+            Returns(Ticked),
+            Count(0, FutureDrop, 1),
+            Poll(0, Cancelled),
+            Empty(true),
+            Tick(false),
+        ],
+    )
+}
+
+#[test]
+fn a_pending_task_that_was_cancelled_ends_after_its_future_is_dropped(
+    rt: HostRuntime,
+) -> Result<(), Fail> {
+    play(
+        &rt,
+        &[
+            Spawn(Never),
+            HaltAt(0, FuturePoll),
+            HaltAt(0, FutureDrop),
+            TickHalts,
+            Cancel(0),
+            Poll(0, Pending),
+            HaltsAgain,
+            Count(0, FutureDrop, 1),
+            Empty(false),
+            Count(0, WakerWake, 0),
+            Poll(0, Pending),
+            Returns(Ticked),
+            Empty(true),
+            Count(0, WakerWake, 1),
+            Poll(0, Cancelled),
+        ],
+    )
+}
+
+#[test]
+fn a_cancelled_task_ends_after_its_future_is_dropped(rt: HostRuntime) -> Result<(), Fail> {
+    play(
+        &rt,
+        &[
+            Spawn(Never),
+            HaltAt(0, FutureDrop),
+            Cancel(0),
+            Poll(0, Pending),
+            TickHalts,
+            Empty(false),
+            Count(0, WakerWake, 0),
+            Poll(0, Pending),
+            Returns(Ticked),
+            Empty(true),
+            Count(0, WakerWake, 1),
+            Poll(0, Cancelled),
+        ],
+    )
+}
+
+#[test]
+fn an_awaiter_is_woken_after_an_unwanted_output_is_dropped(rt: HostRuntime) -> Result<(), Fail> {
+    play(
+        &rt,
+        &[
+            Spawn(Ready(7)),
+            HaltAt(0, FuturePoll),
+            HaltAt(0, OutputDrop),
+            TickHalts,
+            Cancel(0),
+            Poll(0, Pending),
+            HaltsAgain,
+            Count(0, OutputDrop, 1),
+            Count(0, WakerWake, 0),
+            Returns(Ticked),
+            Count(0, WakerWake, 1),
+            Poll(0, Cancelled),
+        ],
+    )
+}
