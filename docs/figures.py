@@ -75,7 +75,7 @@ def chart(found):
         '<text x="161" y="26">this executor</text>',
         '<rect x="270" y="14" width="15" height="15" fill="#b8bec6"/>',
         '<text x="291" y="26">the Rust crate</text>',
-        '<text x="420" y="26">instructions an operation</text>',
+        '<text x="400" y="26">instructions an operation: fewer is better</text>',
     ]
     for place, (name, _, ours, theirs, _) in enumerate(rows):
         top = 48 + 46 * place
