@@ -1,12 +1,11 @@
 //! Short callers, one for each thing that an executor and its handles do. `main` runs them all.
 #![tactic(auto)]
 
-ghost use Rattle.std.specs.Prelude.{◌≡◌, true, IfErr};
-ghost use Rattle.async_executor.specs.Answers.{is_ready, IsReadyErr};
-
+mod calling;
 mod futures;
 
-use async_executor::executor::{Cancelled, Executor, Task};
+use async_executor::executor::{Cancelled, Executor};
+use calling::{asks_again, gives_back};
 use executor_core::task::{Future, OutOfMemory, Poll};
 use futures::{Job, Nobody, Receiver, Sum, send};
 use std::alloc::Global;
@@ -74,30 +73,6 @@ fn falls_back<R: Wait + Clone + Drop + Send + Sync>(
         return None;
     }
     Some(task.poll(&Nobody))
-}
-
-/// Asks the same handle twice. An answer goes out once: the second one is `Cancelled`.
-fn asks_again<R: Wait + Clone + Drop + Send + Sync>(
-    task: &mut Task<Sum, Nobody, R>,
-) -> (Poll<Result<u64, Cancelled>>, Poll<Result<u64, Cancelled>>)
-    ensures { is_ready result.0 ≡ true → IsReadyErr result.1 }
-{
-    let first = task.poll(&Nobody);
-    let second = task.poll(&Nobody);
-    (first, second)
-}
-
-/// Spawns a future, and gives it back where memory is refused or no task number is left.
-fn gives_back<R: Wait + Clone + Drop + Send + Sync>(
-    executor: &Executor<Sum, Nobody, R>,
-    future: Sum,
-) -> Result<Task<Sum, Nobody, R>, Sum>
-    ensures { IfErr result (λ back. back ≡ future) }
-{
-    match executor.spawn(future) {
-        Ok(task) => Ok(task),
-        Err(refused) => Err(refused.into_inner()),
-    }
 }
 
 /// Runs futures of two kinds on one executor.
@@ -181,7 +156,7 @@ fn main(rt: HostRuntime) -> io::Result<()> {
     if let Ok(mut task) = gives_back(&executor, Sum::of(1, 2)) {
         executor.try_tick();
         executor.try_tick();
-        println!(rt; "asks_again: {:?}", asks_again(&mut task))?;
+        println!(rt; "asks_again: {:?}", asks_again(&mut task, &Nobody))?;
     }
     println!(rt; "mixes: {:?}", mixes(rt.clone()?, alloc))?;
     println!(rt; "receives: {:?}", receives(rt.clone()?, alloc))?;
