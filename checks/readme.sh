@@ -33,7 +33,7 @@ stands() { printf '%s\n' "$sources" | xargs grep -qE -- "$1"; }
 # A word that names a call, a clause, a type, a definition, a crate or a path has to be there.
 is_there() {
     case $1 in
-        *[!A-Za-z0-9_:./]* | S | self | break | unsafe | specs/ | proofs/ | src/) return 0 ;;
+        *[!A-Za-z0-9_:./]* | S | self | break | unsafe | specs/ | proofs/ | src/ | out/) return 0 ;;
         uses::*) grep -q "fn ${1#uses::}<" crates/uses/src/*.rt ;;
         */* | *.md | *.txt | *.svg) [ -e "$1" ] || [ -e "docs/$1" ] || [ -e "crates/executor_core/src/$1.rt" ] ;;
         [A-Z]*::[a-z]*) stands "fn ${1#*::}\b" ;;

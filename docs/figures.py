@@ -43,8 +43,8 @@ def table(kind, found):
 def page(text, found):
     """The page with its tables made anew."""
     return re.sub(
-        r"(<!-- figures: (\w+) -->\n).*?(\n<!-- end -->)",
-        lambda block: block[1] + table(block[2], found) + block[3],
+        r"(<!-- figures: (\w+) -->\n)(?:(?!<!-- figures).)*?(<!-- end -->)",
+        lambda block: f"{block[1]}{table(block[2], found)}\n{block[3]}",
         text,
         flags=re.DOTALL,
     )
