@@ -1,0 +1,125 @@
+#!/bin/sh
+# Compares what the pages say with what the repository has: programs, callers and printed runs word
+# for word, the contracts that are quoted, the calls and clauses that carry a promise, the modules of
+# the map, the worked interleaving of exsim, links, and figures.
+# Usage: checks/readme.sh, anywhere. RT names the command rt. Its last line counts the comparisons.
+set -u
+. "$(dirname "$0")/edits"
+cd "$top" || exit 1
+calling=crates/async_executor/CALLING.md
+sources=$(find crates -path '*/out' -prune -o \( -name '*.rt' -o -name '*.antt' \) -print)
+
+# The text of the first block of this language on a page, below the first line with this text.
+block() { awk -v at="$3" -v head="\`\`\`$2" '
+    !below { below = index($0, at); next }
+    inside && /^```$/ { exit }
+    inside { print }
+    $0 == head { inside = 1 }' "$1"; }
+
+# The words in backticks on a page, outside of its blocks.
+quoted() { awk '/^```/ { inside = !inside } !inside' "$1" | grep -o '`[^`]*`' | tr -d '`' | sort -u; }
+
+same() {
+    if [ -s "$copy/wanted" ] && diff "$copy/said" "$copy/wanted" > "$copy/log"; then
+        pass "$1: the same"
+    else
+        fail "$1: not the same" "$copy/log"
+    fi
+}
+
+# Whether this pattern is found in a source or a spec.
+stands() { printf '%s\n' "$sources" | xargs grep -qE -- "$1"; }
+
+# A word that names a call, a clause, a type, a definition, a crate or a path has to be there.
+is_there() {
+    case $1 in
+        *[!A-Za-z0-9_:./]* | S | self | break | unsafe | specs/ | proofs/ | src/ | out/) return 0 ;;
+        uses::*) grep -q "fn ${1#uses::}<" crates/uses/src/*.rt ;;
+        */* | *.md | *.txt | *.svg) [ -e "$1" ] || [ -e "docs/$1" ] || [ -e "crates/executor_core/src/$1.rt" ] ;;
+        [A-Z]*::[a-z]*) stands "fn ${1#*::}\b" ;;
+        [A-Z]*) stands "(struct|enum|trait|type|const) $1\b" || stands "^ +$1(\(|,| \{|$)" ;;
+        *) stands "(fn|mod|ensures|pub) $1\b" || stands "codes \"$1\"" || grep -qw "$1" crates.txt ;;
+    esac
+}
+
+block README.md rust "## A whole program" > "$copy/said"
+cp crates/hello/src/main.rt "$copy/wanted"
+same "README.md, the program and crates/hello"
+
+block README.md text "## A whole program" > "$copy/said"
+grep '^hello' crates.txt > "$copy/wanted"
+same "README.md, the program's line of crates.txt"
+
+sed -n 's/^It prints `\([^`]*\)`.*/\1/p' README.md > "$copy/said"
+cp crates/hello/stdout "$copy/wanted"
+same "README.md, what the program prints"
+
+block README.md text "Both print" > "$copy/said"
+cp crates/exsim/stdout "$copy/wanted"
+same "README.md, the run of exsim"
+
+"${RT:-rt}" version > "$copy/said"
+sed -n 's/^`rt version` prints `\([^`]*\)`.*/\1/p' README.md > "$copy/wanted"
+same "README.md, the toolchain"
+
+block "$calling" rust "## A caller" > "$copy/said"
+cp crates/uses/src/calling.rt "$copy/wanted"
+same "CALLING.md, the caller and crates/uses"
+
+# A clause is quoted with S for what self points to.
+cat crates/async_executor/src/*.rt crates/executor_core/src/task/*.rt |
+    sed "s/self\.new/S'/g; s/self\.\(old\|now\)/S/g" > "$copy/clauses"
+block "$calling" text "## Contracts" | sed -n 's/^  \(ensures\|requires\)\( [a-z_]*\)\?: \(.*\)$/\1\2 { \3 }/p' |
+    sort -u > "$copy/said"
+sed 's/^ *//; s/[;,]$//' "$copy/clauses" | grep -Fxf "$copy/said" | sort -u > "$copy/wanted"
+same "CALLING.md, the clauses and the sources"
+
+for page in README.md docs/PROVED.md docs/ARCHITECTURE.md "$calling"; do
+    quoted "$page" | while read -r word; do
+        is_there "$word" || echo "$word"
+    done > "$copy/log"
+    if [ -s "$copy/log" ]; then
+        fail "$page names what is not there:" "$copy/log"
+    else
+        pass "$page: what it names is there"
+    fi
+done
+
+for crate in executor_core async_executor exsim; do
+    (cd crates/$crate/src && find . -name '*.rt') | sed 's/^\.\///; s/\.rt$//' |
+        grep -vxE 'lib|main|tests(/.*)?' | sort > "$copy/wanted"
+    quoted docs/ARCHITECTURE.md | grep -Fxf "$copy/wanted" | sort > "$copy/said"
+    same "ARCHITECTURE.md, the modules of $crate"
+done
+
+grep -rhoE '`uses::[a-z_]+`' docs crates/*/src "$calling" | tr -d '`' | sort -u |
+    while read -r word; do is_there "$word" || echo "$word"; done > "$copy/log"
+if [ -s "$copy/log" ]; then
+    fail "examples that crates/uses lacks:" "$copy/log"
+else
+    pass "each example is in crates/uses"
+fi
+
+for page in README.md docs/*.md "$calling"; do
+    grep -oE '\]\([^)#]*' "$page" | sed 's/^](//' | grep -v '^http' | while read -r link; do
+        [ -e "$(dirname "$page")/$link" ] || echo "$page: $link"
+    done
+done > "$copy/log"
+if [ -s "$copy/log" ]; then fail "links to nothing:" "$copy/log"; else pass "each link has its page"; fi
+
+sed -n '/^## The lines/,/^## /s/^| `\([a-z]*\).*/\1/p' docs/EXSIM.md | sort > "$copy/said"
+sed -n 's/^word_of .* = codes "\(.*\)"$/\1/p' crates/exsim/specs/Grammar.antt | sort > "$copy/wanted"
+same "EXSIM.md, the words of a line"
+
+sed -n '/^## One interleaving/,/^## /s/^| `\([^`]*\)` | `\([^`]*\)` |.*/\1\t\2/p' docs/EXSIM.md > "$copy/rows"
+cut -f2 "$copy/rows" > "$copy/said"
+(cd crates/exsim && cut -f1 "$copy/rows" | "${RT:-rt}" try 2> /dev/null) > "$copy/wanted"
+same "EXSIM.md, the worked interleaving"
+
+docs/figures.py --check > "$copy/figures"
+sed '$d' "$copy/figures"
+counts=$(tail -n 1 "$copy/figures")
+passed=$((passed + ${counts%% *}))
+counts=${counts#*, }
+failed=$((failed + ${counts%% *}))
+count

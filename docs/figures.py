@@ -1,0 +1,107 @@
+#!/usr/bin/env python3
+"""Writes the figures of docs/figures.txt where readers look for them.
+
+They become tables in README.md and docs/EXSIM.md, between the lines '<!-- figures: KIND -->' and
+'<!-- end -->', and the chart docs/benchmark.svg. With the argument --check nothing is written:
+each page that does not say what docs/figures.txt says is named, and the last line counts the pages.
+"""
+import pathlib
+import re
+import sys
+
+TOP = pathlib.Path(__file__).resolve().parent.parent
+PAGES = ("README.md", "docs/EXSIM.md")
+CHART = "docs/benchmark.svg"
+HEADS = {
+    "time": ("from a fresh clone", "what it does", "time"),
+    "bench": ("row", "one operation", "instructions", "the Rust crate", "nanoseconds"),
+    "exsim": ("lines", "milliseconds", "million instructions", "peak memory, MB"),
+}
+CODE = {"time", "bench"}
+
+
+def figures():
+    """The fields of each line, by the line's kind."""
+    found = {}
+    for line in (TOP / "docs/figures.txt").read_text().splitlines():
+        if line and not line.startswith("#"):
+            kind, *fields = (field.strip() for field in line.split("|"))
+            found.setdefault(kind, []).append(fields)
+    return found
+
+
+def table(kind, found):
+    """The rows of a kind as a table, or the text of its one field."""
+    if kind == "taken":
+        return f"Taken at {found[kind][0][0]}."
+    lines = [HEADS[kind], ("---",) * len(HEADS[kind])]
+    for first, *rest in found[kind]:
+        lines.append((f"`{first}`" if kind in CODE else first, *rest))
+    return "\n".join("| " + " | ".join(line) + " |" for line in lines)
+
+
+def page(text, found):
+    """The page with its tables made anew."""
+    return re.sub(
+        r"(<!-- figures: (\w+) -->\n)(?:(?!<!-- figures).)*?(<!-- end -->)",
+        lambda block: f"{block[1]}{table(block[2], found)}\n{block[3]}",
+        text,
+        flags=re.DOTALL,
+    )
+
+
+def bar(top, value, scale, colour):
+    """One bar, with its value behind it."""
+    if not value.isdigit():
+        return [f'<text x="140" y="{top + 12}">not measured yet</text>']
+    width = round(int(value) * scale, 1)
+    return [
+        f'<rect x="140" y="{top}" width="{width}" height="15" fill="{colour}"/>',
+        f'<text x="{140 + width + 6:g}" y="{top + 12}">{value}</text>',
+    ]
+
+
+def chart(found):
+    """The rows of the benchmark as bars, beside those of the Rust crate."""
+    rows = found["bench"]
+    scale = 520 / max(int(n) for row in rows for n in row[2:4] if n.isdigit())
+    height = 60 + 46 * len(rows)
+    lines = [
+        f'<svg xmlns="http://www.w3.org/2000/svg" width="720" height="{height}" '
+        'font-family="sans-serif" font-size="13">',
+        "<title>Instructions an operation, beside the Rust crate: fewer is better</title>",
+        f'<rect width="720" height="{height}" fill="white"/>',
+        '<rect x="140" y="14" width="15" height="15" fill="#1f5fa8"/>',
+        '<text x="161" y="26">this executor</text>',
+        '<rect x="270" y="14" width="15" height="15" fill="#b8bec6"/>',
+        '<text x="291" y="26">the Rust crate</text>',
+        '<text x="400" y="26">instructions an operation: fewer is better</text>',
+    ]
+    for place, (name, _, ours, theirs, _) in enumerate(rows):
+        top = 48 + 46 * place
+        lines.append(f'<text x="132" y="{top + 20}" text-anchor="end">{name}</text>')
+        lines += bar(top, ours, scale, "#1f5fa8") + bar(top + 17, theirs, scale, "#b8bec6")
+    return "\n".join(lines + ["</svg>", ""])
+
+
+def main():
+    found = figures()
+    wanted = {name: page((TOP / name).read_text(), found) for name in PAGES}
+    wanted[CHART] = chart(found)
+    if sys.argv[1:] != ["--check"]:
+        for name, text in wanted.items():
+            (TOP / name).write_text(text)
+        return 0
+    failed = [kind for kind in found for fields in found[kind] if "?" in fields]
+    for kind in failed:
+        print(f"docs/figures.txt: a figure of the kind {kind} is still to be measured")
+    for name, text in wanted.items():
+        if not (TOP / name).exists() or (TOP / name).read_text() != text:
+            print(f"{name}: not as docs/figures.py writes it")
+            failed.append(name)
+    print(f"{len(wanted) + sum(map(len, found.values())) - len(failed)} passed, {len(failed)} failed")
+    return 1 if failed else 0
+
+
+if __name__ == "__main__":
+    sys.exit(main())
