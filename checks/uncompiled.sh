@@ -50,7 +50,7 @@ try_lines() {
             fail "$name: refused otherwise than marked:" "$copy/lacking"
             return
         elif [ ! -s "$copy/found" ]; then
-            fail "$name: not refused as marked:" "$copy/wanted"
+            fail "$name: not refused as marked:" "$copy/log"
             return
         fi
         awk 'NR == FNR { judged[$2]; next } FNR in judged { $0 = "" } { print }' \
@@ -137,7 +137,7 @@ judge_round() {
     if [ "$is_cut" = 0 ] || [ ! -s "$copy/judged" ]; then
         lacks "$copy/tried" "$copy/judged" || :
         while read -r _ error edit _; do
-            fail "$edit: not refused as $error"
+            fail "$edit: not refused as $error:" "$copy/log"
         done < "$copy/lacking"
         cp "$copy/tried" "$copy/judged"
     fi
