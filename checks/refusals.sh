@@ -27,24 +27,29 @@ give_up() {
 # Finds the program of a crate. It may take memory only by what the library counts.
 find_program() {
     program=$top/crates/$1/out/$1
-    if [ ! -x "$program" ] || find "$top"/crates/*/src -name '*.rt' -newer "$program" | grep -q .; then
-        (cd "$top/crates/$1" && "$rt" run < /dev/null) > "$work/log" 2>&1 || give_up "$(cat "$work/log")"
+    if [ ! -x "$program" ] ||
+        find "$top"/crates/*/src -name '*.rt' -newer "$program" | grep -q .; then
+        (cd "$top/crates/$1" && "$rt" run < /dev/null) > "$work/log" 2>&1 ||
+            give_up "$(cat "$work/log")"
     fi
     grep -aqw malloc "$program" || give_up "$1 does not call malloc"
-    others='[a-z_]*calloc|reallocarray|[a-z_]*memalign|aligned_alloc|p?valloc|[a-z_]*strn?dup|mmap(64)?|s?brk'
+    others='[a-z_]*calloc|reallocarray|aligned_alloc|[a-z_]*memalign|p?valloc|[a-z_]*strn?dup'
+    others="$others|mmap(64)?|s?brk"
     others=$(grep -aowE "$others" "$program" | sort -u)
     [ -z "$others" ] || give_up "$1 takes memory by what is not counted: $others"
 }
 
 # Runs the program with its Nth request refused, and keeps what it answered.
 run_refused() {
-    out=$(timeout 60 env LD_PRELOAD="$work/fail_nth.so" FAIL_ALLOC="$n" "$program" 2>&1 3> "$work/refused") &&
-        status=0 || status=$?
+    out=$(timeout 60 env LD_PRELOAD="$work/fail_nth.so" FAIL_ALLOC="$n" "$program" \
+        2>&1 3> "$work/refused") && status=0 || status=$?
 }
 is_refused() { [ -s "$work/refused" ]; }
 
 # The calls that a line of refusals gives this count.
-calls() { printf '%s\n' "${line#refused: }" | sed 's/; wrong: 0$//; s/, /\n/g' | sed -n "s/ $1\$//p"; }
+calls() {
+    printf '%s\n' "${line#refused: }" | sed 's/; wrong: 0$//; s/, /\n/g' | sed -n "s/ $1\$//p"
+}
 
 # Reads the line of refusals, which has to name one call where a request was refused, and else none.
 read_line() {
@@ -75,7 +80,8 @@ read_line 0
     give_up "not each call met a refusal: $met"
 
 n=$((n - 1))
-out=$(cd "$top/crates/refusals" && "$rt" try --fail-alloc "$n" --seconds 60 2>&1) && status=0 || status=$?
+out=$(cd "$top/crates/refusals" && "$rt" try --fail-alloc "$n" --seconds 60 2>&1) &&
+    status=0 || status=$?
 read_line 1
 echo "refusals, request $n, by rt try: $call"
 passed=$((passed + 1))

@@ -17,16 +17,19 @@ echo 'misuse: executor_core' >> "$copy/crates.txt"
 edits=$top/checks/uncompiled
 
 # Checks a crate of the copy, and keeps its errors as 'FILE LINE ERROR'. The line 'only=' says that
-# the crate compiles: rt would go on to prove the crates below. Where some errors are not reported, the
-# last line may have more of them, and is left out where it is not the only one.
+# the crate compiles: rt would go on to prove the crates below. Where some errors are not reported,
+# the last line may have more of them, and is left out where it is not the only one.
 find_errors() {
     (cd "$copy/crates/$1" && timeout 120 "$rt" check --only= 2>&1) | sed '/^only=/q' > "$copy/log"
-    sed -n 's/^\([^ :]*\):\([0-9]*\):[0-9]*: error\(\[\([a-z-]*\)\]\)\{0,1\}.*/\1 \2 \4/p' "$copy/log" |
+    sed -nE 's/^([^ :]*):([0-9]*):[0-9]*: error(\[([a-z-]*)\])?.*/\1 \2 \4/p' "$copy/log" |
         sort -u -k1,1 -k2,2n -k3 > "$copy/found"
     is_cut=$(grep -c ' and [0-9]* more errors$' "$copy/log") || return 0
-    awk '{ place[NR] = $1 " " $2; line[NR] = $0 }
-        END { for (n = 1; n <= NR; n++) if (place[n] != place[NR] || place[1] == place[NR]) print line[n] }' \
-        "$copy/found" > "$copy/whole"
+    awk '
+        { place[NR] = $1 " " $2; line[NR] = $0 }
+        END {
+            for (n = 1; n <= NR; n++)
+                if (place[n] != place[NR] || place[1] == place[NR]) print line[n]
+        }' "$copy/found" > "$copy/whole"
     mv "$copy/whole" "$copy/found"
 }
 
@@ -47,7 +50,7 @@ try_lines() {
             fail "$name: refused otherwise than marked:" "$copy/lacking"
             return
         elif [ ! -s "$copy/found" ]; then
-            fail "$name: not refused as marked:" "$copy/wanted"
+            fail "$name: not refused as marked:" "$copy/log"
             return
         fi
         awk 'NR == FNR { judged[$2]; next } FNR in judged { $0 = "" } { print }' \
@@ -82,7 +85,8 @@ functions() {
 place_of() {
     file=$(field "$1" file)
     add_edit "$1" "$copy" || return 1
-    functions "$top/crates/$(field "$1" crate)/$file" | sed -n "$(old_lines "$1" "$top")p" | sort -u > "$copy/parts"
+    functions "$top/crates/$(field "$1" crate)/$file" |
+        sed -n "$(old_lines "$1" "$top")p" | sort -u > "$copy/parts"
     echo "$file:$(cut -d' ' -f1 "$copy/parts" | sort -u | paste -sd-)" \
         "$(grep -qv body "$copy/parts" && echo alone || echo beside)"
 }
@@ -104,31 +108,36 @@ plan_edits() {
 # functions. Where an edit's new text is the old text of another, that one waits.
 apply_round() {
     restore_sources "$1"
-    awk 'NR > 1 && $4 == "alone" || $1 in taken { next } { taken[$1]; print } $4 == "alone" { exit }' \
-        "$copy/left" > "$copy/round"
+    awk '
+        NR > 1 && $4 == "alone" || $1 in taken { next }
+        { taken[$1]; print }
+        $4 == "alone" { exit }' "$copy/left" > "$copy/round"
     : > "$copy/tried"
     while read -r place error edit way; do
-        ! add_edit "$edits/$edit" "$copy" 2> "$copy/log" || echo "$place $error $edit $way" >> "$copy/tried"
+        ! add_edit "$edits/$edit" "$copy" 2> "$copy/log" ||
+            echo "$place $error $edit $way" >> "$copy/tried"
     done < "$copy/round"
 }
 
-# Judges the edits that were applied, and takes them from the file left. What is not refused is tried
-# again where the list of errors was cut.
+# Judges the edits that were applied, and takes them from the file left. What is not refused is
+# tried again where the list of errors was cut.
 judge_round() {
     while read -r file line error; do
-        number=$( (functions "$copy/crates/$1/$file" || :) 2>&1 | sed -n "${line}p" | cut -d' ' -f1)
+        number=$(functions "$copy/crates/$1/$file" 2>&1 | sed -n "${line}p" | cut -d' ' -f1)
         echo "$file:$number $error"
     done < "$copy/found" | sort -u > "$copy/refused"
-    awk 'NR == FNR { refused[$0]; next } ($1 " " $2) in refused' "$copy/refused" "$copy/tried" > "$copy/judged"
+    awk 'NR == FNR { refused[$0]; next } ($1 " " $2) in refused' \
+        "$copy/refused" "$copy/tried" > "$copy/judged"
     while read -r _ _ edit _; do
         pass "$edit: refused, as it must be"
     done < "$copy/judged"
     cut -d' ' -f1,2 "$copy/tried" > "$copy/wanted"
-    ! lacks "$copy/refused" "$copy/wanted" || fail "$1: of these errors, some are not what an edit names:" "$copy/found"
+    ! lacks "$copy/refused" "$copy/wanted" ||
+        fail "$1: of these errors, some are not what an edit names:" "$copy/found"
     if [ "$is_cut" = 0 ] || [ ! -s "$copy/judged" ]; then
         lacks "$copy/tried" "$copy/judged" || :
         while read -r _ error edit _; do
-            fail "$edit: not refused as $error"
+            fail "$edit: not refused as $error:" "$copy/log"
         done < "$copy/lacking"
         cp "$copy/tried" "$copy/judged"
     fi
