@@ -1,20 +1,19 @@
 use Rattle.std.proofs.Common.{refl, sym, ◌∙◌}
 use Rattle.executor_core.specs.Cells.Calls.{handle_in}
-use Rattle.executor_core.proofs.WriteLemmas.{test_at, passes_at}
+use Rattle.executor_core.proofs.FindLemmas.{test_at, passes_at, facts_at}
 use Rattle.executor_core.proofs.TableLemmas.{numbers_of-push}
-use Rattle.executor_core.proofs.RemoveLemmas.{facts_at}
-use Rattle.executor_core.proofs.CancelLemmas.{cancel_quiet, cancel_loud, cancel_table, cancel_queues_is, cancel_nothing, cancel_queues_nothing}
+use Rattle.executor_core.proofs.CancelLemmas.{cancel_quiet, cancel_loud, cancel_table, cancel_queues_is, after_cancel-absent, cancel_queues-absent}
 use Rattle.executor_core.proofs.task.table.Cells.cancel.Goals as goal
 
 pub returns-then-not-has_handle-clause-table : goal.returns-then-not-has_handle-clause-table
 returns-then-not-has_handle-clause-table g c =
     let none = sym c.has_handle.ensures ∙ c.if-not-has_handle.true in
-    sym (cancel_nothing _ c.args.id _ none)
+    sym (after_cancel-absent _ c.args.id _ none)
 
 pub returns-then-not-has_handle-clause-notice : goal.returns-then-not-has_handle-clause-notice
 returns-then-not-has_handle-clause-notice g c =
     let none = sym c.has_handle.ensures ∙ c.if-not-has_handle.true in
-    sym (cancel_queues_nothing _ none)
+    sym (cancel_queues-absent _ none)
 
 pub index_mut-requires : goal.index_mut-requires
 index_mut-requires g c = let at = passes_at c.self.invariant c.self.view_is handle_in refl c.args.id c.has_handle.ensures c.if-not-has_handle.false in rw at.there refl
