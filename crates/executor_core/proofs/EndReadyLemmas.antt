@@ -23,7 +23,6 @@ use Rattle.executor_core.proofs.WriteLemmas.{law_at}
 use Rattle.executor_core.proofs.RemoveLemmas.{remove_sound, counted_one}
 
 module _ {P T : Type 0} where
-
   readied_state : (b : Bool) (s : CellState P T) (t : T) → s ≡ cond b Gone (Finished t) → (is_scheduled s ≡ false) × ((is_idle s || is_held s) ≡ false)
   readied_state true s t e = rw e (refl, refl)
   readied_state false s t e = rw e (refl, refl)

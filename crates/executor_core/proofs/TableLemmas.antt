@@ -43,7 +43,6 @@ recount : (u v a b s t w y g : ℕ) → u ≡ a + s → t + g ≡ s + y → g �
 recount u v a b s t w y g p q r h = omega arith
 
 module _ {P T W : Type 0} where
-
   pub within : (slots : List (Option (Numbered (Cell P T W)))) (key : ℕ) (e : Numbered (Cell P T W)) → get_or slots key None ≡ Some e → key < length slots
   within slots key e there = grind (arith, get_or_past)
 

@@ -42,14 +42,14 @@ invariant_of-self-2 g c =
     let facts = facts_at handle_in refl _ _ _ c.index_mut.ensures.value (test_at c.self.invariant c.self.view_is handle_in c.args.id c.has_handle.ensures ∙ c.if-not-has_handle.false) in
     let cell = c.cancel_cell.ensures.cell in
     let loud = sym c.cancel_cell.ensures.queued ∙ c.if-not-cancel_cell.false in
-    rw cell (cancel_loud c.self.invariant c.args.id c.index_mut.result.now c.index_mut.ensures.value facts.0 loud _ (sym c.push_back_reserved.ensures.capacity) c.push_back_reserved.ensures.items)
+    rw cell (cancel_loud c.self.invariant c.args.id c.index_mut.result.now c.index_mut.ensures.value facts.0 loud _ (sym c.push.ensures.room) c.push.ensures.ids)
 
 pub returns-clause-table : goal.returns-clause-table
 returns-clause-table g c =
     let facts = facts_at handle_in refl _ _ _ c.index_mut.ensures.value (test_at c.self.invariant c.self.view_is handle_in c.args.id c.has_handle.ensures ∙ c.if-not-has_handle.false) in
     let cell = c.cancel_cell.ensures.cell in
     let loud = sym c.cancel_cell.ensures.queued ∙ c.if-not-cancel_cell.false in
-    rw (cell, ← c.self.view_is) (cancel_table c.self.invariant c.args.id c.index_mut.result.now _ c.index_mut.ensures.value facts.0 facts.1 (rw (loud, c.push_back_reserved.ensures.items) (numbers_of-push _ _)))
+    rw (cell, ← c.self.view_is) (cancel_table c.self.invariant c.args.id c.index_mut.result.now _ c.index_mut.ensures.value facts.0 facts.1 (rw (loud, c.push.ensures.ids) (numbers_of-push _ _)))
 
 pub returns-clause-notice : goal.returns-clause-notice
 returns-clause-notice g c =

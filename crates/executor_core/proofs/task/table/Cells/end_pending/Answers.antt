@@ -24,8 +24,8 @@ index_mut-requires g c = let at = passes_at c.self.invariant c.self.view_is take
 pub pend_cell-requires : goal.pend_cell-requires
 pend_cell-requires g c = (and_parts _ _ (facts_at takes_back_in refl _ _ _ c.index_mut.ensures.value (test_at c.self.invariant c.self.view_is takes_back_in c.args.held.id c.takes_back.ensures ∙ c.if-not-takes_back.false)).1).0
 
-pub push_back_reserved-requires : goal.push_back_reserved-requires
-push_back_reserved-requires g c =
+pub push-requires : goal.push-requires
+push-requires g c =
     let held : is_held c.index_mut.result.now.cell.state ≡ true = (and_parts _ _ (facts_at takes_back_in refl _ _ _ c.index_mut.ensures.value (test_at c.self.invariant c.self.view_is takes_back_in c.args.held.id c.takes_back.ensures ∙ c.if-not-takes_back.false)).1).0 in
     grind (arith, common_steps)
 
@@ -48,14 +48,14 @@ invariant_of-self-2 g c =
     let facts = facts_at takes_back_in refl _ _ _ c.index_mut.ensures.value (test_at c.self.invariant c.self.view_is takes_back_in c.args.held.id c.takes_back.ensures ∙ c.if-not-takes_back.false) in
     let cell = c.pend_cell.ensures.cell in
     let loud = sym c.pend_cell.ensures.queued ∙ c.if-not-pend_cell.false in
-    rw cell (end_pending_queued c.self.invariant c.args.held.id c.index_mut.result.now c.args.future c.index_mut.ensures.value facts.0 (and_parts _ _ facts.1).0 loud _ (sym c.push_back_reserved.ensures.capacity) c.push_back_reserved.ensures.items)
+    rw cell (end_pending_queued c.self.invariant c.args.held.id c.index_mut.result.now c.args.future c.index_mut.ensures.value facts.0 (and_parts _ _ facts.1).0 loud _ (sym c.push.ensures.room) c.push.ensures.ids)
 
 pub returns-clause-table : goal.returns-clause-table
 returns-clause-table g c =
     let facts = facts_at takes_back_in refl _ _ _ c.index_mut.ensures.value (test_at c.self.invariant c.self.view_is takes_back_in c.args.held.id c.takes_back.ensures ∙ c.if-not-takes_back.false) in
     let cell = c.pend_cell.ensures.cell in
     let loud = sym c.pend_cell.ensures.queued ∙ c.if-not-pend_cell.false in
-    rw (cell, ← c.self.view_is) (end_pending_table c.self.invariant c.args.held.id c.index_mut.result.now c.args.future _ c.index_mut.ensures.value facts.0 facts.1 (rw (loud, c.push_back_reserved.ensures.items) (numbers_of-push _ _)))
+    rw (cell, ← c.self.view_is) (end_pending_table c.self.invariant c.args.held.id c.index_mut.result.now c.args.future _ c.index_mut.ensures.value facts.0 facts.1 (rw (loud, c.push.ensures.ids) (numbers_of-push _ _)))
 
 pub returns-then-not-pend_cell-clause-answer : goal.returns-then-not-pend_cell-clause-answer
 returns-then-not-pend_cell-clause-answer g c =

@@ -36,13 +36,13 @@ pub invariant_of-self-2 : goal.invariant_of-self-2
 invariant_of-self-2 g c =
     let cell = c.wake_cell.ensures.cell in
     let loud = sym c.wake_cell.ensures.queued ∙ c.if-not-wake_cell.false in
-    rw cell (loud_sound c.self.invariant c.args.id c.index_mut.result.now c.index_mut.ensures.value (facts_at is_some refl _ _ _ c.index_mut.ensures.value (test_at c.self.invariant c.self.view_is is_some c.args.id c.has_cell.ensures ∙ c.if-not-has_cell.false)).0 loud _ (sym c.push_back_reserved.ensures.capacity) c.push_back_reserved.ensures.items)
+    rw cell (loud_sound c.self.invariant c.args.id c.index_mut.result.now c.index_mut.ensures.value (facts_at is_some refl _ _ _ c.index_mut.ensures.value (test_at c.self.invariant c.self.view_is is_some c.args.id c.has_cell.ensures ∙ c.if-not-has_cell.false)).0 loud _ (sym c.push.ensures.room) c.push.ensures.ids)
 
 pub returns-clause-table : goal.returns-clause-table
 returns-clause-table g c =
     let cell = c.wake_cell.ensures.cell in
     let loud = sym c.wake_cell.ensures.queued ∙ c.if-not-wake_cell.false in
-    rw (cell, ← c.self.view_is) (wake_table c.self.invariant _ c.args.id c.index_mut.result.now c.index_mut.ensures.value (facts_at is_some refl _ _ _ c.index_mut.ensures.value (test_at c.self.invariant c.self.view_is is_some c.args.id c.has_cell.ensures ∙ c.if-not-has_cell.false)).0 (rw (loud, c.push_back_reserved.ensures.items) (numbers_of-push _ _)))
+    rw (cell, ← c.self.view_is) (wake_table c.self.invariant _ c.args.id c.index_mut.result.now c.index_mut.ensures.value (facts_at is_some refl _ _ _ c.index_mut.ensures.value (test_at c.self.invariant c.self.view_is is_some c.args.id c.has_cell.ensures ∙ c.if-not-has_cell.false)).0 (rw (loud, c.push.ensures.ids) (numbers_of-push _ _)))
 
 pub returns-clause-notice : goal.returns-clause-notice
 returns-clause-notice g c =
