@@ -5,16 +5,18 @@ use Rattle.executor_core.specs.Cell.{is_idle, is_held}
 use Rattle.executor_core.specs.Cells.View.{numbers_of, table_of, IsSound, Settled}
 use Rattle.executor_core.specs.Cells.Calls.{with_cell, without_cell, queued_if, passes, handle_in, held_in, cancel_at, after_cancel, cancel_queues, end_dropped_at, dropped_answer}
 use Rattle.executor_core.specs.Cell.Changes.{cancelled_cell, disposed, wakeup_of}
-use Rattle.executor_core.proofs.TableLemmas.{table_set, cell_at_some}
-use Rattle.executor_core.proofs.WakeLemmas.{quiet_write, loud_write, woken_undropped}
+use Rattle.executor_core.proofs.TableLemmas.{table_set}
+use Rattle.executor_core.proofs.WakeLemmas.{quiet_write, loud_write}
 use Rattle.executor_core.proofs.EndReadyLemmas.{ended_sound}
+use Rattle.executor_core.proofs.FindLemmas.{cell_at_entry}
+use Rattle.executor_core.proofs.StateLemmas.{undropped-state_woken}
 use Rattle.executor_core.specs.declared.task.cell.Cell.{Cell}
 use Rattle.executor_core.specs.declared.task.cell.Numbered.{Numbered}
 use Rattle.executor_core.specs.declared.task.id.TaskId.{TaskId}
 
 module _ {P T W : Type 0} where
   settled_cancelled : (c : Cell P T W) → Settled c → Settled (cancelled_cell c)
-  settled_cancelled c settled dropped = settled (sym (woken_undropped c.state) ∙ dropped)
+  settled_cancelled c settled dropped = settled (sym (undropped-state_woken c.state) ∙ dropped)
 
   -- the id's cell, whose cancel changes no queue
   pub cancel_quiet : {next capacity undropped : ℕ} {slots : List (Option (Numbered (Cell P T W)))} {ids : List TaskId}
@@ -40,24 +42,24 @@ module _ {P T W : Type 0} where
       → table_of next (set slots id.slot (Some (record { number = e.number; cell = cancelled_cell e.cell }))) later ≡ after_cancel (table_of next slots ids) id
   cancel_table {next} {slots = slots} {ids = ids} sound id e later there number handle lists =
       table_set next slots ids later id e (cancelled_cell e.cell) _ sound.distinct there number lists
-      ∙ sym (ap (cancel_at (table_of next slots ids) id) (cell_at_some next slots ids id e sound.distinct there number)
+      ∙ sym (ap (cancel_at (table_of next slots ids) id) (cell_at_entry sound id e there number)
       ∙ ap (λ b. cond b (queued_if (is_idle e.cell.state) (with_cell (table_of next slots ids) id (cancelled_cell e.cell)) id) (table_of next slots ids)) handle)
 
   pub cancel_queues_is : {next capacity undropped : ℕ} {slots : List (Option (Numbered (Cell P T W)))} {ids : List TaskId}
       → IsSound next slots ids capacity undropped → (id : TaskId) (e : Numbered (Cell P T W)) {b : Bool}
       → get_or slots id.slot None ≡ Some e → e.number ≡ id.number → e.cell.has_handle ≡ true → is_idle e.cell.state ≡ b → cancel_queues (table_of next slots ids) id ≡ b
   cancel_queues_is {next} {slots = slots} {ids = ids} sound id e there number handle idle =
-      ap (passes (λ c. c.has_handle && is_idle c.state)) (cell_at_some next slots ids id e sound.distinct there number)
+      ap (passes (λ c. c.has_handle && is_idle c.state)) (cell_at_entry sound id e there number)
       ∙ ap (λ b. b && is_idle e.cell.state) handle ∙ idle
 
   -- the handle is not there
-  pub cancel_nothing : (table : Table P T W) (id : TaskId) (o : Option (Cell P T W)) → handle_in o ≡ false → cancel_at table id o ≡ table
-  cancel_nothing table id None h = refl
-  cancel_nothing table id (Some c) h = ap (λ b. cond b (queued_if (is_idle c.state) (with_cell table id (cancelled_cell c)) id) table) h
+  pub after_cancel-absent : (table : Table P T W) (id : TaskId) (o : Option (Cell P T W)) → handle_in o ≡ false → cancel_at table id o ≡ table
+  after_cancel-absent table id None h = refl
+  after_cancel-absent table id (Some c) h = ap (λ b. cond b (queued_if (is_idle c.state) (with_cell table id (cancelled_cell c)) id) table) h
 
-  pub cancel_queues_nothing : (o : Option (Cell P T W)) → handle_in o ≡ false → passes (λ c. c.has_handle && is_idle c.state) o ≡ false
-  cancel_queues_nothing None h = refl
-  cancel_queues_nothing (Some c) h = ap (λ b. b && is_idle c.state) h
+  pub cancel_queues-absent : (o : Option (Cell P T W)) → handle_in o ≡ false → passes (λ c. c.has_handle && is_idle c.state) o ≡ false
+  cancel_queues-absent None h = refl
+  cancel_queues-absent (Some c) h = ap (λ b. b && is_idle c.state) h
 
   pub disposed_sound : {next capacity undropped : ℕ} {slots : List (Option (Numbered (Cell P T W)))} {ids : List TaskId}
       → IsSound next slots ids capacity undropped
@@ -72,10 +74,10 @@ module _ {P T W : Type 0} where
   awaiter_some c held = ap (λ b. cond b (wakeup_of c.awaiter) None) held
 
   -- nothing is out for the id
-  pub end_dropped_nothing : (table : Table P T W) (id : TaskId) (o : Option (Cell P T W)) → held_in o ≡ false → end_dropped_at table id o ≡ table
-  end_dropped_nothing table id None h = refl
-  end_dropped_nothing table id (Some c) h = ap (λ b. cond b (cond c.has_handle (with_cell table id (disposed c)) (without_cell table id)) table) h
+  pub after_end_dropped-absent : (table : Table P T W) (id : TaskId) (o : Option (Cell P T W)) → held_in o ≡ false → end_dropped_at table id o ≡ table
+  after_end_dropped-absent table id None h = refl
+  after_end_dropped-absent table id (Some c) h = ap (λ b. cond b (cond c.has_handle (with_cell table id (disposed c)) (without_cell table id)) table) h
 
-  pub awaiter_nothing : (o : Option (Cell P T W)) → held_in o ≡ false → dropped_answer o ≡ None
-  awaiter_nothing None h = refl
-  awaiter_nothing (Some c) h = ap (λ b. cond b (wakeup_of c.awaiter) None) h
+  pub dropped_answer-absent : (o : Option (Cell P T W)) → held_in o ≡ false → dropped_answer o ≡ None
+  dropped_answer-absent None h = refl
+  dropped_answer-absent (Some c) h = ap (λ b. cond b (wakeup_of c.awaiter) None) h

@@ -5,29 +5,13 @@ use Rattle.executor_core.specs.Cells.{Table}
 use Rattle.executor_core.specs.Cell.{is_idle, is_undropped}
 use Rattle.executor_core.specs.Cells.View.{IsSound}
 use Rattle.executor_core.specs.Cells.Calls.{cell_at, in_slot, with_cell, without_cell, queued_if, handle_in, cancel_at, after_cancel, detach_at, detach_answer}
-use Rattle.executor_core.specs.Cell.Changes.{cancelled_cell, detached, state_woken, output_of}
+use Rattle.executor_core.specs.Cell.Changes.{cancelled_cell, detached, output_of}
 use Rattle.executor_core.proofs.SlotLemmas.{insert_same}
 use Rattle.executor_core.proofs.WriteLemmas.{kept_sound}
+use Rattle.executor_core.proofs.StateLemmas.{output_of-state_woken}
 use Rattle.executor_core.specs.declared.task.cell.Cell.{Cell}
 use Rattle.executor_core.specs.declared.task.cell.Numbered.{Numbered}
 use Rattle.executor_core.specs.declared.task.id.TaskId.{TaskId}
-use Rattle.executor_core.specs.declared.task.cell.CellState.{CellState}
-use Rattle.executor_core.specs.declared.task.cell.CellState.TheVariants.{Idle, Scheduled, Held, Finished, Gone}
-
-module _ {P T : Type 0} where
-  pub output_of_undropped : (s : CellState P T) → is_undropped s ≡ true → output_of s ≡ None
-  output_of_undropped (Idle p) h = refl
-  output_of_undropped (Scheduled p) h = refl
-  output_of_undropped Held h = refl
-  output_of_undropped (Finished t) h = absurd (cc)
-  output_of_undropped Gone h = refl
-
-  output_of-state_woken : (s : CellState P T) → output_of (state_woken s) ≡ output_of s
-  output_of-state_woken (Idle p) = refl
-  output_of-state_woken (Scheduled p) = refl
-  output_of-state_woken Held = refl
-  output_of-state_woken (Finished t) = refl
-  output_of-state_woken Gone = refl
 
 abbrev pub pair_of : {T W : Type 0} → Option T → Option W → Option T × Option W
 pair_of t w = (t, w)
@@ -47,13 +31,13 @@ module _ {P T W : Type 0} where
   detach_some c handle = rw handle refl
 
   -- the handle is not there
-  pub detach_nothing : (table : Table P T W) (id : TaskId) (o : Option (Cell P T W)) → handle_in o ≡ false → detach_at table id o ≡ table
-  detach_nothing table id None h = refl
-  detach_nothing table id (Some c) h = rw h refl
+  pub after_detach-absent : (table : Table P T W) (id : TaskId) (o : Option (Cell P T W)) → handle_in o ≡ false → detach_at table id o ≡ table
+  after_detach-absent table id None h = refl
+  after_detach-absent table id (Some c) h = rw h refl
 
-  pub detach_absent : (o : Option (Cell P T W)) → handle_in o ≡ false → detach_answer o ≡ (None, None)
-  detach_absent None h = refl
-  detach_absent (Some c) h = rw h refl
+  pub detach_answer-absent : (o : Option (Cell P T W)) → handle_in o ≡ false → detach_answer o ≡ (None, None)
+  detach_answer-absent None h = refl
+  detach_answer-absent (Some c) h = rw h refl
 
   pub cell_at-with_cell : (table : Table P T W) (id : TaskId) (c : Cell P T W) → cell_at (with_cell table id c) id ≡ Some c
   cell_at-with_cell table id c =

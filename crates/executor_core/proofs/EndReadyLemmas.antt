@@ -7,11 +7,12 @@ use Rattle.executor_core.specs.Cells.Calls.{with_cell, without_cell, end_ready_a
 use Rattle.executor_core.specs.Cell.Changes.{readied, awaited, output_of, wakeup_of}
 use Rattle.executor_core.proofs.TableLemmas.{table_set}
 use Rattle.executor_core.proofs.WriteLemmas.{kept_sound}
+use Rattle.executor_core.proofs.StateLemmas.{held_state, ended_state}
 use Rattle.executor_core.specs.declared.task.cell.Cell.{Cell}
 use Rattle.executor_core.specs.declared.task.cell.Numbered.{Numbered}
 use Rattle.executor_core.specs.declared.task.id.TaskId.{TaskId}
 use Rattle.executor_core.specs.declared.task.cell.CellState.{CellState}
-use Rattle.executor_core.specs.declared.task.cell.CellState.TheVariants.{Idle, Scheduled, Held, Finished, Gone}
+use Rattle.executor_core.specs.declared.task.cell.CellState.TheVariants.{Finished, Gone}
 use Rattle.std.proofs.Common.{◌-◌, add-zero}
 use Rattle.executor_core.specs.declared.task.table.EndReady.{EndReady}
 use Rattle.executor_core.specs.declared.task.values.Wakeup.{Wakeup}
@@ -22,20 +23,6 @@ use Rattle.executor_core.proofs.WriteLemmas.{law_at}
 use Rattle.executor_core.proofs.RemoveLemmas.{remove_sound, counted_one}
 
 module _ {P T : Type 0} where
-  pub held_state : (s : CellState P T) → is_held s ≡ true → (is_scheduled s ≡ false) × ((is_idle s || is_held s) ≡ true)
-  held_state (Idle p) h = absurd (cc)
-  held_state (Scheduled p) h = absurd (cc)
-  held_state Held h = (refl, refl)
-  held_state (Finished t) h = absurd (cc)
-  held_state Gone h = absurd (cc)
-
-  pub ended_state : (s : CellState P T) → is_undropped s ≡ false → (is_scheduled s ≡ false) × ((is_idle s || is_held s) ≡ false)
-  ended_state (Idle p) h = absurd (cc)
-  ended_state (Scheduled p) h = absurd (cc)
-  ended_state Held h = absurd (cc)
-  ended_state (Finished t) h = (refl, refl)
-  ended_state Gone h = (refl, refl)
-
   readied_state : (b : Bool) (s : CellState P T) (t : T) → s ≡ cond b Gone (Finished t) → (is_scheduled s ≡ false) × ((is_idle s || is_held s) ≡ false)
   readied_state true s t e = rw e (refl, refl)
   readied_state false s t e = rw e (refl, refl)
@@ -76,13 +63,13 @@ module _ {P T W : Type 0} where
       let facts = held_state e.cell.state held in
       remove_sound sound key e there facts.0 new changes (undropped - 1) (ap (λ b. (undropped - 1) + cond b 1 0) facts.1 ∙ counted_one sound key e there facts.1)
 
-  pub ready_nothing : (table : Table P T W) (id : TaskId) (t : T) (o : Option (Cell P T W)) → held_in o ≡ false → end_ready_at table id t o ≡ table
-  ready_nothing table id t None h = refl
-  ready_nothing table id t (Some c) h = ap (λ b. cond b (cond c.has_handle (with_cell table id (readied c t)) (without_cell table id)) table) h
+  pub after_end_ready-absent : (table : Table P T W) (id : TaskId) (t : T) (o : Option (Cell P T W)) → held_in o ≡ false → end_ready_at table id t o ≡ table
+  after_end_ready-absent table id t None h = refl
+  after_end_ready-absent table id t (Some c) h = ap (λ b. cond b (cond c.has_handle (with_cell table id (readied c t)) (without_cell table id)) table) h
 
-  pub ready_unwanted : (t : T) (o : Option (Cell P T W)) → held_in o ≡ false → ready_answer t o ≡ record { awaiter = None; unwanted = Some t }
-  ready_unwanted t None h = refl
-  ready_unwanted t (Some c) h = rw h refl
+  pub ready_answer-absent : (t : T) (o : Option (Cell P T W)) → held_in o ≡ false → ready_answer t o ≡ record { awaiter = None; unwanted = Some t }
+  ready_answer-absent t None h = refl
+  ready_answer-absent t (Some c) h = rw h refl
 
   pub readied_some : (table : Table P T W) (id : TaskId) (t : T) (c : Cell P T W) {b : Bool} → is_held c.state ≡ true → c.has_handle ≡ b → end_ready_at table id t (Some c) ≡ cond b (with_cell table id (readied c t)) (without_cell table id)
   readied_some table id t c held handle = rw (held, handle) refl
@@ -106,13 +93,13 @@ module _ {P T W : Type 0} where
       let facts = ended_state e.cell.state dropped in
       remove_sound sound key e there facts.0 new changes undropped (ap (λ b. undropped + cond b 1 0) facts.1 ∙ add-zero undropped)
 
-  pub poll_nothing : (table : Table P T W) (id : TaskId) (w : W) (o : Option (Cell P T W)) → handle_in o ≡ false → poll_handle_at table id w o ≡ table
-  poll_nothing table id w None h = refl
-  poll_nothing table id w (Some c) h = rw h refl
+  pub after_poll_handle-absent : (table : Table P T W) (id : TaskId) (w : W) (o : Option (Cell P T W)) → handle_in o ≡ false → poll_handle_at table id w o ≡ table
+  after_poll_handle-absent table id w None h = refl
+  after_poll_handle-absent table id w (Some c) h = rw h refl
 
-  pub poll_absent : (w : W) (o : Option (Cell P T W)) → handle_in o ≡ false → poll_answer w o ≡ Cancelled w
-  poll_absent w None h = refl
-  poll_absent w (Some c) h = rw h refl
+  pub poll_answer-absent : (w : W) (o : Option (Cell P T W)) → handle_in o ≡ false → poll_answer w o ≡ Cancelled w
+  poll_answer-absent w None h = refl
+  poll_answer-absent w (Some c) h = rw h refl
 
   pub polled_some : (table : Table P T W) (id : TaskId) (w : W) (c : Cell P T W) {b : Bool} → c.has_handle ≡ true → is_undropped c.state ≡ b → poll_handle_at table id w (Some c) ≡ cond b (with_cell table id (awaited c w)) (without_cell table id)
   polled_some table id w c handle undropped = rw (handle, undropped) refl

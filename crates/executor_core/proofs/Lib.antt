@@ -5,6 +5,7 @@ pub mod DetachLemmas
 pub mod DropLemmas
 pub mod EndPendingLemmas
 pub mod EndReadyLemmas
+pub mod FindLemmas
 pub mod HandleLemmas
 pub mod ListLemmas
 pub mod LogLemmas
@@ -19,6 +20,7 @@ pub mod SleeperNumberLemmas
 pub mod SleeperPairLemmas
 pub mod SlotLemmas
 pub mod SpawnLemmas
+pub mod StateLemmas
 pub mod StatusLemmas
 pub mod StepLemmas
 pub mod TableLemmas

@@ -1,12 +1,12 @@
 -- What the removal of a cell keeps and gives.
 use Rattle.std.proofs.Common.{◌≡◌, ◌≢◌, ℕ, ◌+◌, ◌≤◌, ◌==◌, ◌||◌, Bool, true, false, List, [], ◌∷◌, length, get_or, Option, Some, None, cond, refl, sym, ap, subst, ◌∙◌, inl, inr, arith}
-use Rattle.std.proofs.lemmas.Bool.{cases_Bool, eqb-true, eq-eqb}
+use Rattle.std.proofs.lemmas.Bool.{eq-eqb}
 use Rattle.std.specs.FinMap as map
 use Rattle.executor_core.specs.Cells.{Slotted}
 use Rattle.executor_core.specs.Cell.{is_idle, is_held, is_scheduled}
 use Rattle.executor_core.specs.Numbers.{times}
 use Rattle.executor_core.specs.Cells.Law.{scheduled_in, ScheduledOnce}
-use Rattle.executor_core.specs.Cells.View.{seen, cells_of, Distinct, numbers_of, table_of, Placed, IsSound, is_queueable, cell_in}
+use Rattle.executor_core.specs.Cells.View.{seen, cells_of, Distinct, numbers_of, table_of, Placed, IsSound, is_queueable}
 use Rattle.executor_core.specs.Cells.Calls.{without_cell}
 use Rattle.executor_core.proofs.TableLemmas.{same_table}
 use Rattle.executor_core.proofs.SlotLemmas.{sees_get, get_sees}
@@ -32,16 +32,6 @@ less : (l u a s t w y : ℕ) → l + w ≡ u → u ≡ a + s → t + w ≡ s + 0
 less l u a s t w y p q r = omega arith
 
 module _ {P T W : Type 0} where
-  -- what a test finds in the cell that a slot has for a number
-  pub facts_at : (F : Option (Cell P T W) → Bool) → F None ≡ false → (n : ℕ) (o : Option (Numbered (Cell P T W))) (e : Numbered (Cell P T W)) → o ≡ Some e
-      → F (cell_in n o) ≡ true → (e.number ≡ n) × (F (Some e.cell) ≡ true)
-  facts_at F none n o e is h =
-      let at : F (cond (e.number == n) (Some e.cell) None) ≡ true = ap (λ x. F (cell_in n x)) (sym is) ∙ h in
-      elim (cases_Bool (e.number == n)) [
-        | inl same ↦ (eqb-true e.number n same, sym (ap (λ b. F (cond b (Some e.cell) None)) same) ∙ at)
-        | inr far ↦ absurd (cc (ap (λ b. F (cond b (Some e.cell) None)) far, none, at))
-      ]
-
   removed_distinct : (old new : List (Option (Numbered (Cell P T W)))) (key : ℕ) → Distinct old → Changes old new key None → Distinct new
   removed_distinct old new key distinct changes i j c d at_i at_j same =
       distinct i j c d (kept i c at_i) (kept j d at_j) same

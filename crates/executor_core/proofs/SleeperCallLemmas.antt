@@ -37,9 +37,9 @@ module _ {X : Type 0} where
       ap (λ n. take n (xs ++ x ∷ [])) at ∙ take-append_seam xs (x ∷ [])
 
   -- a list is empty, or has a last item
-  pub ends : (xs : List X) → (xs ≡ []) ⊎ ((ys : List X) × (y : X) × (xs ≡ ys ++ y ∷ []))
-  ends [] = inl refl
-  ends (x ∷ xs) = elim (ends xs) [ inl none ↦ inr ([], x, ap (λ l. x ∷ l) none) | inr some ↦ inr (x ∷ some.0, some.1, ap (λ l. x ∷ l) some.2) ]
+  pub empty_or_push : (xs : List X) → (xs ≡ []) ⊎ ((ys : List X) × (y : X) × (xs ≡ ys ++ y ∷ []))
+  empty_or_push [] = inl refl
+  empty_or_push (x ∷ xs) = elim (empty_or_push xs) [ inl none ↦ inr ([], x, ap (λ l. x ∷ l) none) | inr some ↦ inr (x ∷ some.0, some.1, ap (λ l. x ∷ l) some.2) ]
 
 -- by what is there
 by_option : {A : Type 0} (P : Type 0) (o : Option A) → (o ≡ None → P) → ((a : A) → o ≡ Some a → P) → P
@@ -110,7 +110,7 @@ module _ (xs : List ℕ) (k : ℕ) where
           omega arith
 
   taken : (free : List ℕ) → Takes free
-  taken free = elim (ends free) [ inl none ↦ subst Takes (sym none) takes_next | inr some ↦ subst Takes (sym some.2) (takes_last some.0 some.1) ]
+  taken free = elim (empty_or_push free) [ inl none ↦ subst Takes (sym none) takes_next | inr some ↦ subst Takes (sym some.2) (takes_last some.0 some.1) ]
 
 -- another number than the notified one
 times-other : (notified : Option ℕ) (id : ℕ) → notified ≢ Some id → times id (option_to_list notified) ≡ 0

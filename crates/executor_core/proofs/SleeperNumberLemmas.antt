@@ -57,9 +57,6 @@ len-from_list (k ∷ ks) once =
     omega arith
 
 -- two lists of the same numbers
-pub same-from_list : (xs ys : List ℕ) → ((n : ℕ) → times n xs ≡ times n ys) → set.from_list {R = nat_cmp} xs ≡ set.from_list ys
-same-from_list xs ys same = same_set nat_cmp_total nat_cmp-IsAntisymmetric _ _ (λ q. contains-times xs q ∙ ap (nat_lt 0) (same q) ∙ sym (contains-times ys q))
-
 pub push-from_list : (xs : List ℕ) (k : ℕ) → set.from_list {R = nat_cmp} (xs ++ k ∷ []) ≡ set.insert (set.from_list xs) k
 push-from_list xs k = from_list_push nat_cmp_total nat_cmp-IsAntisymmetric xs k
 

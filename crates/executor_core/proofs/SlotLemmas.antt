@@ -20,9 +20,6 @@ module _ {X : Type 0} where
   some_of None e = absurd (cc)
   some_of (Some x) e = (x, refl)
 
-  pub is_some_some : (a : Option X) (x : X) → a ≡ Some x → is_some a ≡ true
-  is_some_some a x e = ap is_some e
-
 pub tied : (q n : ℕ) → q ≡ n → eq_by_cmp nat_cmp q n ≡ true
 tied q n e = unsigned_tied q n ∙ eq-eqb q n e
 

@@ -12,11 +12,10 @@ use Rattle.executor_core.specs.Cells.Calls.{after_spawn, IsFree, empty_table, Al
 use Rattle.executor_core.proofs.TableLemmas.{same_table}
 use Rattle.executor_core.proofs.SlotLemmas.{sees_get, get_sees}
 use Rattle.executor_core.proofs.WriteLemmas.{front_cell}
+use Rattle.executor_core.proofs.StateLemmas.{ended_state, undropped_by}
 use Rattle.executor_core.specs.declared.task.cell.Cell.{Cell}
 use Rattle.executor_core.specs.declared.task.cell.Numbered.{Numbered}
 use Rattle.executor_core.specs.declared.task.id.TaskId.{TaskId}
-use Rattle.executor_core.specs.declared.task.cell.CellState.{CellState}
-use Rattle.executor_core.specs.declared.task.cell.CellState.TheVariants.{Idle, Scheduled, Held, Finished, Gone}
 use Rattle.std.proofs.lemmas.List.Elements.{All-push, All-weaker, All-nil}
 use Rattle.std.proofs.Common.{count_by}
 use Rattle.std.proofs.lemmas.List.Sums.{count_by-le-length}
@@ -24,7 +23,7 @@ use Rattle.std.proofs.lemmas.Bool.{cases_eq}
 use Rattle.std.specs.List.{All}
 use Rattle.executor_core.proofs.SlotLemmas.{insert_same, insert_other, Fits, Changes, put_distinct, cells_of-put, get-cells_of}
 use Rattle.executor_core.proofs.TableLemmas.{law_put, times-push_same, times-push_other, numbers_of-push}
-use Rattle.executor_core.proofs.CountLemmas.{recounted, at_least, all_zero}
+use Rattle.executor_core.proofs.CountLemmas.{sum_by_zero, recounted, at_least}
 use Rattle.executor_core.proofs.WriteLemmas.{law_at}
 
 length-numbers_of : (ids : List TaskId) → length (numbers_of ids) ≡ length ids
@@ -38,29 +37,11 @@ none_of (Some x) h = absurd (h x refl)
 counts : (u a b s t : ℕ) → u ≡ a + s → b ≡ a + 1 → t + 0 ≡ s + 0 → u + 1 ≡ b + t
 counts u a b s t p q r = omega arith
 
-module _ {P T : Type 0} where
-  dropped_by : (s : CellState P T) → (is_idle s || is_held s) ≡ false → is_scheduled s ≡ false → is_undropped s ≡ false
-  dropped_by (Idle p) h k = absurd (cc)
-  dropped_by (Scheduled p) h k = absurd (cc)
-  dropped_by Held h k = absurd (cc)
-  dropped_by (Finished t) h k = refl
-  dropped_by Gone h k = refl
-
-  by_dropped : (s : CellState P T) → is_undropped s ≡ false → ((is_idle s || is_held s) ≡ false) × (is_scheduled s ≡ false)
-  by_dropped (Idle p) h = absurd (cc)
-  by_dropped (Scheduled p) h = absurd (cc)
-  by_dropped Held h = absurd (cc)
-  by_dropped (Finished t) h = (refl, refl)
-  by_dropped Gone h = (refl, refl)
-
 no_one : (b : Bool) → cond b 1 0 ≤ 0 → b ≡ false
 no_one true h = absurd (omega arith)
 no_one false h = refl
 
 module _ {P T W : Type 0} where
-  weight : Option (Numbered (Cell P T W)) → ℕ
-  weight o = cond (is_queueable o) 1 0
-
   -- the same cells, with more room
   pub roomier : {next capacity undropped : ℕ} {slots : List (Option (Numbered (Cell P T W)))} {ids : List TaskId}
       → IsSound next slots ids capacity undropped → (room : ℕ) → capacity ≤ room → IsSound next slots ids room undropped
@@ -69,9 +50,9 @@ module _ {P T W : Type 0} where
       record { below = sound.below; distinct = sound.distinct; placed = sound.placed; law = sound.law; settled = sound.settled; counted = sound.counted; room = omega arith }
 
   -- the next number has no cell
-  fresh : {next capacity undropped : ℕ} {slots : List (Option (Numbered (Cell P T W)))} {ids : List TaskId}
+  next_absent : {next capacity undropped : ℕ} {slots : List (Option (Numbered (Cell P T W)))} {ids : List TaskId}
       → IsSound next slots ids capacity undropped → map.get (cells_of slots) next ≡ None
-  fresh {next} {slots = slots} sound =
+  next_absent {next} {slots = slots} sound =
       none_of _ (λ t found.
       let sees = get_sees slots next t found in
       let below = sound.below sees.at sees.cell sees.there in
@@ -115,7 +96,7 @@ module _ {P T W : Type 0} where
       let fits = new_fits sound key vacant in
       let cells : cells_of new ≡ map.insert m next (seen key (new_cell p)) = cells_of-put slots new key f sound.distinct fits changes in
       let lists : numbers_of later ≡ numbers_of ids ++ next ∷ [] = ap numbers_of longer ∙ numbers_of-push ids id in
-      let none = fresh sound in
+      let none = next_absent sound in
       let was : times next (numbers_of ids) ≡ 0 = sound.law next ∙ ap (λ o. cond (scheduled_in o) 1 0) none in
       let more : times next (numbers_of ids ++ next ∷ []) ≡ times next (numbers_of ids) + 1 = times-push_same next (numbers_of ids) in
       let once : times next (numbers_of ids ++ next ∷ []) ≡ 1 = omega (arith, was, more) in
@@ -194,29 +175,29 @@ module _ {P T W : Type 0} where
       let short : times sees.cell.number (numbers_of ids) ≤ length (numbers_of ids) = count_by-le-length (λ k. k == sees.cell.number) (numbers_of ids) in
       let same : length (numbers_of ids) ≡ length ids = length-numbers_of ids in
       let queued : cond (is_scheduled sees.cell.cell.state) 1 0 ≤ 0 = omega arith in
-      ap (λ x. is_undropped x.cell.state) sees.is ∙ dropped_by sees.cell.cell.state may (no_one _ queued)
+      ap (λ x. is_undropped x.cell.state) sees.is ∙ undropped_by sees.cell.cell.state may (no_one _ queued)
 
   pub none_undropped : {next capacity undropped : ℕ} {slots : List (Option (Numbered (Cell P T W)))} {ids : List TaskId}
       → IsSound next slots ids capacity undropped → AllDropped (table_of next slots ids) → undropped ≡ 0
   none_undropped {slots = slots} {ids = ids} sound dropped =
       let empty : length ids ≡ 0 = no_ids ids refl in
-      let none : count_by is_queueable slots ≡ 0 = all_zero (λ o. cond (is_queueable o) 1 0) refl slots (λ k. by_slot k (get_or slots k None) refl) in
+      let none : count_by is_queueable slots ≡ 0 = sum_by_zero (λ o. cond (is_queueable o) 1 0) None slots (λ k. by_slot k (get_or slots k None) refl) in
       let counted = sound.counted in
       omega arith
     where
-      state_of : (k : ℕ) (e : Numbered (Cell P T W)) → get_or slots k None ≡ Some e → ((is_idle e.cell.state || is_held e.cell.state) ≡ false) × (is_scheduled e.cell.state ≡ false)
-      state_of k e there = by_dropped e.cell.state (dropped e.number (seen k e.cell) (sees_get slots sound.distinct k e there))
+      state_of : (k : ℕ) (e : Numbered (Cell P T W)) → get_or slots k None ≡ Some e → (is_scheduled e.cell.state ≡ false) × ((is_idle e.cell.state || is_held e.cell.state) ≡ false)
+      state_of k e there = ended_state e.cell.state (dropped e.number (seen k e.cell) (sees_get slots sound.distinct k e there))
 
       by_slot : (k : ℕ) (o : Option (Numbered (Cell P T W))) → get_or slots k None ≡ o → cond {A = ℕ} (is_queueable o) 1 0 ≡ 0
       by_slot k None is = refl
-      by_slot k (Some e) is = let facts = state_of k e is in ap (λ b. cond {A = ℕ} b 1 0) facts.0
+      by_slot k (Some e) is = let facts = state_of k e is in ap (λ b. cond {A = ℕ} b 1 0) facts.1
 
       no_ids : (l : List TaskId) → ids ≡ l → length l ≡ 0
       no_ids [] is = refl
       no_ids (id ∷ rest) is =
           let at = front_cell sound id is in
           let facts = state_of id.slot at.0 at.1 in
-          let both : true ≡ false = sym at.3 ∙ facts.1 in
+          let both : true ≡ false = sym at.3 ∙ facts.0 in
           absurd (cc)
 
   -- the slots are the same list by another name

@@ -1,6 +1,6 @@
 -- What keeps `IsSound`, and what is then seen.
-use Rattle.std.proofs.Common.{◌≡◌, ◌≢◌, ℕ, ◌+◌, ◌<◌, ◌≤◌, ◌==◌, ◌||◌, true, false, List, [], ◌∷◌, ◌++◌, length, set, get_or, Option, Some, None, cond, refl, sym, ap, subst, ◌∙◌, inl, inr, arith}
-use Rattle.std.proofs.lemmas.Bool.{cases_eq, eqb-true, eq-eqb, ne_eqb}
+use Rattle.std.proofs.Common.{◌≡◌, ◌≢◌, ℕ, ◌+◌, ◌<◌, ◌≤◌, ◌==◌, ◌||◌, false, List, [], ◌∷◌, ◌++◌, length, set, get_or, Option, Some, None, cond, refl, sym, ap, subst, ◌∙◌, inl, inr, arith}
+use Rattle.std.proofs.lemmas.Bool.{cases_eq, eq-eqb, ne_eqb}
 use Rattle.std.proofs.lemmas.List.{get_or-set_same, get_or-set_other, get_or_past}
 use Rattle.std.proofs.lemmas.List.Sums.{sum_by-set, sum_by-append}
 use Rattle.std.proofs.lemmas.List.Elements.{All-weaker}
@@ -8,12 +8,12 @@ use Rattle.std.specs.List.{All}
 use Rattle.std.specs.Ordering.{nat_cmp}
 use Rattle.std.specs.FinMap as map
 use Rattle.executor_core.specs.Cells.{Slotted, Table}
-use Rattle.executor_core.specs.Cells.View.{is_numbered, seen, cells_of, Distinct, is_queueable, numbers_of, table_of, Placed, IsSound, Settled}
+use Rattle.executor_core.specs.Cells.View.{seen, cells_of, Distinct, is_queueable, numbers_of, table_of, Placed, IsSound, Settled}
 use Rattle.executor_core.specs.Cell.{is_idle, is_held, is_scheduled}
 use Rattle.executor_core.specs.Cells.Law.{scheduled_in, ScheduledOnce}
 use Rattle.executor_core.specs.Numbers.{times}
-use Rattle.executor_core.specs.Cells.Calls.{cell_at, with_cell, in_slot}
-use Rattle.executor_core.proofs.SlotLemmas.{insert_same, insert_other, get_sees, sees_get, Changes, fits_itself, put_distinct, cells_of-put}
+use Rattle.executor_core.specs.Cells.Calls.{with_cell}
+use Rattle.executor_core.proofs.SlotLemmas.{insert_same, insert_other, sees_get, Changes, fits_itself, put_distinct, cells_of-put}
 use Rattle.executor_core.specs.declared.task.cell.Cell.{Cell}
 use Rattle.executor_core.specs.declared.task.cell.Numbered.{Numbered}
 use Rattle.executor_core.specs.declared.task.id.TaskId.{TaskId}
@@ -42,37 +42,7 @@ module _ {P T W : Type 0} where
 recount : (u v a b s t w y g : ℕ) → u ≡ a + s → t + g ≡ s + y → g ≡ w → v + (a + w) ≡ u + (b + y) → v ≡ b + t
 recount u v a b s t w y g p q r h = omega arith
 
-pub numbered_some : {C : Type 0} (n : ℕ) (o : Option (Numbered C)) → is_numbered n o ≡ true → (e : Numbered C) × (o ≡ Some e) × (e.number ≡ n)
-numbered_some n None h = absurd (cc)
-numbered_some n (Some e) h = (e, refl, eqb-true e.number n h)
-
-pub numbered_is : {C : Type 0} (n : ℕ) (o : Option (Numbered C)) (e : Numbered C) → o ≡ Some e → e.number ≡ n → is_numbered n o ≡ true
-numbered_is n o e is same = ap (is_numbered n) is ∙ eq-eqb e.number n same
-
-pub number_at : {C : Type 0} (n : ℕ) (o : Option (Numbered C)) (e : Numbered C) → o ≡ Some e → is_numbered n o ≡ true → e.number ≡ n
-number_at n o e is h = eqb-true e.number n (sym (ap (is_numbered n) is) ∙ h)
-
 module _ {P T W : Type 0} where
-  in_slot_none : (slot : ℕ) (o : Option (Slotted P T W)) → ((s : Slotted P T W) → o ≡ Some s → s.slot ≢ slot) → in_slot slot o ≡ None
-  in_slot_none slot None h = refl
-  in_slot_none slot (Some s) h = ap (λ b. cond b (Some s.cell) None) (ne_eqb s.slot slot (h s refl))
-
-  pub cell_at_some : (next : ℕ) (slots : List (Option (Numbered (Cell P T W)))) (ids : List TaskId) (id : TaskId) (e : Numbered (Cell P T W))
-      → Distinct slots → get_or slots id.slot None ≡ Some e → e.number ≡ id.number → cell_at (table_of next slots ids) id ≡ Some e.cell
-  cell_at_some next slots ids id e distinct there number =
-      ap (in_slot id.slot) (ap (map.get (cells_of slots)) (sym number) ∙ sees_get slots distinct id.slot e there)
-      ∙ ap (λ b. cond b (Some e.cell) None) (eq-eqb id.slot id.slot refl)
-
-  pub cell_at_none : (next : ℕ) (slots : List (Option (Numbered (Cell P T W)))) (ids : List TaskId) (id : TaskId)
-      → is_numbered id.number (get_or slots id.slot None) ≡ false → cell_at (table_of next slots ids) id ≡ None
-  cell_at_none next slots ids id h =
-      in_slot_none id.slot _ (λ s found slot.
-      let sees = get_sees slots id.number s found in
-      let zero_at : 0 + sees.at ≡ sees.at = omega arith in
-      let place : sees.at ≡ id.slot = sym (ap (λ x. x.slot) sees.is ∙ zero_at) ∙ slot in
-      let yes = numbered_is id.number (get_or slots id.slot None) sees.cell (ap (λ k. get_or slots k None) (sym place) ∙ sees.there) sees.number in
-      absurd (cc (yes, h)))
-
   pub within : (slots : List (Option (Numbered (Cell P T W)))) (key : ℕ) (e : Numbered (Cell P T W)) → get_or slots key None ≡ Some e → key < length slots
   within slots key e there = grind (arith, get_or_past)
 
@@ -153,6 +123,3 @@ module _ {P T W : Type 0} where
 pub numbers_of-push : (ids : List TaskId) (id : TaskId) → numbers_of (ids ++ id ∷ []) ≡ numbers_of ids ++ id.number ∷ []
 numbers_of-push [] id = refl
 numbers_of-push (x ∷ xs) id = ap (λ l. x.number ∷ l) (numbers_of-push xs id)
-
-numbers_of-cons_once : (id : TaskId) (ids : List TaskId) → numbers_of (id ∷ ids) ≡ id.number ∷ numbers_of ids
-numbers_of-cons_once id ids = refl

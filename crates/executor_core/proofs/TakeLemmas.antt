@@ -1,7 +1,7 @@
 -- What a take keeps and gives.
-use Rattle.std.proofs.Common.{◌≡◌, ℕ, ◌||◌, true, false, List, ◌∷◌, set, get_or, Option, Some, None, refl, sym, ap, ◌∙◌}
+use Rattle.std.proofs.Common.{◌≡◌, ℕ, true, List, ◌∷◌, set, get_or, Option, Some, None, refl, sym, ap, ◌∙◌}
 use Rattle.std.specs.FinMap as map
-use Rattle.executor_core.specs.Cell.{is_idle, is_held, is_scheduled}
+use Rattle.executor_core.specs.Cell.{is_scheduled}
 use Rattle.executor_core.specs.Cells.{Slotted}
 use Rattle.executor_core.specs.Cells.View.{seen, cells_of, numbers_of, table_of, IsSound}
 use Rattle.executor_core.specs.Cell.Changes.{taken}
@@ -9,20 +9,12 @@ use Rattle.executor_core.specs.Cells.Calls.{after_take, take_first, with_taken_a
 use Rattle.executor_core.proofs.TableLemmas.{table_set}
 use Rattle.executor_core.proofs.SlotLemmas.{sees_get}
 use Rattle.executor_core.proofs.WriteLemmas.{unqueued_sound, front_cell}
+use Rattle.executor_core.proofs.StateLemmas.{scheduled_state}
 use Rattle.executor_core.specs.declared.task.cell.Cell.{Cell}
 use Rattle.executor_core.specs.declared.task.cell.Numbered.{Numbered}
 use Rattle.executor_core.specs.declared.task.id.TaskId.{TaskId}
 use Rattle.executor_core.specs.declared.task.values.Taken.{Taken}
-use Rattle.executor_core.specs.declared.task.cell.CellState.{CellState}
-use Rattle.executor_core.specs.declared.task.cell.CellState.TheVariants.{Idle, Scheduled, Held, Finished, Gone}
-
-module _ {P T : Type 0} where
-  pub scheduled_facts : (s : CellState P T) → is_scheduled s ≡ true → (is_idle s || is_held s) ≡ false
-  scheduled_facts (Idle p) h = absurd (cc)
-  scheduled_facts (Scheduled p) h = refl
-  scheduled_facts Held h = absurd (cc)
-  scheduled_facts (Finished t) h = absurd (cc)
-  scheduled_facts Gone h = absurd (cc)
+use Rattle.executor_core.specs.declared.task.cell.CellState.TheVariants.{Scheduled}
 
 module _ {P T W : Type 0} where
   pub take_sound : {next capacity undropped : ℕ} {slots : List (Option (Numbered (Cell P T W)))} {ids later : List TaskId}
@@ -35,7 +27,7 @@ module _ {P T W : Type 0} where
       let same : at.0 ≡ e = cc in
       let number : e.number ≡ id.number = ap (λ x. x.number) (sym same) ∙ at.2 in
       let scheduled : is_scheduled e.cell.state ≡ true = ap (λ x. is_scheduled x.cell.state) (sym same) ∙ at.3 in
-      unqueued_sound sound id e (taken e.cell) there number scheduled refl (scheduled_facts e.cell.state scheduled) refl (λ dropped. absurd (cc (dropped))) room same_room front
+      unqueued_sound sound id e (taken e.cell) there number scheduled refl (scheduled_state e.cell.state scheduled) refl (λ dropped. absurd (cc (dropped))) room same_room front
 
   pub take_table : {next capacity undropped : ℕ} {slots : List (Option (Numbered (Cell P T W)))} {ids later : List TaskId}
       → IsSound next slots ids capacity undropped

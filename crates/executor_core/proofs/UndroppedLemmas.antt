@@ -16,6 +16,7 @@ use Rattle.executor_core.specs.Cell.{is_idle, is_held, is_scheduled, is_undroppe
 use Rattle.executor_core.specs.Cells.Law.{scheduled_in}
 use Rattle.executor_core.specs.Numbers.{times}
 use Rattle.executor_core.specs.Cells.View.{seen, by_number, cells_of, Distinct, is_queueable, numbers_of, Placed, IsSound}
+use Rattle.executor_core.proofs.CountLemmas.{sum_by_zero}
 use Rattle.executor_core.proofs.SlotLemmas.{find_sees, get_sees, sees_get}
 use Rattle.executor_core.specs.declared.task.cell.Cell.{Cell}
 use Rattle.executor_core.specs.declared.task.cell.Numbered.{Numbered}
@@ -65,14 +66,6 @@ module _ {X : Type 0} (f : X → ℕ) where
 
 -- sums over the slots
 module _ {X : Type 0} where
-  sum_by_zero : (f : X → ℕ) (d : X) (xs : List X) → ((i : ℕ) → f (get_or xs i d) ≡ 0) → sum_by f xs ≡ 0
-  sum_by_zero f d [] each = refl
-  sum_by_zero f d (x ∷ xs) each =
-      let inner = sum_by_zero f d xs (λ i. each (suc i)) in
-      let here = each 0 in
-      let one = sum_by-cons f x xs in
-      omega arith
-
   sum_by_same : (f g : X → ℕ) (d : X) (xs : List X) → ((i : ℕ) → f (get_or xs i d) ≡ g (get_or xs i d)) → sum_by f xs ≡ sum_by g xs
   sum_by_same f g d [] each = refl
   sum_by_same f g d (x ∷ xs) each =
@@ -126,10 +119,10 @@ module _ {P T W : Type 0} where
   distinct_tail : (s : Option (Numbered (Cell P T W))) (rest : List (Option (Numbered (Cell P T W)))) → Distinct (s ∷ rest) → Distinct rest
   distinct_tail s rest distinct i j c d at_i at_j same = let both = distinct (suc i) (suc j) c d at_i at_j same in omega arith
 
-  fresh : (first : ℕ) (slots : List (Option (Numbered (Cell P T W)))) → Distinct slots → AllFresh (by_number first slots)
-  fresh first [] distinct = tt
-  fresh first (None ∷ rest) distinct = fresh (first + 1) rest (distinct_tail None rest distinct)
-  fresh first (Some e ∷ rest) distinct = (none (find nat_cmp e.number (by_number (first + 1) rest)) refl, fresh (first + 1) rest (distinct_tail (Some e) rest distinct))
+  all_fresh : (first : ℕ) (slots : List (Option (Numbered (Cell P T W)))) → Distinct slots → AllFresh (by_number first slots)
+  all_fresh first [] distinct = tt
+  all_fresh first (None ∷ rest) distinct = all_fresh (first + 1) rest (distinct_tail None rest distinct)
+  all_fresh first (Some e ∷ rest) distinct = (none (find nat_cmp e.number (by_number (first + 1) rest)) refl, all_fresh (first + 1) rest (distinct_tail (Some e) rest distinct))
     where
       none : (o : Option (Slotted P T W)) → find nat_cmp e.number (by_number (first + 1) rest) ≡ o → o ≡ None
       none None is = refl
@@ -195,7 +188,7 @@ module _ {P T W : Type 0} where
       let parts = sum_by_plus (λ s. cond (undropped_slot s) 1 0) (λ s. cond (scheduled_slot s) 1 0) (λ s. cond (is_queueable s) 1 0) slots undropped_parts in
       let counted = sound.counted in
       let slots_count : undropped ≡ count_by undropped_slot slots = omega arith in
-      slots_count ∙ sym (values_sum-from_entries (λ s. cond (is_undropped s.cell.state) 1 0) (by_number 0 slots) (fresh 0 slots sound.distinct) ∙ count-by_number 0 slots)
+      slots_count ∙ sym (values_sum-from_entries (λ s. cond (is_undropped s.cell.state) 1 0) (by_number 0 slots) (all_fresh 0 slots sound.distinct) ∙ count-by_number 0 slots)
     where
       lawful : (i : ℕ) (s : Option (Numbered (Cell P T W))) → get_or slots i None ≡ s → queued_times ids s ≡ cond (scheduled_slot s) 1 0
       lawful i None is = refl

@@ -1,18 +1,16 @@
 -- What a write of one cell keeps and gives.
-use Rattle.std.proofs.Common.{◌≡◌, ◌≢◌, ℕ, suc, ◌+◌, ◌≤◌, ◌==◌, ◌||◌, Bool, true, false, List, [], ◌∷◌, ◌++◌, length, set, get_or, Option, Some, None, cond, refl, sym, ap, subst, ◌∙◌, inl, inr, arith, length-append, zero-add}
+use Rattle.std.proofs.Common.{◌≡◌, ◌≢◌, ℕ, suc, ◌+◌, ◌≤◌, ◌==◌, ◌||◌, Bool, true, false, List, [], ◌∷◌, ◌++◌, length, set, get_or, Option, Some, None, cond, refl, sym, ap, subst, ◌∙◌, arith, length-append, zero-add}
 use Rattle.std.proofs.lemmas.List.Elements.{All-push, All-head, All-tail}
-use Rattle.std.proofs.lemmas.Bool.{cases_Bool, eqb-true, eq-eqb, ne_eqb}
+use Rattle.std.proofs.lemmas.Bool.{eq-eqb, ne_eqb}
 use Rattle.std.proofs.lemmas.List.Sums.{sum_by-cons}
 use Rattle.std.specs.List.{All}
 use Rattle.std.specs.FinMap as map
-use Rattle.executor_core.specs.Cells.{Table}
-use Rattle.executor_core.specs.Cells.View.{is_numbered, seen, cells_of, numbers_of, table_of, Placed, IsSound, Settled, cell_in}
+use Rattle.executor_core.specs.Cells.View.{seen, cells_of, numbers_of, Placed, IsSound, Settled}
 use Rattle.executor_core.specs.Cell.{is_idle, is_held, is_scheduled}
 use Rattle.executor_core.specs.Cells.Law.{scheduled_in}
 use Rattle.executor_core.specs.Numbers.{times}
-use Rattle.executor_core.specs.Cells.Calls.{cell_at}
 use Rattle.executor_core.proofs.SlotLemmas.{sees_get, get_sees}
-use Rattle.executor_core.proofs.TableLemmas.{put_sound, cell_at_some, cell_at_none, times-push_same, times-push_other, numbers_of-push}
+use Rattle.executor_core.proofs.TableLemmas.{put_sound, times-push_same, times-push_other, numbers_of-push}
 use Rattle.executor_core.specs.declared.task.cell.Cell.{Cell}
 use Rattle.executor_core.specs.declared.task.cell.Numbered.{Numbered}
 use Rattle.executor_core.specs.declared.task.id.TaskId.{TaskId}
@@ -105,45 +103,3 @@ module _ {P T W : Type 0} where
       positive : (b : Bool) (n : ℕ) → cond b 1 0 ≡ n + 1 → b ≡ true
       positive true n e = refl
       positive false n e = absurd (omega arith)
-
-  -- the id's cell is what its slot has for its number
-  pub cell_at_is : {next capacity undropped : ℕ} {slots : List (Option (Numbered (Cell P T W)))} {ids : List TaskId}
-      → IsSound next slots ids capacity undropped → (id : TaskId) → cell_at (table_of next slots ids) id ≡ cell_in id.number (get_or slots id.slot None)
-  cell_at_is {next} {slots = slots} {ids = ids} sound id = by_slot (get_or slots id.slot None) refl
-    where
-      by_slot : (o : Option (Numbered (Cell P T W))) → get_or slots id.slot None ≡ o → cell_at (table_of next slots ids) id ≡ cell_in id.number o
-      by_slot None e = cell_at_none next slots ids id (ap (is_numbered id.number) e)
-      by_slot (Some e) is = elim (cases_Bool (e.number == id.number)) [
-        | inl same ↦ cell_at_some next slots ids id e sound.distinct is (eqb-true e.number id.number same) ∙ ap (λ b. cond b (Some e.cell) None) (sym same)
-        | inr far ↦ cell_at_none next slots ids id (ap (is_numbered id.number) is ∙ far) ∙ ap (λ b. cond b (Some e.cell) None) (sym far)
-      ]
-
-  -- what a test finds at the id, it finds in the slot
-  pub test_at : {next capacity undropped : ℕ} {slots : List (Option (Numbered (Cell P T W)))} {ids : List TaskId} {table : Table P T W}
-      → IsSound next slots ids capacity undropped → table_of next slots ids ≡ table
-      → (F : Option (Cell P T W) → Bool) (id : TaskId) {b : Bool} → b ≡ F (cell_at table id) → F (cell_in id.number (get_or slots id.slot None)) ≡ b
-  test_at sound seen_is F id is = sym (is ∙ ap (λ s. F (cell_at s id)) (sym seen_is) ∙ ap F (cell_at_is sound id))
-
-  -- a slot's cell is the id's, if the number is the id's
-  pub cell_at_entry : {next capacity undropped : ℕ} {slots : List (Option (Numbered (Cell P T W)))} {ids : List TaskId}
-      → IsSound next slots ids capacity undropped
-      → (id : TaskId) (e : Numbered (Cell P T W)) → get_or slots id.slot None ≡ Some e → e.number ≡ id.number → cell_at (table_of next slots ids) id ≡ Some e.cell
-  cell_at_entry {next} {slots = slots} {ids = ids} sound id e there number = cell_at_some next slots ids id e sound.distinct there number
-
-  -- what the id's slot has where a test of the id's cell passes
-  pub record PassesAt (F : Option (Cell P T W) → Bool) (slots : List (Option (Numbered (Cell P T W)))) (id : TaskId) : Type 0 where
-    pub entry : Numbered (Cell P T W)
-    pub there : get_or slots id.slot None ≡ Some entry
-    pub passes : F (Some entry.cell) ≡ true
-
-  pub passes_at : {next capacity undropped : ℕ} {slots : List (Option (Numbered (Cell P T W)))} {ids : List TaskId} {table : Table P T W}
-      → IsSound next slots ids capacity undropped → table_of next slots ids ≡ table
-      → (F : Option (Cell P T W) → Bool) → F None ≡ false → (id : TaskId) {b : Bool} → b ≡ F (cell_at table id) → b ≡ true → PassesAt F slots id
-  passes_at {slots = slots} sound seen_is F none id {b} is passed = by_slot (get_or slots id.slot None) refl (test_at sound seen_is F id is ∙ passed)
-    where
-      by_slot : (o : Option (Numbered (Cell P T W))) → get_or slots id.slot None ≡ o → F (cell_in id.number o) ≡ true → PassesAt F slots id
-      by_slot None there h = absurd (cc)
-      by_slot (Some e) there h = elim (cases_Bool (e.number == id.number)) [
-        | inl same ↦ record { entry = e; there = there; passes = ap (λ b. F (cond b (Some e.cell) None)) (sym same) ∙ h }
-        | inr far ↦ absurd (cc (ap (λ b. F (cond b (Some e.cell) None)) far, none, h))
-      ]

@@ -4,4 +4,5 @@ pub mod Numbers
 pub mod Polling
 pub mod Sleepers
 pub mod SpawnError
+pub mod TaskQueue
 pub mod World

@@ -17,7 +17,7 @@ impl<P, T, W> Cells<P, T, W> {
         if let Some(again) = again {
             again.spend();
         }
-        let Some(id) = self.global.pop_front() else {
+        let Some(id) = self.global.take_front() else {
             return None;
         };
         let (future, cancelled) = take_cell(&mut self.cells[id.slot].cell);
@@ -42,9 +42,6 @@ impl<P, T, W> Cells<P, T, W> {
     pub fn global_at(&self, i: usize) -> Option<u64>
         ensures { result ≡ slice_get self.now.global i }
     {
-        match self.global.get(i) {
-            Some(id) => Some(id.number),
-            None => None,
-        }
+        self.global.number_at(i)
     }
 }

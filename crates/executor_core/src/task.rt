@@ -43,6 +43,7 @@ pub(crate) mod handles;
 pub(crate) mod id;
 pub(crate) mod polling;
 pub(crate) mod table;
+pub(crate) mod task_queue;
 pub(crate) mod values;
 
 pub use error::{OutOfMemory, SpawnError};

@@ -1,32 +1,17 @@
 -- How the fields of `Cells` are seen, and what holds of them.
-use Rattle.std.specs.Prelude.{◌≡◌, ℕ, ◌+◌, ◌<◌, ◌≤◌, ◌==◌, Bool, true, false, ◌||◌, ◌&&◌, List, [], ◌∷◌, length, map as list_map, Option, Some, None, count_by, slice_index_or, cond}
+use Rattle.std.specs.Prelude.{◌≡◌, ℕ, ◌+◌, ◌<◌, ◌≤◌, Bool, true, false, ◌||◌, List, [], ◌∷◌, length, map as list_map, Option, Some, None, count_by, slice_index_or}
 use Rattle.std.specs.Ordering.{nat_cmp}
 use Rattle.std.specs.FinMap as map
 use Rattle.std.specs.List.{All}
 use Rattle.executor_core.specs.Cells.{Slotted, Table}
 use Rattle.executor_core.specs.Cell.{is_idle, is_held, is_undropped}
 use Rattle.executor_core.specs.Cells.Law.{ScheduledOnce}
-use Rattle.executor_core.specs.Cell.Changes.{takes_back}
 use Rattle.executor_core.specs.declared.task.cell.Cell.{Cell}
 use Rattle.executor_core.specs.declared.task.cell.Numbered.{Numbered}
 use Rattle.executor_core.specs.declared.task.id.TaskId.{TaskId}
 
 abbrev pub numbers_of : List TaskId → List ℕ
 numbers_of ids = list_map (λ id. id.number) ids
-
--- what a slot has for a number
-abbrev pub is_numbered : {C : Type 0} → ℕ → Option (Numbered C) → Bool
-is_numbered n None = false
-is_numbered n (Some e) = e.number == n
-
-module _ {P T W : Type 0} where
-  abbrev pub cell_in : ℕ → Option (Numbered (Cell P T W)) → Option (Cell P T W)
-  cell_in n None = None
-  cell_in n (Some e) = cond (e.number == n) (Some e.cell) None
-
-  abbrev pub takes_back_entry : ℕ → Option (Numbered (Cell P T W)) → Bool
-  takes_back_entry n None = false
-  takes_back_entry n (Some e) = (e.number == n) && takes_back e.cell
 
 module _ {P T W : Type 0} where
   -- a cell of this slot

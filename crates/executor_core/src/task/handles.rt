@@ -63,7 +63,7 @@ impl<P, T, W> Cells<P, T, W> {
         if !cancel_cell(&mut self.cells[id.slot].cell) {
             return None;
         }
-        self.global.push_back_reserved(id);
+        self.global.push(id);
         Some(Notice { unspent: () })
     }
 

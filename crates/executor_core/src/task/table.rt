@@ -1,6 +1,5 @@
 //! The table of task cells.
 ghost use Rattle.std.specs.Prelude.{◌≡◌, ◌≢◌, ℕ, ◌+◌, ◌-◌, ◌<◌, ◌≤◌, Bool, true, false, IsErr, IsTrue, ◌↔◌, List, [], ◌∷◌, ◌++◌, IfOk, IfErr, OnOk, OnErr, length, is_some, option_copied};
-ghost use Rattle.std.specs.VecDeque.{deque_capacity};
 ghost use Rattle.executor_core.specs.Cells.Calls.{wakes, after_wake, after_end_pending, EndsPending, undropped_in, cancelled_in, future_in, empty_table, after_spawn, IsFree, AllDropped, undropped_count, cell_at, held_in, handle_in, takes_back_in, after_end_ready, ready_answer, after_end_dropped, dropped_answer};
 ghost use Rattle.executor_core.specs.SpawnError.{last_number, Refuses};
 ghost use Rattle.executor_core.specs.Cells.Law.{LockLaw};
@@ -11,10 +10,10 @@ use crate::task::cell::{
 };
 use crate::task::error::{OutOfMemory, SpawnError};
 use crate::task::id::TaskId;
+use crate::task::task_queue::TaskQueue;
 use crate::task::values::{Held, Notice, Wakeup};
 use slab::Slab;
 use std::alloc::Global;
-use std::collections::VecDeque;
 use std::marker::Model;
 
 /// What the end of a poll that gave an output leaves to do.
@@ -42,7 +41,7 @@ pub enum EndPending<P> {
 pub struct Cells<P, T, W> {
     pub(crate) next: u64,
     pub(crate) cells: Slab<Numbered<Cell<P, T, W>>>,
-    pub(crate) global: VecDeque<TaskId>,
+    pub(crate) global: TaskQueue,
     pub(crate) undropped: usize,
 }
 
@@ -54,26 +53,10 @@ impl<P, T, W> Model for Cells<P, T, W> {
     ghost coded = { table_code P.code T.code W.code };
 
     ghost use Rattle.executor_core.specs.Cells.View.{table_of, IsSound};
-    ghost use Rattle.std.specs.VecDeque.{deque_capacity};
 
-    ghost view = { λ a. table_of a.next a.cells.slots a.global.items };
+    ghost view = { λ a. table_of a.next a.cells.slots a.global.ids };
 
-    ghost invariant = { λ a. IsSound a.next a.cells.slots a.global.items (deque_capacity a.global) a.undropped };
-}
-
-// Room for this many ids in all. A `reserve` alone grows by what is queued, which may be far less
-// than what may be, and so would move the queue at each call.
-fn reserve_places(global: &mut VecDeque<TaskId>, places: usize) -> Result<(), OutOfMemory>
-    requires { length global.old.items ≤ places }
-    ensures items { global.new.items ≡ global.old.items }
-    ensures capacity { deque_capacity global.old ≤ deque_capacity global.new }
-    ensures room { OnOk result (places ≤ deque_capacity global.new) }
-{
-    if places <= global.capacity() {
-        return Ok(());
-    }
-    global.reserve(places.saturating_mul(2) - global.len())?;
-    Ok(())
+    ghost invariant = { λ a. IsSound a.next a.cells.slots a.global.ids a.global.room a.undropped };
 }
 
 impl<P, T, W> Cells<P, T, W> {
@@ -91,7 +74,7 @@ impl<P, T, W> Cells<P, T, W> {
         Ok(Cells {
             next: first,
             cells: Slab::new(alloc),
-            global: VecDeque::new(alloc),
+            global: TaskQueue::new(alloc),
             undropped: 0,
         })
     }
@@ -116,14 +99,14 @@ impl<P, T, W> Cells<P, T, W> {
         if self.cells.reserve(1).is_err() {
             return Err(SpawnError::OutOfMemory(future));
         }
-        if reserve_places(&mut self.global, self.undropped + 1).is_err() {
+        if self.global.reserve_beside(self.undropped).is_err() {
             return Err(SpawnError::OutOfMemory(future));
         }
         let number = self.next;
         let cell = new_cell(future);
         let slot = self.cells.insert_reserved(Numbered { number, cell });
         let id = TaskId { number, slot };
-        self.global.push_back_reserved(id);
+        self.global.push(id);
         self.next = number + 1;
         self.undropped += 1;
         Ok((id, Notice { unspent: () }))
@@ -142,7 +125,7 @@ impl<P, T, W> Cells<P, T, W> {
         if !wake_cell(&mut self.cells[id.slot].cell) {
             return None;
         }
-        self.global.push_back_reserved(id);
+        self.global.push(id);
         Some(Notice { unspent: () })
     }
 
@@ -161,7 +144,7 @@ impl<P, T, W> Cells<P, T, W> {
         if !pend_cell(&mut self.cells[id.slot].cell, future) {
             return EndPending::Back(None);
         }
-        self.global.push_back_reserved(id);
+        self.global.push(id);
         EndPending::Back(Some(Notice { unspent: () }))
     }
 

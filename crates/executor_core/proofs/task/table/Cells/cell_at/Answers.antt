@@ -1,8 +1,7 @@
 use Rattle.std.proofs.Common.{Some, None, cond, sym, ap, ◌∙◌}
 use Rattle.std.proofs.lemmas.Bool.{ne_eqb}
 use Rattle.executor_core.specs.Cells.Calls.{cell_at}
-use Rattle.executor_core.specs.Cells.View.{cell_in}
-use Rattle.executor_core.proofs.WriteLemmas.{cell_at_is, cell_at_entry}
+use Rattle.executor_core.proofs.FindLemmas.{cell_at_is, cell_at_entry, cell_in}
 use Rattle.executor_core.proofs.task.table.Cells.cell_at.Goals as goal
 use Rattle.executor_core.proofs.task.table.Cells.cell_at.Goals.{in_default-via-in-Some+else-entry-id, in_default-via-in_default}
 

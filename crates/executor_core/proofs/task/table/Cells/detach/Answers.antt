@@ -2,21 +2,22 @@ use Rattle.std.proofs.Common.{◌≡◌, Some, None, refl, sym, ap, ◌∙◌}
 use Rattle.executor_core.specs.Cells.Calls.{after_detach, detach_answer, detach_at, handle_in, cell_at}
 use Rattle.executor_core.specs.Cell.{is_undropped}
 use Rattle.executor_core.specs.Cell.Changes.{output_of}
-use Rattle.executor_core.proofs.WriteLemmas.{test_at, passes_at, cell_at_entry}
-use Rattle.executor_core.proofs.RemoveLemmas.{facts_at, remove_table}
+use Rattle.executor_core.proofs.FindLemmas.{test_at, passes_at, cell_at_entry, facts_at}
+use Rattle.executor_core.proofs.RemoveLemmas.{remove_table}
 use Rattle.executor_core.proofs.EndReadyLemmas.{end_handle_sound, set_table}
-use Rattle.executor_core.proofs.DetachLemmas.{detach_sound, detached_some, detach_some, detach_nothing, detach_absent, output_of_undropped, pair_of}
+use Rattle.executor_core.proofs.StateLemmas.{output_of_undropped}
+use Rattle.executor_core.proofs.DetachLemmas.{detach_sound, detached_some, detach_some, after_detach-absent, detach_answer-absent, pair_of}
 use Rattle.executor_core.proofs.task.table.Cells.detach.Goals as goal
 
 pub returns-then-not-has_handle-clause-table : goal.returns-then-not-has_handle-clause-table
 returns-then-not-has_handle-clause-table g c =
     let none = sym c.has_handle.ensures ∙ c.if-not-has_handle.true in
-    sym (detach_nothing _ c.args.id _ none)
+    sym (after_detach-absent _ c.args.id _ none)
 
 pub returns-then-not-has_handle-clause-answer : goal.returns-then-not-has_handle-clause-answer
 returns-then-not-has_handle-clause-answer g c =
     let none = sym c.has_handle.ensures ∙ c.if-not-has_handle.true in
-    sym (detach_absent _ none)
+    sym (detach_answer-absent _ none)
 
 pub index-requires : goal.index-requires
 index-requires g c = let at = passes_at c.self.invariant c.self.view_is handle_in refl c.args.id c.has_handle.ensures c.if-not-has_handle.false in rw at.there refl

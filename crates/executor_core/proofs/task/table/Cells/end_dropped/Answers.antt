@@ -1,20 +1,21 @@
 use Rattle.std.proofs.Common.{◌≡◌, Some, refl, sym, ap, ◌∙◌, arith}
 use Rattle.executor_core.specs.Cells.Calls.{after_end_dropped, dropped_answer, end_dropped_at, held_in, cell_at}
-use Rattle.executor_core.proofs.WriteLemmas.{test_at, passes_at, cell_at_entry}
-use Rattle.executor_core.proofs.RemoveLemmas.{facts_at, remove_table, counted_one}
-use Rattle.executor_core.proofs.EndReadyLemmas.{held_state, leave_sound, set_table}
-use Rattle.executor_core.proofs.CancelLemmas.{disposed_sound, disposed_some, awaiter_some, end_dropped_nothing, awaiter_nothing}
+use Rattle.executor_core.proofs.FindLemmas.{test_at, passes_at, cell_at_entry, facts_at}
+use Rattle.executor_core.proofs.StateLemmas.{held_state}
+use Rattle.executor_core.proofs.RemoveLemmas.{remove_table, counted_one}
+use Rattle.executor_core.proofs.EndReadyLemmas.{leave_sound, set_table}
+use Rattle.executor_core.proofs.CancelLemmas.{disposed_sound, disposed_some, awaiter_some, after_end_dropped-absent, dropped_answer-absent}
 use Rattle.executor_core.proofs.task.table.Cells.end_dropped.Goals as goal
 
 pub returns-then-not-is_held-clause-table : goal.returns-then-not-is_held-clause-table
 returns-then-not-is_held-clause-table g c =
     let none = sym c.is_held.ensures ∙ c.if-not-is_held.true in
-    sym (end_dropped_nothing _ c.args.held.id _ none)
+    sym (after_end_dropped-absent _ c.args.held.id _ none)
 
 pub returns-then-not-is_held-clause-answer : goal.returns-then-not-is_held-clause-answer
 returns-then-not-is_held-clause-answer g c =
     let none = sym c.is_held.ensures ∙ c.if-not-is_held.true in
-    sym (awaiter_nothing _ none)
+    sym (dropped_answer-absent _ none)
 
 pub index-requires : goal.index-requires
 index-requires g c = let at = passes_at c.self.invariant c.self.view_is held_in refl c.args.held.id c.is_held.ensures c.if-not-is_held.false in rw at.there refl

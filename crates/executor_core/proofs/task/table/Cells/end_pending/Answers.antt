@@ -1,17 +1,17 @@
 use Rattle.std.proofs.Common.{◌≡◌, true, refl, sym, ◌∙◌, arith}
 use Rattle.executor_core.proofs.TableLemmas.{numbers_of-push}
+use Rattle.std.proofs.lemmas.Bool.{and_parts}
 use Rattle.std.proofs.lemmas.Grind.{common_steps}
 use Rattle.executor_core.specs.Cell.{is_held}
 use Rattle.executor_core.specs.Cells.Calls.{takes_back_in}
-use Rattle.executor_core.proofs.WriteLemmas.{test_at, passes_at}
-use Rattle.executor_core.proofs.RemoveLemmas.{facts_at}
-use Rattle.executor_core.proofs.EndPendingLemmas.{and_left, end_pending_idle, end_pending_queued, end_pending_table, end_pending_nothing, woken_in_is}
+use Rattle.executor_core.proofs.FindLemmas.{test_at, passes_at, facts_at}
+use Rattle.executor_core.proofs.EndPendingLemmas.{end_pending_idle, end_pending_queued, end_pending_table, after_end_pending-absent, woken_in_is}
 use Rattle.executor_core.proofs.task.table.Cells.end_pending.Goals as goal
 
 pub returns-then-not-takes_back-clause-table : goal.returns-then-not-takes_back-clause-table
 returns-then-not-takes_back-clause-table g c =
     let out = sym c.takes_back.ensures ∙ c.if-not-takes_back.true in
-    sym (end_pending_nothing _ c.args.held.id c.args.future _ out)
+    sym (after_end_pending-absent _ c.args.held.id c.args.future _ out)
 
 pub returns-then-not-takes_back-clause-answer : goal.returns-then-not-takes_back-clause-answer
 returns-then-not-takes_back-clause-answer g c =
@@ -22,11 +22,11 @@ pub index_mut-requires : goal.index_mut-requires
 index_mut-requires g c = let at = passes_at c.self.invariant c.self.view_is takes_back_in refl c.args.held.id c.takes_back.ensures c.if-not-takes_back.false in rw at.there refl
 
 pub pend_cell-requires : goal.pend_cell-requires
-pend_cell-requires g c = and_left _ _ (facts_at takes_back_in refl _ _ _ c.index_mut.ensures.value (test_at c.self.invariant c.self.view_is takes_back_in c.args.held.id c.takes_back.ensures ∙ c.if-not-takes_back.false)).1
+pend_cell-requires g c = (and_parts _ _ (facts_at takes_back_in refl _ _ _ c.index_mut.ensures.value (test_at c.self.invariant c.self.view_is takes_back_in c.args.held.id c.takes_back.ensures ∙ c.if-not-takes_back.false)).1).0
 
-pub push_back_reserved-requires : goal.push_back_reserved-requires
-push_back_reserved-requires g c =
-    let held : is_held c.index_mut.result.now.cell.state ≡ true = and_left _ _ (facts_at takes_back_in refl _ _ _ c.index_mut.ensures.value (test_at c.self.invariant c.self.view_is takes_back_in c.args.held.id c.takes_back.ensures ∙ c.if-not-takes_back.false)).1 in
+pub push-requires : goal.push-requires
+push-requires g c =
+    let held : is_held c.index_mut.result.now.cell.state ≡ true = (and_parts _ _ (facts_at takes_back_in refl _ _ _ c.index_mut.ensures.value (test_at c.self.invariant c.self.view_is takes_back_in c.args.held.id c.takes_back.ensures ∙ c.if-not-takes_back.false)).1).0 in
     grind (arith, common_steps)
 
 pub invariant_of-self : goal.invariant_of-self
@@ -34,7 +34,7 @@ invariant_of-self g c =
     let facts = facts_at takes_back_in refl _ _ _ c.index_mut.ensures.value (test_at c.self.invariant c.self.view_is takes_back_in c.args.held.id c.takes_back.ensures ∙ c.if-not-takes_back.false) in
     let cell = c.pend_cell.ensures.cell in
     let quiet = sym c.pend_cell.ensures.queued ∙ c.if-not-pend_cell.true in
-    rw cell (end_pending_idle c.self.invariant c.args.held.id c.index_mut.result.now c.args.future c.index_mut.ensures.value (and_left _ _ facts.1) quiet)
+    rw cell (end_pending_idle c.self.invariant c.args.held.id c.index_mut.result.now c.args.future c.index_mut.ensures.value (and_parts _ _ facts.1).0 quiet)
 
 pub returns-then-not-pend_cell-clause-table : goal.returns-then-not-pend_cell-clause-table
 returns-then-not-pend_cell-clause-table g c =
@@ -48,14 +48,14 @@ invariant_of-self-2 g c =
     let facts = facts_at takes_back_in refl _ _ _ c.index_mut.ensures.value (test_at c.self.invariant c.self.view_is takes_back_in c.args.held.id c.takes_back.ensures ∙ c.if-not-takes_back.false) in
     let cell = c.pend_cell.ensures.cell in
     let loud = sym c.pend_cell.ensures.queued ∙ c.if-not-pend_cell.false in
-    rw cell (end_pending_queued c.self.invariant c.args.held.id c.index_mut.result.now c.args.future c.index_mut.ensures.value facts.0 (and_left _ _ facts.1) loud _ (sym c.push_back_reserved.ensures.capacity) c.push_back_reserved.ensures.items)
+    rw cell (end_pending_queued c.self.invariant c.args.held.id c.index_mut.result.now c.args.future c.index_mut.ensures.value facts.0 (and_parts _ _ facts.1).0 loud _ (sym c.push.ensures.room) c.push.ensures.ids)
 
 pub returns-clause-table : goal.returns-clause-table
 returns-clause-table g c =
     let facts = facts_at takes_back_in refl _ _ _ c.index_mut.ensures.value (test_at c.self.invariant c.self.view_is takes_back_in c.args.held.id c.takes_back.ensures ∙ c.if-not-takes_back.false) in
     let cell = c.pend_cell.ensures.cell in
     let loud = sym c.pend_cell.ensures.queued ∙ c.if-not-pend_cell.false in
-    rw (cell, ← c.self.view_is) (end_pending_table c.self.invariant c.args.held.id c.index_mut.result.now c.args.future _ c.index_mut.ensures.value facts.0 facts.1 (rw (loud, c.push_back_reserved.ensures.items) (numbers_of-push _ _)))
+    rw (cell, ← c.self.view_is) (end_pending_table c.self.invariant c.args.held.id c.index_mut.result.now c.args.future _ c.index_mut.ensures.value facts.0 facts.1 (rw (loud, c.push.ensures.ids) (numbers_of-push _ _)))
 
 pub returns-then-not-pend_cell-clause-answer : goal.returns-then-not-pend_cell-clause-answer
 returns-then-not-pend_cell-clause-answer g c =

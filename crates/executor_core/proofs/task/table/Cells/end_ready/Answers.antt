@@ -1,19 +1,20 @@
 use Rattle.std.proofs.Common.{◌≡◌, Some, refl, sym, ap, ◌∙◌, arith}
 use Rattle.executor_core.specs.Cells.Calls.{after_end_ready, ready_answer, end_ready_at, held_in, cell_at}
-use Rattle.executor_core.proofs.WriteLemmas.{test_at, passes_at, cell_at_entry}
-use Rattle.executor_core.proofs.RemoveLemmas.{facts_at, remove_table, counted_one}
-use Rattle.executor_core.proofs.EndReadyLemmas.{held_state, ready_sound, leave_sound, ready_nothing, ready_unwanted, readied_some, answer_some, answer_kept, set_table, end_ready_of}
+use Rattle.executor_core.proofs.FindLemmas.{test_at, passes_at, cell_at_entry, facts_at}
+use Rattle.executor_core.proofs.StateLemmas.{held_state}
+use Rattle.executor_core.proofs.RemoveLemmas.{remove_table, counted_one}
+use Rattle.executor_core.proofs.EndReadyLemmas.{ready_sound, leave_sound, after_end_ready-absent, ready_answer-absent, readied_some, answer_some, answer_kept, set_table, end_ready_of}
 use Rattle.executor_core.proofs.task.table.Cells.end_ready.Goals as goal
 
 pub returns-then-not-is_held-clause-table : goal.returns-then-not-is_held-clause-table
 returns-then-not-is_held-clause-table g c =
     let none = sym c.is_held.ensures ∙ c.if-not-is_held.true in
-    sym (ready_nothing _ c.args.held.id c.args.output _ none)
+    sym (after_end_ready-absent _ c.args.held.id c.args.output _ none)
 
 pub returns-then-not-is_held-clause-answer : goal.returns-then-not-is_held-clause-answer
 returns-then-not-is_held-clause-answer g c =
     let none = sym c.is_held.ensures ∙ c.if-not-is_held.true in
-    sym (ready_unwanted c.args.output _ none)
+    sym (ready_answer-absent c.args.output _ none)
 
 pub index-requires : goal.index-requires
 index-requires g c = let at = passes_at c.self.invariant c.self.view_is held_in refl c.args.held.id c.is_held.ensures c.if-not-is_held.false in rw at.there refl

@@ -1,4 +1,4 @@
-use Rattle.std.proofs.Common.{deque_capacity, sym, subst}
+use Rattle.std.proofs.Common.{sym, subst}
 use Rattle.std.proofs.lemmas.Bool.{eqb-true, eq-eqb}
 use Rattle.executor_core.specs.Cells.View.{IsSound}
 use Rattle.executor_core.specs.Cells.Calls.{AllDropped}
@@ -7,6 +7,6 @@ use Rattle.executor_core.proofs.task.table.Cells.is_empty.Goals as goal
 
 pub returns : goal.returns
 returns g c = (
-  λ zero. subst AllDropped c.self.view_is (all_dropped (subst (λ u. IsSound c.self.inside.next c.self.inside.cells.slots c.self.inside.global.items (deque_capacity c.self.inside.global) u) (eqb-true c.self.inside.undropped 0 zero) c.self.invariant)),
+  λ zero. subst AllDropped c.self.view_is (all_dropped (subst (λ u. IsSound c.self.inside.next c.self.inside.cells.slots c.self.inside.global.ids c.self.inside.global.room u) (eqb-true c.self.inside.undropped 0 zero) c.self.invariant)),
   λ dropped. eq-eqb c.self.inside.undropped 0 (none_undropped c.self.invariant (subst AllDropped (sym c.self.view_is) dropped)),
 )

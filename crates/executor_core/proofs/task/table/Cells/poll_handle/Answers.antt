@@ -1,9 +1,9 @@
 use Rattle.std.proofs.Common.{◌≡◌, Some, refl, sym, ap, ◌∙◌}
 use Rattle.executor_core.specs.Cells.Calls.{after_poll_handle, poll_answer, poll_handle_at, handle_in, cell_at, ended_answer}
 use Rattle.executor_core.specs.Cell.{is_undropped}
-use Rattle.executor_core.proofs.WriteLemmas.{test_at, passes_at, cell_at_entry}
-use Rattle.executor_core.proofs.RemoveLemmas.{facts_at, remove_table}
-use Rattle.executor_core.proofs.EndReadyLemmas.{await_sound, end_handle_sound, poll_nothing, poll_absent, polled_some, poll_some, set_table}
+use Rattle.executor_core.proofs.FindLemmas.{test_at, passes_at, cell_at_entry, facts_at}
+use Rattle.executor_core.proofs.RemoveLemmas.{remove_table}
+use Rattle.executor_core.proofs.EndReadyLemmas.{await_sound, end_handle_sound, after_poll_handle-absent, poll_answer-absent, polled_some, poll_some, set_table}
 use Rattle.executor_core.specs.declared.task.handles.PollHandle.TheVariants.{Pending}
 use Rattle.executor_core.proofs.task.table.Cells.poll_handle.Goals as goal
 use Rattle.executor_core.proofs.task.table.Cells.poll_handle.Goals.{in-Some, in-None}
@@ -11,12 +11,12 @@ use Rattle.executor_core.proofs.task.table.Cells.poll_handle.Goals.{in-Some, in-
 pub returns-then-not-has_handle-clause-table : goal.returns-then-not-has_handle-clause-table
 returns-then-not-has_handle-clause-table g c =
     let none = sym c.has_handle.ensures ∙ c.if-not-has_handle.true in
-    sym (poll_nothing _ c.args.id c.args.waker _ none)
+    sym (after_poll_handle-absent _ c.args.id c.args.waker _ none)
 
 pub returns-then-not-has_handle-clause-answer : goal.returns-then-not-has_handle-clause-answer
 returns-then-not-has_handle-clause-answer g c =
     let none = sym c.has_handle.ensures ∙ c.if-not-has_handle.true in
-    sym (poll_absent c.args.waker _ none)
+    sym (poll_answer-absent c.args.waker _ none)
 
 pub index-requires : goal.index-requires
 index-requires g c = let at = passes_at c.self.invariant c.self.view_is handle_in refl c.args.id c.has_handle.ensures c.if-not-has_handle.false in rw at.there refl

@@ -1,4 +1,4 @@
-use Rattle.std.proofs.Common.{sym, ap, ◌∙◌, ◌≤◌, ◌+◌, ◌++◌, ◌∷◌, [], arith, deque_capacity, get_or, Some, None}
+use Rattle.std.proofs.Common.{sym, ap, ◌∙◌, ◌≤◌, ◌+◌, ◌++◌, ◌∷◌, [], arith, get_or, Some, None}
 use Rattle.std.proofs.lemmas.Grind.{common_steps}
 use Rattle.executor_core.specs.Cells.Calls.{after_spawn}
 use Rattle.executor_core.specs.Cells.View.{table_of}
@@ -6,16 +6,16 @@ use Rattle.executor_core.proofs.SpawnLemmas.{roomier, regrown, spawn_sound, spaw
 use Rattle.executor_core.proofs.task.table.Cells.spawn.Goals as goal
 
 pub invariant_of-self-then-is_err-2 : goal.invariant_of-self-then-is_err-2
-invariant_of-self-then-is_err-2 g c = rw c.reserve_places.ensures.items (regrown (roomier c.self.invariant _ c.reserve_places.ensures.capacity) _ (ap (λ s. s.slots) c.reserve.ensures.rest_kept))
+invariant_of-self-then-is_err-2 g c = rw c.reserve_beside.ensures.ids (regrown (roomier c.self.invariant _ c.reserve_beside.ensures.room) _ (ap (λ s. s.slots) c.reserve.ensures.rest_kept))
 
 pub invariant_of-self-2 : goal.invariant_of-self-2
 invariant_of-self-2 g c =
     let updates = c.insert_reserved-slot.ensures.updates in
     let counted = c.self.invariant.counted in
-    let enough : c.self.inside.undropped + 1 ≤ deque_capacity c.push_back_reserved.new.self = grind (arith, common_steps, counted) in
+    let enough : c.self.inside.undropped + 1 ≤ c.push.new.self.room = grind (arith, common_steps, counted) in
     spawn_sound (regrown c.self.invariant c.reserve.new.self.slots (ap (λ s. s.slots) c.reserve.ensures.rest_kept)) c.args.future _ c.insert_reserved-slot.result
     c.insert_reserved-slot.ensures.was_vacant (record { changed = updates.changed ∙ ap (λ k. Some (record { number = c.self.inside.next; cell = k })) c.new_cell-cell.ensures; others = updates.others })
-    (c.push_back_reserved.ensures.items ∙ ap (λ l. l ++ record { number = c.self.inside.next; slot = c.insert_reserved-slot.result } ∷ []) c.reserve_places.ensures.items)
+    (c.push.ensures.ids ∙ ap (λ l. l ++ record { number = c.self.inside.next; slot = c.insert_reserved-slot.result } ∷ []) c.reserve_beside.ensures.ids)
     _ enough
 
 pub returns-clause-ok : goal.returns-clause-ok
@@ -24,8 +24,8 @@ returns-clause-ok g c =
     let same = ap (λ s. s.slots) c.reserve.ensures.rest_kept in
     spawn_table (regrown c.self.invariant c.reserve.new.self.slots same) c.args.future _ c.insert_reserved-slot.result
     c.insert_reserved-slot.ensures.was_vacant (record { changed = updates.changed ∙ ap (λ k. Some (record { number = c.self.inside.next; cell = k })) c.new_cell-cell.ensures; others = updates.others })
-    (c.push_back_reserved.ensures.items ∙ ap (λ l. l ++ record { number = c.self.inside.next; slot = c.insert_reserved-slot.result } ∷ []) c.reserve_places.ensures.items)
-    ∙ ap (λ l. after_spawn (table_of c.self.inside.next l c.self.inside.global.items) c.insert_reserved-slot.result c.args.future) same
+    (c.push.ensures.ids ∙ ap (λ l. l ++ record { number = c.self.inside.next; slot = c.insert_reserved-slot.result } ∷ []) c.reserve_beside.ensures.ids)
+    ∙ ap (λ l. after_spawn (table_of c.self.inside.next l c.self.inside.global.ids) c.insert_reserved-slot.result c.args.future) same
     ∙ ap (λ s. after_spawn s c.insert_reserved-slot.result c.args.future) c.self.view_is
 
 pub returns-clause-free : goal.returns-clause-free
