@@ -4,7 +4,6 @@ ghost use Rattle.executor_core.specs.Calls.{after_take, TakesFront};
 
 use crate::task::cell::take_cell;
 use crate::task::{Again, Cells, Held, Notice, Taken, TaskId};
-use core::mem::replace_with;
 
 impl<P, T, W> Cells<P, T, W> {
     /// Takes the task at the global front, or none where the queue is empty. It takes no memory.
@@ -21,7 +20,7 @@ impl<P, T, W> Cells<P, T, W> {
         let Some(id) = self.global.pop_front() else {
             return None;
         };
-        let (future, cancelled) = replace_with(&mut self.cells[id.slot].cell, (), take_cell);
+        let (future, cancelled) = take_cell(&mut self.cells[id.slot].cell);
         let held = Held { id, to_drop: false };
         let taken = Taken {
             id,

@@ -1,12 +1,13 @@
 //! The cell of one task, and what each call makes of it.
 //!
-//! Each function here takes a cell apart and gives the next one, with what comes out of it. The
-//! table puts them in place.
+//! A function that changes one mark or the state alone changes the cell in its place. The others take
+//! a cell apart and give the next one, with what comes out of it, and the table puts it in place.
 ghost use Rattle.std.specs.Prelude.{◌≡◌, Bool, true, false, Some, None, cond};
 ghost use Rattle.executor_core.specs.States.{is_idle, is_scheduled, is_held, is_undropped};
-ghost use Rattle.executor_core.specs.CellChanges.{new_cell, woken, taken, pended, readied, awaited, cancelled_cell, detached, disposed, wakeup_of, output_of, is_finished_state};
+ghost use Rattle.executor_core.specs.CellChanges.{new_cell, state_woken, woken, taken, pended, readied, awaited, cancelled_cell, detached, disposed, wakeup_of, output_of, is_finished_state};
 
 use crate::task::values::Wakeup;
+use core::mem::replace_with;
 
 /// Where a task stands.
 #[derive(Drop)]
@@ -65,44 +66,57 @@ pub(crate) fn has_future<P, T, W>(cell: &Cell<P, T, W>) -> bool
     }
 }
 
-// The cell after a wake, and whether the task is to be queued.
-pub(crate) fn wake_cell<P, T, W>(cell: Cell<P, T, W>, _unit: ()) -> (Cell<P, T, W>, bool)
-    ensures { result ≡ (woken cell, is_idle cell.state) }
+// The state of a task that is scheduled where it was idle.
+fn schedule_state<P, T>(state: State<P, T>, _unit: ()) -> (State<P, T>, ())
+    ensures { result.0 ≡ state_woken state }
 {
-    let before = cell.state;
-    let (state, woken, queued) = match before {
-        State::Idle(future) => (State::Scheduled(future), cell.woken, true),
-        State::Scheduled(future) => (State::Scheduled(future), cell.woken, false),
-        State::Held => (State::Held, true, false),
-        State::Finished(output) => (State::Finished(output), cell.woken, false),
-        State::Gone => (State::Gone, cell.woken, false),
+    let scheduled = match state {
+        State::Idle(future) => State::Scheduled(future),
+        other => other,
     };
-    let cell = Cell {
-        state,
-        woken,
-        ..cell
-    };
-    (cell, queued)
+    (scheduled, ())
 }
 
-// The cell after its future was taken, the future, and the cancel mark.
-pub(crate) fn take_cell<P, T, W>(cell: Cell<P, T, W>, _unit: ()) -> (Cell<P, T, W>, (P, bool))
-    requires { is_scheduled cell.state ≡ true }
-    ensures cell { result.0 ≡ taken cell }
-    ensures future { cell.state ≡ State.Scheduled result.1.0 }
-    ensures cancelled { result.1.1 ≡ cell.cancelled }
+// Wakes the task of the cell, and says whether it is to be queued.
+pub(crate) fn wake_cell<P, T, W>(cell: &mut Cell<P, T, W>) -> bool
+    ensures cell { cell.new ≡ woken cell.old }
+    ensures queued { result ≡ is_idle cell.old.state }
 {
-    let before = cell.state;
-    let State::Scheduled(future) = before else {
+    match &cell.state {
+        State::Idle(_) => {
+            replace_with(&mut cell.state, (), schedule_state);
+            true
+        }
+        State::Held => {
+            cell.woken = true;
+            false
+        }
+        State::Scheduled(_) | State::Finished(_) | State::Gone => false,
+    }
+}
+
+// The state after the future was taken, and the future.
+fn take_state<P, T>(state: State<P, T>, _unit: ()) -> (State<P, T>, P)
+    requires { is_scheduled state ≡ true }
+    ensures state { result.0 ≡ State.Held }
+    ensures future { state ≡ State.Scheduled result.1 }
+{
+    let State::Scheduled(future) = state else {
         unreachable!()
     };
-    let cell = Cell {
-        state: State::Held,
-        woken: false,
-        ..cell
-    };
-    let cancelled = cell.cancelled;
-    (cell, (future, cancelled))
+    (State::Held, future)
+}
+
+// Takes the future of the cell. The cancel mark comes beside it.
+pub(crate) fn take_cell<P, T, W>(cell: &mut Cell<P, T, W>) -> (P, bool)
+    requires { is_scheduled cell.old.state ≡ true }
+    ensures cell { cell.new ≡ taken cell.old }
+    ensures future { cell.old.state ≡ State.Scheduled result.0 }
+    ensures cancelled { result.1 ≡ cell.old.cancelled }
+{
+    cell.woken = false;
+    let future = replace_with(&mut cell.state, (), take_state);
+    (future, cell.cancelled)
 }
 
 // The state of a cell whose future is out has nothing in it.
@@ -115,20 +129,29 @@ fn end_held<P, T>(state: State<P, T>)
     }
 }
 
-// The cell after a poll that ended pending, and whether the task is to be queued.
-pub(crate) fn pend_cell<P, T, W>(cell: Cell<P, T, W>, future: P) -> (Cell<P, T, W>, bool)
-    requires { is_held cell.state ≡ true }
-    ensures { result ≡ (pended cell future, cell.woken) }
+// The state after a poll that ended pending, of a task that was woken meanwhile or not.
+fn pend_state<P, T>(state: State<P, T>, input: (P, bool)) -> (State<P, T>, ())
+    requires { is_held state ≡ true }
+    ensures { result.0 ≡ cond input.1 (State.Scheduled input.0) (State.Idle input.0) }
 {
-    end_held(cell.state);
-    let state = if cell.woken {
-        State::Scheduled(future)
+    end_held(state);
+    let (future, woken) = input;
+    if woken {
+        (State::Scheduled(future), ())
     } else {
-        State::Idle(future)
-    };
-    let cell = Cell { state, ..cell };
-    let queued = cell.woken;
-    (cell, queued)
+        (State::Idle(future), ())
+    }
+}
+
+// Puts the future back after a poll that ended pending, and says whether the task is to be queued.
+pub(crate) fn pend_cell<P, T, W>(cell: &mut Cell<P, T, W>, future: P) -> bool
+    requires { is_held cell.old.state ≡ true }
+    ensures cell { cell.new ≡ pended cell.old future }
+    ensures queued { result ≡ cell.old.woken }
+{
+    let woken = cell.woken;
+    replace_with(&mut cell.state, (future, woken), pend_state);
+    woken
 }
 
 // The awaiter, as a waker that is to be woken.
@@ -216,24 +239,23 @@ pub(crate) fn await_cell<P, T, W>(cell: Cell<P, T, W>, waker: W) -> (Cell<P, T, 
     (cell, before)
 }
 
-// The cell after a cancel, and whether the task is to be queued.
-pub(crate) fn cancel_cell<P, T, W>(cell: Cell<P, T, W>, _unit: ()) -> (Cell<P, T, W>, bool)
-    ensures { result ≡ (cancelled_cell cell, is_idle cell.state) }
+// Cancels the task of the cell, and says whether it is to be queued.
+pub(crate) fn cancel_cell<P, T, W>(cell: &mut Cell<P, T, W>) -> bool
+    ensures cell { cell.new ≡ cancelled_cell cell.old }
+    ensures queued { result ≡ is_idle cell.old.state }
 {
-    let before = cell.state;
-    let (state, cancelled, queued) = match before {
-        State::Idle(future) => (State::Scheduled(future), true, true),
-        State::Scheduled(future) => (State::Scheduled(future), true, false),
-        State::Held => (State::Held, true, false),
-        State::Finished(output) => (State::Finished(output), cell.cancelled, false),
-        State::Gone => (State::Gone, cell.cancelled, false),
-    };
-    let cell = Cell {
-        state,
-        cancelled,
-        ..cell
-    };
-    (cell, queued)
+    match &cell.state {
+        State::Idle(_) => {
+            cell.cancelled = true;
+            replace_with(&mut cell.state, (), schedule_state);
+            true
+        }
+        State::Scheduled(_) | State::Held => {
+            cell.cancelled = true;
+            false
+        }
+        State::Finished(_) | State::Gone => false,
+    }
 }
 
 // The cell after its handle ended, and its awaiter.

@@ -73,7 +73,7 @@ impl<P, T, W> Cells<P, T, W> {
         if !has_handle_at(&self.cells, id) {
             return None;
         }
-        if !replace_with(&mut self.cells[id.slot].cell, (), cancel_cell) {
+        if !cancel_cell(&mut self.cells[id.slot].cell) {
             return None;
         }
         self.global.push_back_reserved(id);

@@ -216,7 +216,7 @@ impl<P, T, W> Cells<P, T, W> {
         if !holds(&self.cells, id) {
             return None;
         }
-        if !replace_with(&mut self.cells[id.slot].cell, (), wake_cell) {
+        if !wake_cell(&mut self.cells[id.slot].cell) {
             return None;
         }
         self.global.push_back_reserved(id);
@@ -235,7 +235,7 @@ impl<P, T, W> Cells<P, T, W> {
         if !takes_back(&self.cells, id) {
             return EndPending::Drop(future, Held { id, to_drop: true });
         }
-        if !replace_with(&mut self.cells[id.slot].cell, future, pend_cell) {
+        if !pend_cell(&mut self.cells[id.slot].cell, future) {
             return EndPending::Back(None);
         }
         self.global.push_back_reserved(id);

@@ -18,39 +18,39 @@ returns-then-not-has_handle_at-clause-notice g c =
 
 pub invariant_of-self : goal.invariant_of-self
 invariant_of-self g c =
-    let cell = ap (λ p. p.0) c.replace_with.ensures in
-    let quiet = sym (ap (λ p. p.1) c.replace_with.ensures) ∙ c.if-not-replace_with.true in
+    let cell = c.cancel_cell.ensures.cell in
+    let quiet = sym c.cancel_cell.ensures.queued ∙ c.if-not-cancel_cell.true in
     rw cell (cancel_quiet c.self.invariant c.args.id c.index_mut.result.now c.index_mut.ensures.value quiet)
 
-pub returns-then-not-replace_with-clause-table : goal.returns-then-not-replace_with-clause-table
-returns-then-not-replace_with-clause-table g c =
+pub returns-then-not-cancel_cell-clause-table : goal.returns-then-not-cancel_cell-clause-table
+returns-then-not-cancel_cell-clause-table g c =
     let facts = facts_at handle_in refl _ _ _ c.index_mut.ensures.value (sym c.has_handle_at.ensures ∙ c.if-not-has_handle_at.false) in
-    let cell = ap (λ p. p.0) c.replace_with.ensures in
-    let quiet = sym (ap (λ p. p.1) c.replace_with.ensures) ∙ c.if-not-replace_with.true in
+    let cell = c.cancel_cell.ensures.cell in
+    let quiet = sym c.cancel_cell.ensures.queued ∙ c.if-not-cancel_cell.true in
     rw (cell, ← c.self.view_is) (cancel_table c.self.invariant c.args.id c.index_mut.result.now _ c.index_mut.ensures.value facts.0 facts.1 (rw quiet refl))
 
-pub returns-then-not-replace_with-clause-notice : goal.returns-then-not-replace_with-clause-notice
-returns-then-not-replace_with-clause-notice g c =
+pub returns-then-not-cancel_cell-clause-notice : goal.returns-then-not-cancel_cell-clause-notice
+returns-then-not-cancel_cell-clause-notice g c =
     let facts = facts_at handle_in refl _ _ _ c.index_mut.ensures.value (sym c.has_handle_at.ensures ∙ c.if-not-has_handle_at.false) in
-    let quiet = sym (ap (λ p. p.1) c.replace_with.ensures) ∙ c.if-not-replace_with.true in
+    let quiet = sym c.cancel_cell.ensures.queued ∙ c.if-not-cancel_cell.true in
     rw (← c.self.view_is) (sym (cancel_queues_is c.self.invariant c.args.id c.index_mut.result.now c.index_mut.ensures.value facts.0 facts.1 quiet))
 
 pub invariant_of-self-2 : goal.invariant_of-self-2
 invariant_of-self-2 g c =
     let facts = facts_at handle_in refl _ _ _ c.index_mut.ensures.value (sym c.has_handle_at.ensures ∙ c.if-not-has_handle_at.false) in
-    let cell = ap (λ p. p.0) c.replace_with.ensures in
-    let loud = sym (ap (λ p. p.1) c.replace_with.ensures) ∙ c.if-not-replace_with.false in
+    let cell = c.cancel_cell.ensures.cell in
+    let loud = sym c.cancel_cell.ensures.queued ∙ c.if-not-cancel_cell.false in
     rw cell (cancel_loud c.self.invariant c.args.id c.index_mut.result.now c.index_mut.ensures.value facts.0 loud _ (sym c.push_back_reserved.ensures.capacity) c.push_back_reserved.ensures.items)
 
 pub returns-clause-table : goal.returns-clause-table
 returns-clause-table g c =
     let facts = facts_at handle_in refl _ _ _ c.index_mut.ensures.value (sym c.has_handle_at.ensures ∙ c.if-not-has_handle_at.false) in
-    let cell = ap (λ p. p.0) c.replace_with.ensures in
-    let loud = sym (ap (λ p. p.1) c.replace_with.ensures) ∙ c.if-not-replace_with.false in
+    let cell = c.cancel_cell.ensures.cell in
+    let loud = sym c.cancel_cell.ensures.queued ∙ c.if-not-cancel_cell.false in
     rw (cell, ← c.self.view_is) (cancel_table c.self.invariant c.args.id c.index_mut.result.now _ c.index_mut.ensures.value facts.0 facts.1 (rw (loud, c.push_back_reserved.ensures.items) (numbers_of-push _ _)))
 
 pub returns-clause-notice : goal.returns-clause-notice
 returns-clause-notice g c =
     let facts = facts_at handle_in refl _ _ _ c.index_mut.ensures.value (sym c.has_handle_at.ensures ∙ c.if-not-has_handle_at.false) in
-    let loud = sym (ap (λ p. p.1) c.replace_with.ensures) ∙ c.if-not-replace_with.false in
+    let loud = sym c.cancel_cell.ensures.queued ∙ c.if-not-cancel_cell.false in
     rw (← c.self.view_is) (sym (cancel_queues_is c.self.invariant c.args.id c.index_mut.result.now c.index_mut.ensures.value facts.0 facts.1 loud))

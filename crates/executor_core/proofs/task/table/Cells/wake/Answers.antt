@@ -16,34 +16,34 @@ returns-then-not-holds-clause-notice g c =
 
 pub invariant_of-self : goal.invariant_of-self
 invariant_of-self g c =
-    let cell = ap (λ p. p.0) c.replace_with.ensures in
-    let quiet = sym (ap (λ p. p.1) c.replace_with.ensures) ∙ c.if-not-replace_with.true in
+    let cell = c.wake_cell.ensures.cell in
+    let quiet = sym c.wake_cell.ensures.queued ∙ c.if-not-wake_cell.true in
     rw cell (quiet_sound c.self.invariant c.args.id c.index_mut.result.now c.index_mut.ensures.value quiet)
 
-pub returns-then-not-replace_with-clause-table : goal.returns-then-not-replace_with-clause-table
-returns-then-not-replace_with-clause-table g c =
-    let cell = ap (λ p. p.0) c.replace_with.ensures in
-    let quiet = sym (ap (λ p. p.1) c.replace_with.ensures) ∙ c.if-not-replace_with.true in
+pub returns-then-not-wake_cell-clause-table : goal.returns-then-not-wake_cell-clause-table
+returns-then-not-wake_cell-clause-table g c =
+    let cell = c.wake_cell.ensures.cell in
+    let quiet = sym c.wake_cell.ensures.queued ∙ c.if-not-wake_cell.true in
     rw (cell, ← c.self.view_is) (wake_table _ _ _ _ c.args.id c.index_mut.result.now c.self.invariant.distinct c.index_mut.ensures.value (number_at _ _ _ c.index_mut.ensures.value (sym c.holds.ensures ∙ c.if-not-holds.false)) (rw quiet refl))
 
-pub returns-then-not-replace_with-clause-notice : goal.returns-then-not-replace_with-clause-notice
-returns-then-not-replace_with-clause-notice g c =
-    let quiet = sym (ap (λ p. p.1) c.replace_with.ensures) ∙ c.if-not-replace_with.true in
+pub returns-then-not-wake_cell-clause-notice : goal.returns-then-not-wake_cell-clause-notice
+returns-then-not-wake_cell-clause-notice g c =
+    let quiet = sym c.wake_cell.ensures.queued ∙ c.if-not-wake_cell.true in
     rw (← c.self.view_is) (sym (wakes_at c.self.invariant c.args.id c.index_mut.result.now c.index_mut.ensures.value (number_at _ _ _ c.index_mut.ensures.value (sym c.holds.ensures ∙ c.if-not-holds.false)) quiet))
 
 pub invariant_of-self-2 : goal.invariant_of-self-2
 invariant_of-self-2 g c =
-    let cell = ap (λ p. p.0) c.replace_with.ensures in
-    let loud = sym (ap (λ p. p.1) c.replace_with.ensures) ∙ c.if-not-replace_with.false in
+    let cell = c.wake_cell.ensures.cell in
+    let loud = sym c.wake_cell.ensures.queued ∙ c.if-not-wake_cell.false in
     rw cell (loud_sound c.self.invariant c.args.id c.index_mut.result.now c.index_mut.ensures.value (number_at _ _ _ c.index_mut.ensures.value (sym c.holds.ensures ∙ c.if-not-holds.false)) loud _ (sym c.push_back_reserved.ensures.capacity) c.push_back_reserved.ensures.items)
 
 pub returns-clause-table : goal.returns-clause-table
 returns-clause-table g c =
-    let cell = ap (λ p. p.0) c.replace_with.ensures in
-    let loud = sym (ap (λ p. p.1) c.replace_with.ensures) ∙ c.if-not-replace_with.false in
+    let cell = c.wake_cell.ensures.cell in
+    let loud = sym c.wake_cell.ensures.queued ∙ c.if-not-wake_cell.false in
     rw (cell, ← c.self.view_is) (wake_table _ _ _ _ c.args.id c.index_mut.result.now c.self.invariant.distinct c.index_mut.ensures.value (number_at _ _ _ c.index_mut.ensures.value (sym c.holds.ensures ∙ c.if-not-holds.false)) (rw (loud, c.push_back_reserved.ensures.items) (numbers_of-push _ _)))
 
 pub returns-clause-notice : goal.returns-clause-notice
 returns-clause-notice g c =
-    let loud = sym (ap (λ p. p.1) c.replace_with.ensures) ∙ c.if-not-replace_with.false in
+    let loud = sym c.wake_cell.ensures.queued ∙ c.if-not-wake_cell.false in
     rw (← c.self.view_is) (sym (wakes_at c.self.invariant c.args.id c.index_mut.result.now c.index_mut.ensures.value (number_at _ _ _ c.index_mut.ensures.value (sym c.holds.ensures ∙ c.if-not-holds.false)) loud))
