@@ -91,7 +91,7 @@ pub(crate) fn wake_cell<P, T, W>(cell: &mut Cell<P, T, W>) -> bool
             cell.woken = true;
             false
         }
-        State::Scheduled(_) | State::Finished(_) | State::Gone => false,
+        _ => false,
     }
 }
 
