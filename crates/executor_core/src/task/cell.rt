@@ -82,17 +82,15 @@ pub(crate) fn wake_cell<P, T, W>(cell: &mut Cell<P, T, W>) -> bool
     ensures cell { cell.new ≡ woken cell.old }
     ensures queued { result ≡ is_idle cell.old.state }
 {
-    match &cell.state {
-        State::Idle(_) => {
-            replace_with(&mut cell.state, (), schedule_state);
-            true
-        }
-        State::Held => {
-            cell.woken = true;
-            false
-        }
-        _ => false,
+    if matches!(&cell.state, State::Held) {
+        cell.woken = true;
+        return false;
     }
+    let queued = matches!(&cell.state, State::Idle(_));
+    if queued {
+        replace_with(&mut cell.state, (), schedule_state);
+    }
+    queued
 }
 
 // The state after the future was taken, and the future.
