@@ -1,9 +1,8 @@
 //! The executor whose tasks any thread may run.
 use crate::home::SharedHome;
 use crate::scheduler::ExecutorIn;
-use crate::task::{CancelIn, FallibleTaskIn, TaskIn};
-
 pub use crate::task::Cancelled;
+use crate::task::{CancelIn, FallibleTaskIn, TaskIn};
 pub use crate::waker::TaskWaker;
 
 /// An executor of futures of the type F, whose handles are awaited by wakers of the type W, and which

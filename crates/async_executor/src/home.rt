@@ -36,10 +36,7 @@ pub trait Home: Drop {
         ensures { IfErr result (λ e. refused_future e ≡ future) };
 
     /// Takes the future of the task, and its waker.
-    fn take(
-        &self,
-        id: TaskId,
-    ) -> Option<(Self::Future, TaskWaker<Self::Waker, Self::Runtime>)>;
+    fn take(&self, id: TaskId) -> Option<(Self::Future, TaskWaker<Self::Waker, Self::Runtime>)>;
 
     /// Keeps the future of the waker's task again. Where the task has no place, both are given back.
     fn put_back(
@@ -129,11 +126,7 @@ where
         lock!(self.shared.store, self.shared.state.rt()).take(id)
     }
 
-    fn put_back(
-        &self,
-        future: F,
-        waker: TaskWaker<W, R>,
-    ) -> Option<(F, Arc<State<W, R>>)> {
+    fn put_back(&self, future: F, waker: TaskWaker<W, R>) -> Option<(F, Arc<State<W, R>>)> {
         lock!(self.shared.store, self.shared.state.rt()).put_back(future, waker)
     }
 

@@ -8,6 +8,7 @@ ghost use Rattle.executor_core.specs.SpawnError.{refused_future};
 
 use crate::home::{Home, OutputIn};
 use crate::poller::TaskPoller;
+use crate::state::announce;
 use crate::task::TaskIn;
 use crate::waker::TaskWaker;
 use executor_core::task::{
@@ -47,7 +48,7 @@ impl<H: Home> ExecutorIn<H> {
             return Err(SpawnError::OutOfMemory(future));
         };
         let (id, notice) = self.home.spawn(future)?;
-        self.home.state().announce(notice);
+        announce!(self.home.state(), notice);
         Ok(TaskIn::new(home, id))
     }
 
@@ -59,7 +60,7 @@ impl<H: Home> ExecutorIn<H> {
         let Some((taken, notice)) = found else {
             return false;
         };
-        state.announce(notice);
+        announce!(state, notice);
         self.run_task(taken);
         true
     }
@@ -96,7 +97,7 @@ impl<H: Home> ExecutorIn<H> {
             EndPending::Back(None) => {}
             EndPending::Back(Some(notice)) => {
                 drop(cells);
-                state.announce(notice);
+                announce!(state, notice);
             }
             EndPending::Drop((), held) => {
                 drop(cells);

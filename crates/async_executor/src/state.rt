@@ -10,6 +10,19 @@ use executor_core::task::{Cells, Notice, OutOfMemory, Pick, Wake};
 use std::alloc::Global;
 use std::sync::{Mutex, MutexGuard, Wait};
 
+/// Spends the notice of a task that was queued or taken: where somebody sleeps and nobody was
+/// notified since, a sleeper is woken. No lock may be held. It stands for `State::notify` of the Rust
+/// crate. It is no function for the reason that `lock` is none.
+macro_rules! announce {
+    ($state:expr, $notice:expr) => {
+        if let Some(pick) = $state.exchange($notice) {
+            $state.notify(pick);
+        }
+    };
+}
+
+pub(crate) use announce;
+
 /// The table of tasks and the sleepers, each behind a lock, the flag beside them, and the right to
 /// wait for the locks.
 ///
@@ -60,19 +73,16 @@ impl<W: Wake, R: Wait + Clone + Drop> State<W, R> {
         guard
     }
 
-    /// Spends the notice of a task that was queued or taken: where somebody sleeps and nobody was
-    /// notified since, a sleeper is woken. No lock may be held. It stands for `State::notify`.
-    #[inline(always)]
-    pub(crate) fn announce(&self, notice: Notice) {
-        if let Some(pick) = self.flag.exchange(notice) {
-            self.notify(pick);
-        }
+    /// Spends the notice of a task that was queued or taken. Where somebody sleeps and nobody was
+    /// notified since, a sleeper is to be notified. It takes no lock.
+    pub(crate) fn exchange(&self, notice: Notice) -> Option<Pick> {
+        self.flag.exchange(notice)
     }
 
-    // The waker is woken once the lock is given up.
+    /// Wakes the sleeper that is to be notified, once the lock is given up. No lock may be held.
     #[cold]
     #[inline(never)]
-    fn notify(&self, pick: Pick) {
+    pub(crate) fn notify(&self, pick: Pick) {
         let wakeup = self.sleepers().sleepers.notify(pick);
         if let Some(wakeup) = wakeup {
             wakeup.wake();

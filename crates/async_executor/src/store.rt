@@ -78,9 +78,7 @@ impl<F: Drop, S: Drop, T: Drop> Store<F, S, T> {
         ensures inside { IsTrue result → id.slot < vec_len self.now.places }
     {
         match self.places.get(id.slot()) {
-            Some(place) => {
-                place.number == id.number() && matches!(&place.kept, Kept::Nothing)
-            }
+            Some(place) => { place.number == id.number() && matches!(&place.kept, Kept::Nothing) }
             None => false,
         }
     }
@@ -104,9 +102,7 @@ impl<F: Drop, S: Drop, T: Drop> Store<F, S, T> {
         ensures inside { IsTrue result → id.slot < vec_len self.now.places }
     {
         match self.places.get(id.slot()) {
-            Some(place) => {
-                place.number == id.number() && matches!(&place.kept, Kept::Output(_))
-            }
+            Some(place) => { place.number == id.number() && matches!(&place.kept, Kept::Output(_)) }
             None => false,
         }
     }
@@ -225,6 +221,7 @@ impl<F: Drop, W: Wake, R: Wait + Clone + Drop, T: Drop> Store<F, Arc<State<W, R>
         }
     }
 
+    #[inline(always)]
     pub(crate) fn take_ended(
         &mut self,
         state: &State<W, R>,

@@ -10,6 +10,7 @@ ghost use Rattle.std.specs.Prelude.{◌≡◌, false, IsTrue};
 ghost use Rattle.async_executor.specs.Answers.{is_ready, IsReadyErr, IsReadyNone};
 
 use crate::home::{Home, OutputIn};
+use crate::state::announce;
 use executor_core::task::{Future, Poll, PollHandle, TaskId, Wake};
 use thiserror::Error;
 
@@ -62,7 +63,7 @@ impl<H: Home> TaskIn<H> {
         let state = self.home.state();
         let notice = state.cells().cancel(self.id);
         if let Some(notice) = notice {
-            state.announce(notice);
+            announce!(state, notice);
         }
         CancelIn { task: self }
     }
@@ -137,7 +138,7 @@ impl<H: Home> Drop for TaskIn<H> {
         let (notice, _, awaiter) = cells.drop_handle(id);
         drop(cells);
         if let Some(notice) = notice {
-            state.announce(notice);
+            announce!(state, notice);
         }
         drop(awaiter);
     }

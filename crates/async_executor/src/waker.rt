@@ -1,7 +1,7 @@
 //! The wakers that tasks are polled with.
 ghost use Rattle.std.specs.Prelude.{◌≡◌};
 
-use crate::state::State;
+use crate::state::{State, announce};
 use executor_core::task::{OutOfMemory, TaskId, Wake};
 use std::sync::{Arc, Wait};
 
@@ -39,7 +39,7 @@ impl<W: Wake, R: Wait + Clone + Drop> Wake for TaskWaker<W, R> {
     fn wake(&self) {
         let notice = self.state.cells().wake(self.id);
         if let Some(notice) = notice {
-            self.state.announce(notice);
+            announce!(self.state, notice);
         }
     }
 
