@@ -79,7 +79,7 @@ module _ {P T W : Type 0} where
       by_slot None there h = absurd (cc)
       by_slot (Some e) there h = elim (cases_Bool (e.number == id.number)) [
         | inl same ↦ record { entry = e; there = there; passes = ap (λ b. F (cond b (Some e.cell) None)) (sym same) ∙ h }
-        | inr far ↦ absurd (cc (ap (λ b. F (cond b (Some e.cell) None)) far, none, h))
+        | inr far ↦ absurd (cc)
       ]
 
   -- what a test finds in the cell that a slot has for a number

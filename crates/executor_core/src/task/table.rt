@@ -106,10 +106,10 @@ impl<P, T, W> Cells<P, T, W> {
         let cell = new_cell(future);
         let slot = self.cells.insert_reserved(Numbered { number, cell });
         let id = TaskId { number, slot };
-        self.global.push(id);
+        let notice = self.global.push(id);
         self.next = number + 1;
         self.undropped += 1;
-        Ok((id, Notice { unspent: () }))
+        Ok((id, notice))
     }
 
     /// Schedules an idle task at the global end, and marks one whose future is out.
@@ -125,8 +125,7 @@ impl<P, T, W> Cells<P, T, W> {
         if !wake_cell(&mut self.cells[id.slot].cell) {
             return None;
         }
-        self.global.push(id);
-        Some(Notice { unspent: () })
+        Some(self.global.push(id))
     }
 
     /// The end of a poll that was pending: the future goes back, or is to be dropped.
@@ -144,8 +143,7 @@ impl<P, T, W> Cells<P, T, W> {
         if !pend_cell(&mut self.cells[id.slot].cell, future) {
             return EndPending::Back(None);
         }
-        self.global.push(id);
-        EndPending::Back(Some(Notice { unspent: () }))
+        EndPending::Back(Some(self.global.push(id)))
     }
 
     /// The end of a poll that gave this output, whose future was dropped.

@@ -3,6 +3,7 @@ ghost use Rattle.std.specs.Prelude.{◌≡◌, ◌+◌, ◌^◌, ◌<◌, ◌≤
 
 use crate::task::error::OutOfMemory;
 use crate::task::id::TaskId;
+use crate::task::values::Notice;
 use std::alloc::Global;
 use std::collections::VecDeque;
 use std::marker::Model;
@@ -55,13 +56,14 @@ impl TaskQueue {
         Ok(())
     }
 
-    // Queues the task at the end.
-    pub(crate) fn push(&mut self, id: TaskId)
+    // Queues the task at the end. Nobody queues a task without its notice, which comes from here.
+    pub(crate) fn push(&mut self, id: TaskId) -> Notice
         requires { length self.old.ids < self.old.room }
         ensures ids { self.new.ids ≡ self.old.ids ++ id ∷ [] }
         ensures room { self.new.room ≡ self.old.room }
     {
         self.ids.push_back_reserved(id);
+        Notice { unspent: () }
     }
 
     // Takes the task at the front.

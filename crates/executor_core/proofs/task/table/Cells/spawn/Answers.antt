@@ -12,10 +12,10 @@ pub invariant_of-self-2 : goal.invariant_of-self-2
 invariant_of-self-2 g c =
     let updates = c.insert_reserved-slot.ensures.updates in
     let counted = c.self.invariant.counted in
-    let enough : c.self.inside.undropped + 1 ≤ c.push.new.self.room = grind (arith, common_steps, counted) in
+    let enough : c.self.inside.undropped + 1 ≤ c.push-notice.new.self.room = grind (arith, common_steps, counted) in
     spawn_sound (regrown c.self.invariant c.reserve.new.self.slots (ap (λ s. s.slots) c.reserve.ensures.rest_kept)) c.args.future _ c.insert_reserved-slot.result
     c.insert_reserved-slot.ensures.was_vacant (record { changed = updates.changed ∙ ap (λ k. Some (record { number = c.self.inside.next; cell = k })) c.new_cell-cell.ensures; others = updates.others })
-    (c.push.ensures.ids ∙ ap (λ l. l ++ record { number = c.self.inside.next; slot = c.insert_reserved-slot.result } ∷ []) c.reserve_beside.ensures.ids)
+    (c.push-notice.ensures.ids ∙ ap (λ l. l ++ record { number = c.self.inside.next; slot = c.insert_reserved-slot.result } ∷ []) c.reserve_beside.ensures.ids)
     _ enough
 
 pub returns-clause-ok : goal.returns-clause-ok
@@ -24,7 +24,7 @@ returns-clause-ok g c =
     let same = ap (λ s. s.slots) c.reserve.ensures.rest_kept in
     spawn_table (regrown c.self.invariant c.reserve.new.self.slots same) c.args.future _ c.insert_reserved-slot.result
     c.insert_reserved-slot.ensures.was_vacant (record { changed = updates.changed ∙ ap (λ k. Some (record { number = c.self.inside.next; cell = k })) c.new_cell-cell.ensures; others = updates.others })
-    (c.push.ensures.ids ∙ ap (λ l. l ++ record { number = c.self.inside.next; slot = c.insert_reserved-slot.result } ∷ []) c.reserve_beside.ensures.ids)
+    (c.push-notice.ensures.ids ∙ ap (λ l. l ++ record { number = c.self.inside.next; slot = c.insert_reserved-slot.result } ∷ []) c.reserve_beside.ensures.ids)
     ∙ ap (λ l. after_spawn (table_of c.self.inside.next l c.self.inside.global.ids) c.insert_reserved-slot.result c.args.future) same
     ∙ ap (λ s. after_spawn s c.insert_reserved-slot.result c.args.future) c.self.view_is
 
