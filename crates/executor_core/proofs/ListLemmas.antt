@@ -1,5 +1,5 @@
 -- Lists by index: a read after a write or a push.
-use Rattle.std.proofs.Common.{◌≡◌, ◌≢◌, ℕ, zero, suc, ◌+◌, ◌<◌, List, [], ◌∷◌, ◌++◌, length, Some, None, refl, ap, ◌∙◌, arith}
+use Rattle.std.proofs.Common.{◌≡◌, ◌≢◌, ℕ, zero, suc, ◌+◌, ◌<◌, List, [], ◌∷◌, ◌++◌, length, Some, None, refl, sym, ap, ◌∙◌, arith}
 use Rattle.std.specs.Prelude.{slice_get, slice_set}
 
 module _ {X : Type 0} where
@@ -56,6 +56,12 @@ module _ {X : Type 0} where
   -- a second write at the same place
   pub set_again : (xs ys zs : List X) (n : ℕ) (a b : X) → ys ≡ slice_set xs n a → zs ≡ slice_set ys n b → zs ≡ slice_set xs n b
   set_again xs ys zs n a b first second = second ∙ ap (λ l. slice_set l n b) first ∙ set-set xs n a b
+
+  -- a write of what stands there
+  pub set-here : (xs : List X) (n : ℕ) (x : X) → slice_get xs n ≡ Some x → slice_set xs n x ≡ xs
+  set-here [] n x is = refl
+  set-here (y ∷ ys) zero x is = let same : y ≡ x = cc in ap (λ z. z ∷ ys) (sym same)
+  set-here (y ∷ ys) (suc n) x is = ap (λ l. y ∷ l) (set-here ys n x is)
 
   -- a push after a growth
   pub push_items : (xs ys zs : List X) (x : X) → zs ≡ ys ++ x ∷ [] → ys ≡ xs → zs ≡ xs ++ x ∷ []

@@ -116,6 +116,11 @@ module _ {W : Type 0} where
         ∙ sym all
         ∙ sound.numbering n
         ∙ ap (λ l. cond (nat_le 1 n && nat_le n l) 1 0) total;
+    within =
+        let used = used-len sound in
+        let long = length-append (option_to_list notified) (keys_of pairs) in
+        let keys = length-keys pairs in
+        omega arith;
     placed = let used = used-len sound in let within = sound.placed in omega arith;
   }
 

@@ -59,5 +59,7 @@ module _ {W : Type 0} where
     pub one_notified : (m n : ℕ) → is_notified_number s m ≡ true → is_notified_number s n ≡ true → m ≡ n
     -- the numbers in use and the free ones are 1 to their total, each once
     pub numbered : (n : ℕ) → cond (set.contains s.used n) 1 0 + times n s.free ≡ cond (nat_le 1 n && nat_le n (set.len s.used + length s.free)) 1 0
+    -- no more numbers stand in the list than are in use
+    pub within : length s.unnotified ≤ set.len s.used
     -- each number in use has a place
     pub placed : set.len s.used ≤ s.places

@@ -1,5 +1,6 @@
 -- What a contract sees of a `World`.
 pub mod Agreement
+pub mod Entries
 pub mod Log
 pub mod Promises
 pub mod Steps
@@ -8,14 +9,14 @@ use Rattle.std.specs.Prelude.{◌≡◌, ℕ, zero, suc, Bool, List, refl, true,
 use Rattle.std.proofs.Common.{inl, inr}
 use Rattle.std.specs.Coded.{Coded, code_by, coded×, coded⊎, coded_ℕ, coded_list, coded_bool}
 use Rattle.executor_core.specs.Sleepers.{SleeperList, sleeper_list_code}
-use Rattle.executor_core.specs.declared.interleave.events.Purpose.{Purpose}
-use Rattle.executor_core.specs.declared.interleave.events.Purpose.TheVariants.{ToPoll, ToDrop}
-use Rattle.executor_core.specs.declared.interleave.tasks.TaskInfo.{TaskInfo}
-use Rattle.executor_core.specs.declared.interleave.events.Event.{Event}
-use Rattle.executor_core.specs.declared.interleave.events.Event.TheVariants.{Spawned, Woken, Cancelled, Took, Returned, Finished, Dropped, Got}
+use Rattle.executor_core.specs.declared.interleave.event.Purpose.{Purpose}
+use Rattle.executor_core.specs.declared.interleave.event.Purpose.TheVariants.{ToPoll, ToDrop}
+use Rattle.executor_core.specs.declared.interleave.entry.TaskInfo.{TaskInfo}
+use Rattle.executor_core.specs.declared.interleave.event.Event.{Event}
+use Rattle.executor_core.specs.declared.interleave.event.Event.TheVariants.{Spawned, Woken, Cancelled, Took, Returned, Finished, Dropped, Got}
 
--- the log, how many steps were accepted and may be, the global queue, the notices and the picks that are out, the flag
--- and the sleepers, and by number what the log does not say of a task
+-- the log, how many steps were accepted and may be, the global queue, how many notices and picks float, the flag and the
+-- sleepers, and by number what the log does not say of a task
 pub record Execution (T : Type 0) : Type 0 where
   pub log : List (Event T)
   pub accepted : ℕ

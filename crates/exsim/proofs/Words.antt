@@ -13,7 +13,7 @@ use Rattle.std.specs.List.{list_all}
 use Rattle.std.proofs.lemmas.List.Sums.{AllPass-from_list_all}
 use Rattle.std.proofs.lemmas.Str.Ascii.{IsAscii-from_all}
 use Rattle.std.proofs.lemmas.Bool.Decides.{nat_tests}
-use Rattle.executor_core.specs.declared.interleave.steps.Step.TheVariants as step
+use Rattle.executor_core.specs.declared.interleave.request.Step.TheVariants as step
 use Rattle.exsim.specs.declared.command.Command.{Command}
 use Rattle.exsim.specs.declared.command.Command.TheVariants.{Step, Show}
 use Rattle.exsim.specs.Grammar.{word_of, numbers_of, spaced, listed, AreInRange, IsWord}

@@ -3,7 +3,7 @@ use Rattle.std.specs.Prelude.{◌≡◌, ◌≢◌, ℕ, ◌<◌, ◌≤◌, ◌
 use Rattle.std.specs.List.{flat_map, AllByRecursion}
 use Rattle.std.specs.Fmt.{decimal}
 use lib.Chars.{codes}
-use Rattle.executor_core.specs.declared.interleave.steps.Step.TheVariants as step
+use Rattle.executor_core.specs.declared.interleave.request.Step.TheVariants as step
 use Rattle.exsim.specs.declared.command.Command.{Command}
 use Rattle.exsim.specs.declared.command.Command.TheVariants.{Step, Show}
 use Rattle.exsim.specs.declared.command.Arguments.{Arguments}

@@ -2,8 +2,8 @@
 use Rattle.std.specs.Prelude.{ℕ, Bool, true, false, List, [], ◌++◌}
 use Rattle.std.specs.Fmt.{decimal}
 use lib.Chars.{codes}
-use Rattle.executor_core.specs.declared.interleave.steps.Reply.{Reply}
-use Rattle.executor_core.specs.declared.interleave.steps.Reply.TheVariants as reply
+use Rattle.executor_core.specs.declared.interleave.reply.Reply.{Reply}
+use Rattle.executor_core.specs.declared.interleave.reply.Reply.TheVariants as reply
 
 -- said where an awaiter came out
 abbrev pub awaiter_text : Bool → List ℕ

@@ -4,17 +4,18 @@ use Rattle.std.specs.List.{list_any}
 use Rattle.std.specs.FinMap as map
 use Rattle.executor_core.specs.Cells.{Slotted, Table}
 use Rattle.executor_core.specs.Cells.Calls.{cell_at, poll_answer, finished_in}
-use Rattle.executor_core.specs.World.Log.{handle_finished, is_take, is_cancel, unfollowed, spawned, dropped, cancelled, held, woken, outputs, given, polls, wakes}
+use Rattle.executor_core.specs.Cell.{is_idle, is_scheduled, is_held}
+use Rattle.executor_core.specs.World.Entries.{PolledAgrees}
+use Rattle.executor_core.specs.World.Log.{owed, idle, handle_finished, is_take, is_cancel, unfollowed, spawned, dropped, cancelled, held, woken, outputs, given, polls, wakes}
 use Rattle.executor_core.specs.World.Promises.{InOrder}
-use Rattle.executor_core.specs.declared.interleave.tasks.TaskInfo.{TaskInfo}
-use Rattle.executor_core.specs.declared.interleave.tasks.FutureOut.{FutureOut}
-use Rattle.executor_core.specs.declared.interleave.tasks.FutureOut.TheVariants.{Unpolled, Polled}
+use Rattle.executor_core.specs.declared.interleave.entry.TaskInfo.{TaskInfo}
+use Rattle.executor_core.specs.declared.interleave.entry.TaskEntry.{TaskEntry}
 use Rattle.executor_core.specs.declared.task.cell.CellState.{CellState}
 use Rattle.executor_core.specs.declared.task.cell.CellState.TheVariants.{Idle, Scheduled, Held, Finished, Gone}
 use Rattle.executor_core.specs.declared.task.id.TaskId.{TaskId}
 use Rattle.executor_core.specs.declared.task.handles.PollHandle.{PollHandle}
 use Rattle.executor_core.specs.declared.task.handles.PollHandle.TheVariants as handle
-use Rattle.executor_core.specs.declared.interleave.events.Event.{Event}
+use Rattle.executor_core.specs.declared.interleave.event.Event.{Event}
 
 -- all that a log says of one number
 pub record Status (T : Type 0) : Type 0 where
@@ -84,13 +85,6 @@ module _ {T : Type 0} where
     pub outputs : s.outputs ≡ output
     pub given : s.given ≡ []
 
-  -- the future was dropped, and the handle is gone
-  pub record IsRemoved (s : Status T) (i : TaskInfo) : Type 0 where
-    pub spawned : s.spawned ≡ true
-    pub dropped : s.dropped ≡ true
-    pub held : s.held ≡ false
-    pub has_handle : i.has_handle ≡ false
-
 module _ {P T : Type 0} where
   -- what the log says of a task whose cell has this state, and this woken mark
   abbrev pub StateAgrees : CellState P T → Bool → Status T → Type 0
@@ -100,17 +94,27 @@ module _ {P T : Type 0} where
   StateAgrees (Finished t) w s = IsEnded s (t ∷ [])
   StateAgrees Gone w s = IsEnded s []
 
-  pub record CellAgrees (slotted : Slotted P T (Unit {0})) (s : Status T) (i : TaskInfo) : Type 0 where
-    pub slot : slotted.slot ≡ i.slot
-    pub has_handle : slotted.cell.has_handle ≡ i.has_handle
-    pub awaited : is_some slotted.cell.awaiter ≡ i.awaited
+  -- the future was dropped, and the handle is gone
+  pub record IsRemoved (s : Status T) (e : TaskEntry P) : Type 0 where
+    pub spawned : s.spawned ≡ true
+    pub dropped : s.dropped ≡ true
+    pub held : s.held ≡ false
+    pub has_handle : e.info.has_handle ≡ false
+    pub out : is_some e.out ≡ s.held
+
+  pub record CellAgrees (slotted : Slotted P T (Unit {0})) (s : Status T) (e : TaskEntry P) : Type 0 where
+    pub slot : slotted.slot ≡ e.info.slot
+    pub has_handle : slotted.cell.has_handle ≡ e.info.has_handle
+    pub awaited : is_some slotted.cell.awaiter ≡ e.info.awaited
     pub cancelled : slotted.cell.cancelled ≡ s.cancelled
     pub state : StateAgrees slotted.cell.state slotted.cell.woken s
+    pub out : is_some e.out ≡ s.held
+    pub polled : PolledAgrees e.out e.info.to_drop
 
-  abbrev pub NumberAgrees : Option (Slotted P T (Unit {0})) → Status T → Option TaskInfo → Type 0
+  abbrev pub NumberAgrees : Option (Slotted P T (Unit {0})) → Status T → Option (TaskEntry P) → Type 0
   NumberAgrees None s None = s ≡ no_status
-  NumberAgrees None s (Some i) = IsRemoved s i
-  NumberAgrees (Some slotted) s (Some i) = CellAgrees slotted s i
+  NumberAgrees None s (Some e) = IsRemoved s e
+  NumberAgrees (Some slotted) s (Some e) = CellAgrees slotted s e
   NumberAgrees (Some slotted) s None = ⊥
 
 module _ {T : Type 0} where
@@ -120,33 +124,11 @@ module _ {T : Type 0} where
   AnswerAgrees n log (handle.Cancelled w) = (dropped n log ≡ true) × (outputs n log ≡ [])
   AnswerAgrees n log (handle.Pending before) = dropped n log ≡ false
 
--- a future is out
-abbrev pub is_out : {X : Type 0} → Option (Option X) → Bool
-is_out None = false
-is_out (Some future) = is_some future
-
--- a future is out, and was not polled since its task was taken
-abbrev pub is_unpolled : {P : Type 0} → Option (Option (FutureOut P)) → Bool
-is_unpolled None = false
-is_unpolled (Some None) = false
-is_unpolled (Some (Some (Unpolled p))) = true
-is_unpolled (Some (Some (Polled p))) = false
-
--- a future that was polled since its task was taken is out to be dropped
-abbrev pub PolledAgrees : {P : Type 0} → Option (Option (FutureOut P)) → Bool → Type 0
-PolledAgrees None to_drop = Unit {0}
-PolledAgrees (Some None) to_drop = Unit {0}
-PolledAgrees (Some (Some (Unpolled p))) to_drop = Unit {0}
-PolledAgrees (Some (Some (Polled p))) to_drop = to_drop ≡ true
-
 module _ {P T : Type 0} where
-  -- the cells, the futures that are out, and what is known of each task agree with the log
-  pub record Agree (table : Table P T (Unit {0})) (log : List (Event T)) (tasks : List TaskInfo) (futures : List (Option (FutureOut P))) : Type 0 where
-    pub next : table.next ≡ length tasks
-    pub as_many : length futures ≡ length tasks
-    pub each : (n : ℕ) → NumberAgrees (map.get table.cells n) (status n log) (slice_get tasks n)
-    pub out : (n : ℕ) → is_out (slice_get futures n) ≡ held n log
-    pub polled : (n : ℕ) (i : TaskInfo) → slice_get tasks n ≡ Some i → PolledAgrees (slice_get futures n) i.to_drop
+  -- the cells, and what is kept of each task with the futures that are out, agree with the log
+  pub record Agree (table : Table P T (Unit {0})) (log : List (Event T)) (entries : List (TaskEntry P)) : Type 0 where
+    pub next : table.next ≡ length entries
+    pub each : (n : ℕ) → NumberAgrees (map.get table.cells n) (status n log) (slice_get entries n)
     pub few_polls : (n : ℕ) → FewPollsFor (status n log)
     pub order : InOrder log
 
@@ -159,11 +141,13 @@ module _ {P T : Type 0} where
   abbrev pub HandlesAgree : Table P T (Unit {0}) → List (Event T) → List TaskInfo → Type 0
   HandlesAgree table log tasks = (n : ℕ) (i : TaskInfo) → slice_get tasks n ≡ Some i → i.has_handle ≡ true → HandleAgrees table log (record { number = n; slot = i.slot })
 
--- there is room for what the steps to come add
-pub record HasRoom (accepted limit unspent tasks events room : ℕ) : Type 0 where
-  pub within : accepted ≤ limit
-  pub bounded : limit ≤ 1000000
-  pub few_unspent : unspent ≤ accepted
-  pub few_tasks : tasks ≤ accepted
-  pub few_events : events ≤ 2 * accepted
-  pub enough : 3 * limit ≤ room
+module _ {P T : Type 0} where
+  abbrev pub has_state : (CellState P T → Bool) → Option (Slotted P T (Unit {0})) → Bool
+  has_state test None = false
+  has_state test (Some s) = test s.cell.state
+
+  -- each number's cell stands where the log says
+  pub record CellsAgree (table : Table P T (Unit {0})) (log : List (Event T)) : Type 0 where
+    pub scheduled : (n : ℕ) → has_state is_scheduled (map.get table.cells n) ≡ owed n log
+    pub idle : (n : ℕ) → has_state is_idle (map.get table.cells n) ≡ idle n log
+    pub held : (n : ℕ) → has_state is_held (map.get table.cells n) ≡ held n log

@@ -1,9 +1,9 @@
 -- What a log says of a task. Each word reads the events, and nothing is stored.
 use Rattle.std.specs.Prelude.{◌≡◌, ℕ, ◌==◌, Bool, true, false, List, [], ◌∷◌, Option, Some, None, cond, ◌&&◌, ◌||◌, not, count_by}
 use Rattle.std.specs.List.{list_any, filter_map}
-use Rattle.executor_core.specs.declared.interleave.events.Purpose.TheVariants.{ToPoll}
-use Rattle.executor_core.specs.declared.interleave.events.Event.{Event}
-use Rattle.executor_core.specs.declared.interleave.events.Event.TheVariants.{Spawned, Woken, Cancelled, Took, Returned, Finished, Dropped, Got}
+use Rattle.executor_core.specs.declared.interleave.event.Purpose.TheVariants.{ToPoll}
+use Rattle.executor_core.specs.declared.interleave.event.Event.{Event}
+use Rattle.executor_core.specs.declared.interleave.event.Event.TheVariants.{Spawned, Woken, Cancelled, Took, Returned, Finished, Dropped, Got}
 
 -- some element of the first kind is followed by none of the second
 abbrev pub unfollowed : {E : Type 0} → (E → Bool) → (E → Bool) → List E → Bool

@@ -1,12 +1,13 @@
--- What holds of every log, and of the queue, the flag and the sleepers beside it.
+-- What holds of every world: of its log, and of the queue, the flag and the sleepers beside it.
 use Rattle.std.specs.Prelude.{◌≡◌, ◌≢◌, ℕ, ◌+◌, ◌<◌, ◌≤◌, nat_lt, Bool, true, false, ◌||◌, List, [], ◌∷◌, ◌++◌, length, cond}
 use Rattle.std.specs.FinSet as set
 use Rattle.executor_core.specs.Numbers.{times}
 use Rattle.executor_core.specs.Sleepers.{SleeperList, is_notified}
+use Rattle.executor_core.specs.World.{Execution}
 use Rattle.executor_core.specs.World.Log.{cancelled, held, dropped, owed, outputs, given, polls, wakes}
-use Rattle.executor_core.specs.declared.interleave.events.Purpose.TheVariants.{ToPoll, ToDrop}
-use Rattle.executor_core.specs.declared.interleave.events.Event.{Event}
-use Rattle.executor_core.specs.declared.interleave.events.Event.TheVariants.{Took, Finished, Dropped, Got}
+use Rattle.executor_core.specs.declared.interleave.event.Purpose.TheVariants.{ToPoll, ToDrop}
+use Rattle.executor_core.specs.declared.interleave.event.Event.{Event}
+use Rattle.executor_core.specs.declared.interleave.event.Event.TheVariants.{Took, Finished, Dropped, Got}
 
 module _ {T : Type 0} where
   -- a task stands once in the queue where it is owed a poll or a drop, and else it does not
@@ -34,16 +35,46 @@ module _ {T : Type 0} where
   abbrev pub FewPolls : List (Event T) → Type 0
   FewPolls log = (n : ℕ) → polls n log ≤ 1 + wakes n log
 
--- no notice is lost
 module _ {W : Type 0} where
-  -- where the flag is true, no number is in use, or one is notified, or a pick is out
-  abbrev pub FlagLaw : Bool → SleeperList W → ℕ → Type 0
-  FlagLaw flag sleepers picks = flag ≡ true → is_notified sleepers || nat_lt 0 picks ≡ true
-
   -- more numbers are in use than stand in the list
   abbrev pub some_notified : SleeperList W → Bool
   some_notified sleepers = nat_lt (length sleepers.unnotified) (set.len sleepers.used)
 
-  -- where the queue is not empty and a number is in use, one is notified, or a notice or a pick is out
-  abbrev pub Covered : List ℕ → SleeperList W → ℕ → ℕ → Type 0
-  Covered queue sleepers notices picks = queue ≢ [] → 0 < set.len sleepers.used → some_notified sleepers || nat_lt 0 notices || nat_lt 0 picks ≡ true
+module _ {T : Type 0} where
+  -- the numbers of all queues together
+  abbrev pub all_queues : Execution T → List ℕ
+  all_queues w = w.global
+
+  -- the notices that any party may spend
+  abbrev pub floating_notices : Execution T → ℕ
+  floating_notices w = w.notices
+
+  -- the notices that are out, whoever has them
+  abbrev pub notices_out : Execution T → ℕ
+  notices_out w = floating_notices w
+
+  -- somebody has still to exchange the flag or to notify a sleeper: a notice or a pick is out
+  abbrev pub is_obliged : Execution T → Bool
+  is_obliged w = nat_lt 0 (notices_out w) || nat_lt 0 w.picks
+
+  -- where the flag is true, no number is in use, or one is notified, or a pick is out
+  abbrev pub FlagLaw : Execution T → Type 0
+  FlagLaw w = w.flag ≡ true → is_notified w.sleepers || nat_lt 0 w.picks ≡ true
+
+  -- where the global queue is not empty and a number is in use, one is notified, or an obligation is out
+  abbrev pub Covered : Execution T → Type 0
+  Covered w = w.global ≢ [] → 0 < set.len w.sleepers.used → some_notified w.sleepers || is_obliged w ≡ true
+
+  -- no notice is lost; and the list of sleepers is open exactly where somebody holds them: no step makes a holder yet
+  pub record NoNoticeLost (w : Execution T) : Type 0 where
+    pub flag_law : FlagLaw w
+    pub covered : Covered w
+    pub closed : w.sleepers.is_open ≡ false
+
+  -- what holds of every world
+  pub record KeepsPromises (w : Execution T) : Type 0 where
+    pub one_place : OnePlace w.log (all_queues w)
+    pub in_order : InOrder w.log
+    pub few_polls : FewPolls w.log
+    pub flag_law : FlagLaw w
+    pub covered : Covered w

@@ -3,15 +3,17 @@ use Rattle.std.specs.Prelude.{◌≡◌, ◌≢◌, ◌⊎◌, ℕ, ◌+◌, ◌
 use Rattle.executor_core.specs.World.Log.{spawned, dropped, cancelled, held, woken, idle, outputs}
 use Rattle.std.specs.Map.{keys_of}
 use Rattle.executor_core.specs.World.{Execution}
+use Rattle.executor_core.specs.World.Promises.{floating_notices}
 use Rattle.executor_core.specs.Sleepers.Calls.{no_sleepers, last_of, all_unnotified, after_notify}
-use Rattle.executor_core.specs.declared.interleave.tasks.TaskInfo.{TaskInfo}
-use Rattle.executor_core.specs.declared.interleave.events.Purpose.TheVariants.{ToPoll, ToDrop}
-use Rattle.executor_core.specs.declared.interleave.events.Event.{Event}
-use Rattle.executor_core.specs.declared.interleave.events.Event.TheVariants.{Spawned, Woken, Cancelled, Took, Returned, Finished, Dropped, Got}
-use Rattle.executor_core.specs.declared.interleave.steps.Step.{Step}
-use Rattle.executor_core.specs.declared.interleave.steps.Step.TheVariants.{Spawn, Wake, TryTick, Pend, Ready, PollHandle, Cancel, Detach, DropHandle, Dropped as DropDone, Exchange, Notify}
-use Rattle.executor_core.specs.declared.interleave.steps.Reply.{Reply}
-use Rattle.executor_core.specs.declared.interleave.steps.Reply.TheVariants as reply
+use Rattle.executor_core.specs.declared.interleave.entry.TaskInfo.{TaskInfo}
+use Rattle.executor_core.specs.declared.interleave.event.Purpose.{Purpose}
+use Rattle.executor_core.specs.declared.interleave.event.Purpose.TheVariants.{ToPoll, ToDrop}
+use Rattle.executor_core.specs.declared.interleave.event.Event.{Event}
+use Rattle.executor_core.specs.declared.interleave.event.Event.TheVariants.{Spawned, Woken, Cancelled, Took, Returned, Finished, Dropped, Got}
+use Rattle.executor_core.specs.declared.interleave.request.Step.{Step}
+use Rattle.executor_core.specs.declared.interleave.request.Step.TheVariants.{Spawn, Wake, TryTick, Pend, Ready, PollHandle, Cancel, Detach, DropHandle, Dropped as DropDone, Exchange, Notify}
+use Rattle.executor_core.specs.declared.interleave.reply.Reply.{Reply}
+use Rattle.executor_core.specs.declared.interleave.reply.Reply.TheVariants as reply
 
 -- what is known of a task, and of one that was not spawned
 abbrev pub no_info : TaskInfo
@@ -28,6 +30,10 @@ new_info slot = record { slot = slot; has_handle = true; awaited = false; to_dro
 -- a world before its first step
 abbrev pub opening : {T : Type 0} → ℕ → Execution T
 opening limit = record { log = []; accepted = 0; limit = limit; global = []; notices = 0; picks = 0; flag = true; sleepers = no_sleepers; tasks = [] }
+
+-- what a task is taken for
+abbrev pub purpose_of : Bool → Purpose
+purpose_of cancelled = cond cancelled ToDrop ToPoll
 
 -- the words of the rows
 module _ {T : Type 0} where
@@ -56,7 +62,11 @@ module _ {T : Type 0} where
   spawn_row slot w =
       noticed (queued (length w.tasks) (logged (Spawned (length w.tasks)) (record w { tasks = w.tasks ++ new_info slot ∷ [] })))
 
-  -- a task is marked so, and an idle one is queued
+  -- whether a task was queued
+  abbrev pub notice_reply : Bool → Reply T
+  notice_reply noticed = cond noticed reply.Notice reply.Nothing
+
+  -- a task is marked so, unless its future was dropped, and an idle one is queued
   abbrev pub mark_row : Event T → ℕ → Execution T → Reply T × Execution T
   mark_row e n w =
       cond (idle n w.log) (reply.Notice, noticed (queued n (logged e w)))
@@ -70,6 +80,10 @@ module _ {T : Type 0} where
   abbrev pub cancel_row : ℕ → Execution T → Reply T × Execution T
   cancel_row n w = mark_row (Cancelled n) n w
 
+  -- for what a task is taken, by whether it is cancelled
+  abbrev pub take_reply : ℕ → Bool → Reply T
+  take_reply n cancelled = cond cancelled (reply.Drop n) (reply.Poll n)
+
   -- trytick: the front of the global queue is taken
   abbrev pub take_row : List ℕ → Execution T → Reply T × Execution T
   take_row [] w = (reply.NoTask, w)
@@ -77,6 +91,10 @@ module _ {T : Type 0} where
       cond (cancelled n w.log)
       (reply.Drop n, noticed (logged (Took n ToDrop) (informed n (record (info n w) { to_drop = true }) (record w { global = rest }))))
       (reply.Poll n, noticed (logged (Took n ToPoll) (informed n (record (info n w) { to_drop = false }) (record w { global = rest }))))
+
+  -- where a future went back, by whether its task was queued
+  abbrev pub return_reply : ℕ → Bool → Reply T
+  return_reply n noticed = cond noticed (reply.Queued n) (reply.Idle n)
 
   -- pend n: the future goes back, unless the task was cancelled
   abbrev pub pend_row : ℕ → Execution T → Reply T × Execution T
@@ -121,9 +139,17 @@ module _ {T : Type 0} where
   abbrev pub detach_row : ℕ → Execution T → Reply T × Execution T
   detach_row n w = (output_reply (slice_get (outputs n w.log) 0), informed n (record (info n w) { has_handle = false; awaited = false }) w)
 
+  -- the end of a handle that may leave a notice
+  abbrev pub end_reply : Bool → Option T → Reply T
+  end_reply noticed output = cond noticed reply.Notice (output_reply output)
+
   -- drophandle n: a cancel, and then a detach
   abbrev pub drop_handle_row : ℕ → Execution T → Reply T × Execution T
   drop_handle_row n w = (cond (idle n w.log) reply.Notice (detach_row n w).0, (detach_row n (cancel_row n w).1).1)
+
+  -- whether a pick is out
+  abbrev pub pick_reply : Bool → Reply T
+  pick_reply picked = cond picked reply.Pick reply.Nothing
 
   -- exchange: a notice is spent, and a pick is out where the flag was false
   abbrev pub exchange_row : Execution T → Reply T × Execution T
@@ -134,6 +160,10 @@ module _ {T : Type 0} where
   abbrev pub notify_reply : Option ℕ → Reply T
   notify_reply None = reply.Nobody
   notify_reply (Some i) = reply.Sleeper i
+
+  -- whether the last sleeper, if there is one, was notified
+  abbrev pub sleeper_reply : Bool → Option ℕ → Reply T
+  sleeper_reply notified last = cond notified (notify_reply last) reply.Nobody
 
   -- notify: a pick is spent, and the one who went to sleep last is notified, unless somebody is already
   abbrev pub notify_row : Execution T → Reply T × Execution T
@@ -168,7 +198,7 @@ module _ {P T : Type 0} where
   enabled (Detach n) w = (info n w).has_handle
   enabled (DropHandle n) w = (info n w).has_handle
   enabled (DropDone n) w = held n w.log && (info n w).to_drop
-  enabled Exchange w = nat_lt 0 w.notices
+  enabled Exchange w = nat_lt 0 (floating_notices w)
   enabled Notify w = nat_lt 0 w.picks
 
   -- what an enabled step does
@@ -192,9 +222,14 @@ module _ {P T : Type 0} where
     pub not_now : old.accepted ≢ old.limit → enabled step old ≡ false → (answer ≡ reply.NotNow) × (new ≡ old)
     pub done : old.accepted ≢ old.limit → enabled step old ≡ true → Does step old answer new
 
-  -- these replies to these steps, one after another
+-- these replies to these steps, one after another, where a relation says what one step does
+abbrev pub FoldTo : {W S R : Type 0} → (W → S → R → W → Type 0) → W → List S → List R → W → Type 0
+FoldTo does old [] [] new = new ≡ old
+FoldTo {W} does old (step ∷ steps) (answer ∷ answers) new = (mid : W) × does old step answer mid × FoldTo does mid steps answers new
+FoldTo does old [] (answer ∷ answers) new = ⊥
+FoldTo does old (step ∷ steps) [] new = ⊥
+
+module _ {P T : Type 0} where
+  -- these replies to these steps of a world
   abbrev pub RunTo : Execution T → List (Step P T) → List (Reply T) → Execution T → Type 0
-  RunTo old [] [] new = new ≡ old
-  RunTo old (step ∷ steps) (answer ∷ answers) new = (mid : Execution T) × StepTo old step answer mid × RunTo mid steps answers new
-  RunTo old [] (answer ∷ answers) new = ⊥
-  RunTo old (step ∷ steps) [] new = ⊥
+  RunTo old steps answers new = FoldTo StepTo old steps answers new

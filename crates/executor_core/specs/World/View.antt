@@ -1,17 +1,29 @@
 -- How the fields of a `World` are seen, and what holds of them.
-use Rattle.std.specs.Prelude.{◌≡◌, ◌+◌, length}
-use Rattle.std.specs.Vec.{vec_capacity}
-use Rattle.executor_core.specs.World.Agreement.{Agree, HasRoom}
+use Rattle.std.specs.Prelude.{ℕ, ◌+◌, ◌*◌, ◌≤◌, List, length}
+use Rattle.executor_core.specs.Cells.{Table}
 use Rattle.executor_core.specs.World.{Execution}
-use Rattle.executor_core.specs.Sleepers.Calls.{no_sleepers}
+use Rattle.executor_core.specs.World.Agreement.{Agree}
+use Rattle.executor_core.specs.World.Entries.{infos}
+use Rattle.executor_core.specs.World.Promises.{NoNoticeLost, notices_out}
+use Rattle.executor_core.specs.declared.interleave.entry.TaskEntry.{TaskEntry}
 use Rattle.executor_core.specs.declared.interleave.World.TheInside.{Inside}
+
+module _ {T : Type 0} where
+  -- there is room for the events that the steps to come add, and for what they leave to be spent
+  pub record HasRoom (w : Execution T) (capacity : ℕ) : Type 0 where
+    pub within : w.accepted ≤ w.limit
+    pub bounded : w.limit ≤ 1000000
+    pub few_unspent : w.picks + notices_out w ≤ w.accepted
+    pub few_tasks : length w.tasks ≤ w.accepted
+    pub few_events : length w.log ≤ 2 * w.accepted
+    pub enough : 3 * w.limit ≤ capacity
 
 module _ {P T : Type 0} where
   abbrev pub execution_of : Inside P T → Execution T
-  execution_of a = record { log = a.log.items; accepted = a.accepted; limit = a.limit; global = a.core.cells.global; notices = a.notices; picks = a.picks; flag = a.core.flag; sleepers = a.core.sleepers; tasks = a.tasks.items }
+  execution_of a = record { log = a.log.items; accepted = a.accepted; limit = a.limit; global = a.core.cells.global; notices = a.notices; picks = a.picks; flag = a.core.flag; sleepers = a.core.sleepers; tasks = infos a.entries.items }
 
-  pub record IsWorld (a : Inside P T) : Type 0 where
-    pub agree : Agree a.core.cells a.log.items a.tasks.items a.out.items
-    -- no step puts a sleeper in yet
-    pub nobody : a.core.sleepers ≡ no_sleepers
-    pub room : HasRoom a.accepted a.limit (a.picks + a.notices) (length a.tasks.items) (length a.log.items) (vec_capacity a.log)
+  -- what is seen, the cells, what is kept of the tasks, and the room of the log fit together
+  pub record IsWorld (w : Execution T) (table : Table P T (Unit {0})) (entries : List (TaskEntry P)) (capacity : ℕ) : Type 0 where
+    pub agree : Agree table w.log entries
+    pub notices : NoNoticeLost w
+    pub room : HasRoom w capacity

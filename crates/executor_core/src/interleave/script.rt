@@ -2,7 +2,7 @@
 ghost use Rattle.std.specs.Prelude.{◌≡◌, false, true};
 ghost use Rattle.executor_core.specs.Polling.{polled_output};
 
-use crate::interleave::tasks::FutureOut;
+use crate::interleave::entry::FutureOut;
 use crate::task::{Held, Polled, Poller, Ran, Taken, TaskId, run_taken};
 
 /// Answers each poll with this output, or pending where there is none.

@@ -275,7 +275,8 @@ impl<W> Sleepers<W> {
 
     /// How many sleepers stand in the list.
     pub fn len(&self) -> usize
-        ensures { result ≡ length self.now.unnotified }
+        ensures answer { result ≡ length self.now.unnotified }
+        ensures law { SleeperLaw self.now }
     {
         self.unnotified.len()
     }

@@ -1,34 +1,24 @@
-use Rattle.std.proofs.Common.{◌≡◌, ◌≢◌, subst, sym, ap, ◌∙◌, true, is_some}
-use Rattle.std.specs.Prelude.{slice_set}
-use Rattle.executor_core.specs.World.Log.{held}
-use Rattle.executor_core.specs.Cells.Calls.{cell_at, after_end_dropped, dropped_answer}
-use Rattle.executor_core.proofs.StepLemmas.{and_left}
-use Rattle.executor_core.proofs.DropLemmas.{drop_step}
-use Rattle.executor_core.proofs.RowLemmas.{dropped_gone}
-use Rattle.executor_core.proofs.RoomLemmas.{room_step, one_event, more, tasks_same}
+use Rattle.std.proofs.Common.{◌∙◌, is_some, sym, ap, refl}
+use Rattle.std.proofs.lemmas.Bool.{false≢true}
+use Rattle.executor_core.proofs.World.Agreement.{held_out, held_within}
+use Rattle.executor_core.proofs.World.Polls.{drop_done}
+use Rattle.executor_core.proofs.World.Room.{step_fits, event_fits}
 use Rattle.executor_core.proofs.interleave.World.dropped.Goals as goal
 
+pub begin-info-requires : goal.begin-info-requires
+begin-info-requires g c = record { room = step_fits c.self.invariant.room c.self.view_is c.requires.room; spawned = held_within c.self.inside c.self.invariant c.self.view_is c.args.n _ c.requires.enabled }
+
+pub set_entry-requires : goal.set_entry-requires
+set_entry-requires g c = held_within c.self.inside c.self.invariant c.self.view_is c.args.n _ c.requires.enabled
+
+pub unreachable-requires : goal.unreachable-requires
+unreachable-requires g c = false≢true (ap is_some (sym c.in_default.is) ∙ c.set_entry.ensures.before ∙ held_out c.self.inside c.self.invariant c.self.view_is c.args.n _ c.requires.enabled)
+
+pub push_reserved-requires : goal.push_reserved-requires
+push_reserved-requires g c = event_fits c.self.invariant.room c.self.view_is c.requires.room c.self.inside.log.ok.0
+
 pub invariant_of-self : goal.invariant_of-self
-invariant_of-self g c =
-    let found = c.known_info-info.ensures in
-    let held_now : held c.args.n c.self.inside.log.items ≡ true = subst (λ w. held c.args.n w.log ≡ true) (sym c.self.view_is) (and_left _ _ c.requires.enabled) in
-    let set = c.set_info.ensures ∙ ap (λ i. slice_set c.self.inside.tasks.items c.args.n i) c.with_awaited.ensures in
-    let same = ap (λ h. h.id) c.drop_future-held.ensures ∙ c.id.ensures in
-    let table = c.end_dropped-awaiter.ensures.table ∙ ap (λ i. after_end_dropped c.self.inside.core.cells i) same in
-    let step = drop_step c.self.invariant.agree c.args.n c.known_info-info.result found held_now _ _ set c.replace_future.ensures.out in
-    record {
-      agree = rw (table, c.push_reserved.ensures.items) step.holds;
-      nobody = c.end_dropped-awaiter.ensures.rest.1 ∙ c.self.invariant.nobody;
-      room = room_step c.self.invariant.room (subst (λ w. w.accepted ≢ w.limit) (sym c.self.view_is) c.requires.room) _ _ _ _ (more _) (tasks_same _ _ _ _ set) (one_event _ _ _ c.push_reserved.ensures.items) (sym c.push_reserved.ensures.capacity);
-    }
+invariant_of-self g c = (drop_done c.self.inside c.self.invariant c.self.view_is c.requires.room c.args.n c.begin-info.ensures.found _ c.requires.enabled c.begin-info.ensures.counted c.push_reserved.ensures.capacity c.id.ensures c.drop_future-held.ensures c.end_dropped-awaiter.ensures.state c.end_dropped-awaiter.ensures.answer c.with_awaited.ensures c.set_entry.ensures.items c.push_reserved.ensures.items c.has_awaiter.ensures refl).sound
 
 pub returns : goal.returns
-returns g c =
-    let found = c.known_info-info.ensures in
-    let held_now : held c.args.n c.self.inside.log.items ≡ true = subst (λ w. held c.args.n w.log ≡ true) (sym c.self.view_is) (and_left _ _ c.requires.enabled) in
-    let set = c.set_info.ensures ∙ ap (λ i. slice_set c.self.inside.tasks.items c.args.n i) c.with_awaited.ensures in
-    let same = ap (λ h. h.id) c.drop_future-held.ensures ∙ c.id.ensures in
-    let table = c.end_dropped-awaiter.ensures.table ∙ ap (λ i. after_end_dropped c.self.inside.core.cells i) same in
-    let answer = c.end_dropped-awaiter.ensures.answer ∙ ap (λ i. dropped_answer (cell_at c.self.inside.core.cells i)) same in
-    let step = drop_step c.self.invariant.agree c.args.n c.known_info-info.result found held_now _ _ set c.replace_future.ensures.out in
-    rw (← c.self.view_is, c.end_dropped-awaiter.ensures.rest.0, c.end_dropped-awaiter.ensures.rest.1) (dropped_gone _ _ _ _ _ _ _ _ _ c.args.n c.known_info-info.result found _ _ _ _ (c.has_awaiter.ensures ∙ ap is_some answer ∙ step.awaiter) (ap (λ s. s.global) table ∙ step.global) c.push_reserved.ensures.items set)
+returns g c = (drop_done c.self.inside c.self.invariant c.self.view_is c.requires.room c.args.n c.begin-info.ensures.found _ c.requires.enabled c.begin-info.ensures.counted c.push_reserved.ensures.capacity c.id.ensures c.drop_future-held.ensures c.end_dropped-awaiter.ensures.state c.end_dropped-awaiter.ensures.answer c.with_awaited.ensures c.set_entry.ensures.items c.push_reserved.ensures.items c.has_awaiter.ensures refl).does

@@ -1,26 +1,25 @@
-use Rattle.std.proofs.Common.{◌≢◌, ◌++◌, ◌∷◌, [], subst, sym, ap, ◌∙◌, inr}
-use Rattle.executor_core.specs.declared.interleave.events.Event.TheVariants.{Spawned}
-use Rattle.executor_core.specs.declared.interleave.steps.Reply.TheVariants.{Task}
-use Rattle.executor_core.proofs.ListLemmas.{push_items}
-use Rattle.executor_core.proofs.StepLemmas.{spawn_step, free_slot}
-use Rattle.executor_core.proofs.RowLemmas.{spawn_row_is}
-use Rattle.executor_core.proofs.RoomLemmas.{room_step, one_event, one_notice, one_task}
+use Rattle.std.proofs.Common.{◌∙◌, sym}
+use Rattle.executor_core.proofs.World.Room.{count_fits, event_fits, notice_fits, reserved_fits}
+use Rattle.executor_core.proofs.World.Spawns.{last_unreached, spawn_done}
 use Rattle.executor_core.proofs.interleave.World.spawn.Goals as goal
 
+pub overflow_add-self : goal.overflow_add-self
+overflow_add-self g c = count_fits c.self.invariant.room c.self.view_is c.requires.room
+
+pub keep_notice-requires : goal.keep_notice-requires
+keep_notice-requires g c = notice_fits c.self.invariant.room
+
+pub push_reserved-requires : goal.push_reserved-requires
+push_reserved-requires g c = reserved_fits c.try_reserve.result c.try_reserve.ensures.ok (sym c.is_err.ensures.value ∙ c.if-is_err.false)
+
+pub push_reserved-requires-2 : goal.push_reserved-requires-2
+push_reserved-requires-2 g c = event_fits c.self.invariant.room c.self.view_is c.requires.room c.self.inside.log.ok.0
+
+pub unreachable-requires : goal.unreachable-requires
+unreachable-requires g c = last_unreached c.self.inside c.self.invariant c.self.view_is c.requires.room (rw c.in-Err-Exhausted.field-0-is at c.in-Err-Exhausted.ensures.cause).1
+
 pub invariant_of-self-2 : goal.invariant_of-self-2
-invariant_of-self-2 g c =
-    let log_is = c.push_reserved-3.ensures.items ∙ ap (λ k. c.self.inside.log.items ++ Spawned k ∷ []) c.in-Ok.ensures.id in
-    let tasks_is = push_items _ _ _ _ c.push_reserved.ensures.items c.try_reserve.ensures.items in
-    let out_is = push_items _ _ _ _ c.push_reserved-2.ensures.items c.try_reserve-2.ensures.items in
-    record {
-      agree = rw (c.in-Ok.ensures.ok, log_is, tasks_is, out_is) (spawn_step c.self.invariant.agree c.in-Ok.spawned.0.slot c.args.future);
-      nobody = c.spawn.ensures.rest.1 ∙ c.self.invariant.nobody;
-      room = room_step c.self.invariant.room (subst (λ w. w.accepted ≢ w.limit) (sym c.self.view_is) c.requires) _ _ _ _ (one_notice _ _) (one_task _ _ _ tasks_is) (one_event _ _ _ c.push_reserved-3.ensures.items) (sym c.push_reserved-3.ensures.capacity);
-    }
+invariant_of-self-2 g c = (spawn_done c.self.inside c.self.invariant c.self.view_is c.requires.room c.in-Ok.spawned.0.slot c.args.future c.in-Ok.ensures.id c.in-Ok.ensures.free c.in-Ok.ensures.ok c.new.ensures c.push_reserved.ensures.items c.try_reserve.ensures.items c.push_reserved-2.ensures.items c.keep_notice.ensures.counted c.push_reserved-2.ensures.capacity).0
 
 pub returns : goal.returns
-returns g c =
-    let tasks_is = push_items _ _ _ _ c.push_reserved.ensures.items c.try_reserve.ensures.items in
-    let last = c.in-Ok.ensures.id ∙ c.self.invariant.agree.next in
-    let queue = ap (λ s. s.global) c.in-Ok.ensures.ok ∙ ap (λ k. c.self.inside.core.cells.global ++ k ∷ []) (sym c.in-Ok.ensures.id) in
-    rw (← c.self.view_is, c.spawn.ensures.rest.0, c.spawn.ensures.rest.1) (inr (c.in-Ok.spawned.0.slot, free_slot c.self.invariant.agree c.in-Ok.spawned.0.slot c.in-Ok.ensures.free, ap Task last, spawn_row_is _ _ _ _ _ _ _ _ _ c.in-Ok.spawned.0.slot _ _ _ _ last queue c.push_reserved-3.ensures.items tasks_is))
+returns g c = (spawn_done c.self.inside c.self.invariant c.self.view_is c.requires.room c.in-Ok.spawned.0.slot c.args.future c.in-Ok.ensures.id c.in-Ok.ensures.free c.in-Ok.ensures.ok c.new.ensures c.push_reserved.ensures.items c.try_reserve.ensures.items c.push_reserved-2.ensures.items c.keep_notice.ensures.counted c.push_reserved-2.ensures.capacity).1

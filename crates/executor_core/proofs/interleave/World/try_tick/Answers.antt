@@ -1,44 +1,31 @@
-use Rattle.std.proofs.Common.{◌≢◌, subst, sym, ap, ◌∙◌}
-use Rattle.std.specs.Prelude.{slice_set}
-use Rattle.executor_core.proofs.StepLemmas.{take_to_drop, take_to_poll, cancelled_front}
-use Rattle.executor_core.proofs.RowLemmas.{tick_drop, tick_poll}
-use Rattle.executor_core.proofs.RoomLemmas.{room_step, one_event, one_notice, tasks_same}
+use Rattle.std.proofs.Common.{refl}
+use Rattle.executor_core.proofs.World.Polls.{taken_within, take_done, take_none}
+use Rattle.executor_core.proofs.World.Room.{count_fits, step_fits, event_fits, notice_fits}
 use Rattle.executor_core.proofs.interleave.World.try_tick.Goals as goal
 
-pub invariant_of-self-then-cancelled : goal.invariant_of-self-then-cancelled
-invariant_of-self-then-cancelled g c =
-    let t = c.in-Some.ensures.some in
-    let found = c.known_info-info.ensures in
-    let set = c.set_info.ensures ∙ ap (λ i. slice_set c.self.inside.tasks.items c.in-Some.taken.id.number i) c.with_to_drop.ensures ∙ ap (λ b. slice_set c.self.inside.tasks.items c.in-Some.taken.id.number (record c.known_info-info.result { to_drop = b })) c.if-cancelled.true in
-    record {
-      agree = rw (c.take_global.ensures.table, c.push_reserved.ensures.items, set, c.replace_future.ensures.out)
-          (take_to_drop c.self.invariant.agree _ _ _ t.taken.cell c.in-Some.taken.future t.front t.taken.found t.taken.future c.known_info-info.result found (sym t.taken.cancelled ∙ c.if-cancelled.true));
-      nobody = c.take_global.ensures.rest.1 ∙ c.self.invariant.nobody;
-      room = room_step c.self.invariant.room (subst (λ w. w.accepted ≢ w.limit) (sym c.self.view_is) c.requires.room) _ _ _ _ (one_notice _ _) (tasks_same _ _ _ _ set) (one_event _ _ _ c.push_reserved.ensures.items) (sym c.push_reserved.ensures.capacity);
-    }
+pub overflow_add-self : goal.overflow_add-self
+overflow_add-self g c = count_fits c.self.invariant.room c.self.view_is c.requires.room
 
-pub invariant_of-self-else-cancelled : goal.invariant_of-self-else-cancelled
-invariant_of-self-else-cancelled g c =
-    let t = c.in-Some.ensures.some in
-    let found = c.known_info-info.ensures in
-    let set = c.set_info.ensures ∙ ap (λ i. slice_set c.self.inside.tasks.items c.in-Some.taken.id.number i) c.with_to_drop.ensures ∙ ap (λ b. slice_set c.self.inside.tasks.items c.in-Some.taken.id.number (record c.known_info-info.result { to_drop = b })) c.if-cancelled.false in
-    record {
-      agree = rw (c.take_global.ensures.table, c.push_reserved-else-cancelled.ensures.items, set, c.replace_future.ensures.out)
-          (take_to_poll c.self.invariant.agree _ _ _ t.taken.cell c.in-Some.taken.future t.front t.taken.found t.taken.future c.known_info-info.result found (sym t.taken.cancelled ∙ c.if-cancelled.false));
-      nobody = c.take_global.ensures.rest.1 ∙ c.self.invariant.nobody;
-      room = room_step c.self.invariant.room (subst (λ w. w.accepted ≢ w.limit) (sym c.self.view_is) c.requires.room) _ _ _ _ (one_notice _ _) (tasks_same _ _ _ _ set) (one_event _ _ _ c.push_reserved-else-cancelled.ensures.items) (sym c.push_reserved-else-cancelled.ensures.capacity);
-    }
+pub begin-requires : goal.begin-requires
+begin-requires g c = record { room = step_fits c.self.invariant.room c.self.view_is c.requires.room; spawned = taken_within c.self.invariant c.in-Some.ensures.some.taken }
 
-pub returns-then-cancelled : goal.returns-then-cancelled
-returns-then-cancelled g c =
-    let t = c.in-Some.ensures.some in
-    let found = c.known_info-info.ensures in
-    let set = c.set_info.ensures ∙ ap (λ i. slice_set c.self.inside.tasks.items c.in-Some.taken.id.number i) c.with_to_drop.ensures ∙ ap (λ b. slice_set c.self.inside.tasks.items c.in-Some.taken.id.number (record c.known_info-info.result { to_drop = b })) c.if-cancelled.true in
-    rw (← c.self.view_is, c.take_global.ensures.rest.0, c.take_global.ensures.rest.1) (tick_drop _ _ _ _ _ _ _ _ _ _ c.known_info-info.result found _ _ _ t.front (sym (cancelled_front c.self.invariant.agree _ _ _ t.taken.cell c.in-Some.taken.future t.front t.taken.found t.taken.future c.known_info-info.result found) ∙ sym t.taken.cancelled ∙ c.if-cancelled.true) c.push_reserved.ensures.items set)
+pub set_entry-requires : goal.set_entry-requires
+set_entry-requires g c = taken_within c.self.invariant c.in-Some.ensures.some.taken
 
-pub returns-else-cancelled : goal.returns-else-cancelled
-returns-else-cancelled g c =
-    let t = c.in-Some.ensures.some in
-    let found = c.known_info-info.ensures in
-    let set = c.set_info.ensures ∙ ap (λ i. slice_set c.self.inside.tasks.items c.in-Some.taken.id.number i) c.with_to_drop.ensures ∙ ap (λ b. slice_set c.self.inside.tasks.items c.in-Some.taken.id.number (record c.known_info-info.result { to_drop = b })) c.if-cancelled.false in
-    rw (← c.self.view_is, c.take_global.ensures.rest.0, c.take_global.ensures.rest.1) (tick_poll _ _ _ _ _ _ _ _ _ _ c.known_info-info.result found _ _ _ t.front (sym (cancelled_front c.self.invariant.agree _ _ _ t.taken.cell c.in-Some.taken.future t.front t.taken.found t.taken.future c.known_info-info.result found) ∙ sym t.taken.cancelled ∙ c.if-cancelled.false) c.push_reserved-else-cancelled.ensures.items set)
+pub keep_notice-requires : goal.keep_notice-requires
+keep_notice-requires g c = notice_fits c.self.invariant.room
+
+pub push_reserved-requires : goal.push_reserved-requires
+push_reserved-requires g c = event_fits c.self.invariant.room c.self.view_is c.requires.room c.self.inside.log.ok.0
+
+pub invariant_of-self-2 : goal.invariant_of-self-2
+invariant_of-self-2 g c = (take_done c.self.inside c.self.invariant c.self.view_is c.requires.room c.in-Some.ensures.some c.begin.ensures.found c.begin.ensures.counted c.take_global.ensures.state c.with_to_drop-info.ensures c.set_entry.ensures.items c.of.ensures c.push_reserved.ensures.items c.keep_notice.ensures.counted c.push_reserved.ensures.capacity c.reply_of_take.ensures).sound
+
+pub returns : goal.returns
+returns g c = (take_done c.self.inside c.self.invariant c.self.view_is c.requires.room c.in-Some.ensures.some c.begin.ensures.found c.begin.ensures.counted c.take_global.ensures.state c.with_to_drop-info.ensures c.set_entry.ensures.items c.of.ensures c.push_reserved.ensures.items c.keep_notice.ensures.counted c.push_reserved.ensures.capacity c.reply_of_take.ensures).does
+
+pub invariant_of-self : goal.invariant_of-self
+invariant_of-self g c = (take_none c.self.inside c.self.invariant c.self.view_is c.requires.room c.in_default.ensures.none c.take_global.ensures.state).sound
+
+pub returns-in_default : goal.returns-in_default
+returns-in_default g c = (take_none c.self.inside c.self.invariant c.self.view_is c.requires.room c.in_default.ensures.none c.take_global.ensures.state).does

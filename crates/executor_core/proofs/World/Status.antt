@@ -2,8 +2,8 @@
 use Rattle.std.specs.Prelude.{ℕ, ◌+◌, List, [], ◌∷◌, ◌++◌, Option, Some, None, cond, ◌&&◌, ◌||◌, not}
 use Rattle.executor_core.specs.World.Log.{is_spawn, is_wake, is_cancel, is_take, is_poll, is_drop, is_end, output_in, given_in}
 use Rattle.executor_core.specs.World.Agreement.{Status}
-use Rattle.executor_core.specs.declared.interleave.events.Event.{Event}
-use Rattle.executor_core.specs.declared.interleave.events.Event.TheVariants.{Spawned, Woken, Cancelled, Took, Returned, Finished, Dropped, Got}
+use Rattle.executor_core.specs.declared.interleave.event.Event.{Event}
+use Rattle.executor_core.specs.declared.interleave.event.Event.TheVariants.{Spawned, Woken, Cancelled, Took, Returned, Finished, Dropped, Got}
 
 -- the list with one more item, where there is one
 abbrev pub with_some : {X : Type 0} → Option X → List X → List X

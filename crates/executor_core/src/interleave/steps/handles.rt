@@ -3,9 +3,11 @@ ghost use Rattle.std.specs.Prelude.{◌≡◌, ◌≢◌, true};
 ghost use Rattle.executor_core.specs.World.Steps.{info, row, handle_row, cancel_row, detach_row, drop_handle_row};
 
 use crate::interleave::World;
-use crate::interleave::events::Event;
-use crate::interleave::steps::{Reply, reply_of_output};
-use crate::interleave::tasks::{known_info, set_info};
+use crate::interleave::entry::set_info;
+use crate::interleave::event::{Event, log_if};
+use crate::interleave::reply::{Reply, reply_of_end, reply_of_notice, reply_of_output};
+use crate::interleave::steps::begin;
+use crate::interleave::steps::notices::keep_notice;
 use crate::task::PollHandle;
 
 impl<P: Drop, T: Copy> World<P, T> {
@@ -14,21 +16,19 @@ impl<P: Drop, T: Copy> World<P, T> {
         requires enabled { (info n self.old).has_handle ≡ true }
         ensures { row (handle_row n self.old) result self.new }
     {
-        self.accepted += 1;
-        let info = known_info(&self.tasks, n);
-        let id = info.id(n);
-        match self.core.poll_handle(id, ()) {
+        let info = begin(&mut self.accepted, &self.entries, n);
+        match self.core.poll_handle(info.id(n), ()) {
             PollHandle::Output(output, _) => {
                 self.log.push_reserved(Event::Got(n, output));
-                set_info(&mut self.tasks, n, info.without_handle());
+                set_info(&mut self.entries, n, info.without_handle());
                 Reply::Output(output)
             }
             PollHandle::Cancelled(_) => {
-                set_info(&mut self.tasks, n, info.without_handle());
+                set_info(&mut self.entries, n, info.without_handle());
                 Reply::Cancelled
             }
             PollHandle::Pending(_) => {
-                set_info(&mut self.tasks, n, info.with_awaited(true));
+                set_info(&mut self.entries, n, info.with_awaited(true));
                 Reply::Pending
             }
         }
@@ -39,25 +39,11 @@ impl<P: Drop, T: Copy> World<P, T> {
         requires enabled { (info n self.old).has_handle ≡ true }
         ensures { row (cancel_row n self.old) result self.new }
     {
-        self.accepted += 1;
-        let info = known_info(&self.tasks, n);
-        let id = info.id(n);
+        let id = begin(&mut self.accepted, &self.entries, n).id(n);
         let undropped = self.core.cells.is_undropped(id);
-        match self.core.cancel(id) {
-            Some(notice) => {
-                notice.keep();
-                self.notices += 1;
-                self.log.push_reserved(Event::Cancelled(n));
-                Reply::Notice
-            }
-            None => {
-                if !undropped {
-                    return Reply::Nothing;
-                }
-                self.log.push_reserved(Event::Cancelled(n));
-                Reply::Nothing
-            }
-        }
+        log_if(&mut self.log, undropped, Event::Cancelled(n));
+        let notice = self.core.cancel(id);
+        reply_of_notice(keep_notice(&mut self.notices, notice))
     }
 
     pub(crate) fn detach(&mut self, n: u64) -> Reply<T>
@@ -65,13 +51,8 @@ impl<P: Drop, T: Copy> World<P, T> {
         requires enabled { (info n self.old).has_handle ≡ true }
         ensures { row (detach_row n self.old) result self.new }
     {
-        self.accepted += 1;
-        let info = known_info(&self.tasks, n);
-        set_info(
-            &mut self.tasks,
-            n,
-            info.without_handle().with_awaited(false),
-        );
+        let info = begin(&mut self.accepted, &self.entries, n);
+        set_info(&mut self.entries, n, info.detached());
         let (output, _) = self.core.detach(info.id(n));
         reply_of_output(output)
     }
@@ -81,30 +62,12 @@ impl<P: Drop, T: Copy> World<P, T> {
         requires enabled { (info n self.old).has_handle ≡ true }
         ensures { row (drop_handle_row n self.old) result self.new }
     {
-        self.accepted += 1;
-        let info = known_info(&self.tasks, n);
-        set_info(
-            &mut self.tasks,
-            n,
-            info.without_handle().with_awaited(false),
-        );
+        let info = begin(&mut self.accepted, &self.entries, n);
+        set_info(&mut self.entries, n, info.detached());
         let id = info.id(n);
         let undropped = self.core.cells.is_undropped(id);
+        log_if(&mut self.log, undropped, Event::Cancelled(n));
         let (notice, output, _) = self.core.drop_handle(id);
-        match notice {
-            Some(notice) => {
-                notice.keep();
-                self.notices += 1;
-                self.log.push_reserved(Event::Cancelled(n));
-                Reply::Notice
-            }
-            None => {
-                if !undropped {
-                    return reply_of_output(output);
-                }
-                self.log.push_reserved(Event::Cancelled(n));
-                Reply::Nothing
-            }
-        }
+        reply_of_end(keep_notice(&mut self.notices, notice), output)
     }
 }

@@ -8,10 +8,10 @@ use Rattle.std.specs.List.{list_any, filter_map}
 use Rattle.std.proofs.lemmas.List.Elements.{filter_map-append}
 use Rattle.executor_core.specs.World.Promises.{InOrder, MayFollow}
 use Rattle.executor_core.specs.World.Agreement.{Status, status}
-use Rattle.executor_core.proofs.StatusLemmas.{with_event, task_of, with_some}
-use Rattle.executor_core.specs.declared.interleave.events.Purpose.TheVariants.{ToPoll, ToDrop}
-use Rattle.executor_core.specs.declared.interleave.events.Event.{Event}
-use Rattle.executor_core.specs.declared.interleave.events.Event.TheVariants.{Spawned, Woken, Cancelled, Took, Returned, Finished, Dropped, Got}
+use Rattle.executor_core.proofs.World.Status.{with_event, task_of, with_some}
+use Rattle.executor_core.specs.declared.interleave.event.Purpose.TheVariants.{ToPoll, ToDrop}
+use Rattle.executor_core.specs.declared.interleave.event.Event.{Event}
+use Rattle.executor_core.specs.declared.interleave.event.Event.TheVariants.{Spawned, Woken, Cancelled, Took, Returned, Finished, Dropped, Got}
 
 self : (n : ℕ) → (n == n) ≡ true
 self n = eq-eqb n n refl

@@ -1,0 +1,416 @@
+-- A task is taken, and its poll ends.
+use Rattle.std.proofs.Common.{◌≡◌, ◌≢◌, ℕ, ◌+◌, ◌<◌, ◌≤◌, ◌||◌, ◌&&◌, not, Bool, true, false, List, [], ◌∷◌, ◌++◌, length, Option, Some, None, is_some, cond, refl, sym, ap, subst, ◌∙◌, inl, inr, arith}
+use Rattle.std.proofs.lemmas.Bool.{cases_Bool, and_parts, and_right, or_left, or_right, not-true, cond-true, cond-false}
+use Rattle.std.specs.Prelude.{slice_get, slice_set}
+use Rattle.std.specs.List.{list_any}
+use Rattle.std.specs.FinMap as map
+use Rattle.std.specs.Vec.{vec_capacity}
+use Rattle.executor_core.specs.Cells.{Slotted, Table}
+use Rattle.executor_core.specs.Cell.{is_held}
+use Rattle.executor_core.specs.Cells.Calls.{cell_at, cancelled_in, woken_in, takes_back_in, with_cell, without_cell, queued_if, IsTaken, TakesFront, after_take, take_first, with_taken_at, after_end_pending, end_pending_at, after_end_ready, end_ready_at, ready_answer, after_end_dropped, end_dropped_at, dropped_answer}
+use Rattle.executor_core.specs.Cell.Changes.{taken, takes_back, pended, readied, disposed, wakeup_of}
+use Rattle.executor_core.specs.World.{Execution}
+use Rattle.executor_core.specs.World.Entries.{infos, is_out, is_unpolled, is_unpolled_future, PolledAgrees}
+use Rattle.executor_core.specs.World.Log.{unfollowed, is_cancel, is_take, cancelled, held, woken}
+use Rattle.executor_core.specs.World.Promises.{MayFollow, InOrder}
+use Rattle.executor_core.specs.World.Steps.{info, info_or, purpose_of, row, take_reply, take_row, return_reply, pend_row, ready_reply, ready_row, dropped_row}
+use Rattle.executor_core.specs.World.View.{execution_of, IsWorld}
+use Rattle.executor_core.specs.World.Agreement.{Status, status, FewPollsFor, IsUndropped, StateAgrees, NumberAgrees, Agree}
+use Rattle.executor_core.proofs.BoolLemmas.{not-not, or-without_last}
+use Rattle.executor_core.proofs.ListLemmas.{within_get, length-push, length-slice_set, set-here, set_again}
+use Rattle.executor_core.proofs.World.Entries.{infos-set, entry_of, info_at}
+use Rattle.executor_core.proofs.World.Room.{length-push_if}
+use Rattle.executor_core.proofs.World.Steps.{stepped, Done, stepped_sound}
+use Rattle.executor_core.proofs.World.Log.{on_poll, on_take, on_return, on_drop, on_finish, order-push, status_other}
+use Rattle.executor_core.proofs.World.Agreement.{id_of, out_is, held_state, state_agrees, CellAt, held_cell, agreed_at, LogChange, log_same, log_pushed, entry_set, cell_put, cell_removed, cell_same, agree_again}
+use Rattle.executor_core.specs.declared.task.cell.Cell.{Cell}
+use Rattle.executor_core.specs.declared.task.cell.CellState.{CellState}
+use Rattle.executor_core.specs.declared.task.cell.CellState.TheVariants.{Idle, Scheduled, Held, Finished, Gone}
+use Rattle.executor_core.specs.declared.plain_core.Core.{Core}
+use Rattle.executor_core.specs.declared.task.id.TaskId.{TaskId}
+use Rattle.executor_core.specs.declared.task.table.EndReady.{EndReady}
+use Rattle.executor_core.specs.declared.task.values.Held.{Held as HeldTask}
+use Rattle.executor_core.specs.declared.task.values.Taken.{Taken}
+use Rattle.executor_core.specs.declared.task.values.Wakeup.{Wakeup}
+use Rattle.executor_core.specs.declared.interleave.World.TheInside.{Inside}
+use Rattle.executor_core.specs.declared.interleave.entry.TaskInfo.{TaskInfo}
+use Rattle.executor_core.specs.declared.interleave.entry.FutureOut.{FutureOut}
+use Rattle.executor_core.specs.declared.interleave.entry.FutureOut.TheVariants.{Unpolled, Polled}
+use Rattle.executor_core.specs.declared.interleave.entry.TaskEntry.{TaskEntry}
+use Rattle.executor_core.specs.declared.interleave.event.Purpose.{Purpose}
+use Rattle.executor_core.specs.declared.interleave.event.Event.{Event}
+use Rattle.executor_core.specs.declared.interleave.reply.Reply.{Reply}
+use Rattle.executor_core.specs.declared.interleave.reply.Reply.TheVariants.{NoTask, Drop, Gone as GoneReply}
+use Rattle.executor_core.specs.declared.interleave.event.Event.TheVariants.{Took, Returned, Finished as Finish, Dropped}
+
+few_poll : (a w : ℕ) (b : Bool) → b ≡ true → a + cond b 1 0 ≤ 1 + w → (1 + a) + 0 ≤ 1 + w
+few_poll a w true e h = omega arith
+few_poll a w false e h = absurd (cc)
+
+few_take : (a w : ℕ) (b : Bool) → a + cond b 1 0 ≤ 1 + w → a + 0 ≤ 1 + w
+few_take a w true h = omega arith
+few_take a w false h = omega arith
+
+unfollowed-list_any : {E : Type 0} (f g : E → Bool) (log : List E) → list_any f log ≡ false → unfollowed f g log ≡ false
+unfollowed-list_any f g [] h = refl
+unfollowed-list_any f g (x ∷ rest) h =
+    elim (cases_Bool (f x)) [
+      | inl is ↦ absurd (cc (sym h ∙ ap (λ b. b || list_any f rest) is))
+      | inr is ↦ ap (λ b. (b && not (list_any g rest)) || unfollowed f g rest) is ∙ unfollowed-list_any f g rest (sym (ap (λ b. b || list_any f rest) is) ∙ h)
+    ]
+
+wakeup_some : (o : Option (Unit {0})) → is_some (wakeup_of o) ≡ is_some o
+wakeup_some None = refl
+wakeup_some (Some w) = refl
+
+module _ {P T : Type 0} {table : Table P T (Unit {0})} {log : List (Event T)} {entries : List (TaskEntry P)} (agree : Agree table log entries) (n : ℕ) (e : TaskEntry P) (found : slice_get entries n ≡ Some e) where
+  -- the front of the queue is taken
+  module _ (rest : List ℕ) (slotted : Slotted P T (Unit {0})) (p : P) (front : table.global ≡ n ∷ rest) (here : map.get table.cells n ≡ Some slotted) (state : slotted.cell.state ≡ Scheduled p) where
+    took_is : after_take table ≡ record table { cells = map.insert table.cells n (record { slot = slotted.slot; cell = taken slotted.cell }); global = rest }
+    took_is = ap (take_first table) front ∙ ap (λ (o : Option (Slotted P T (Unit {0}))). record (with_taken_at table n o) { global = rest }) here
+
+    pub rest_front : (after_take table).global ≡ rest
+    rest_front = ap (λ s. s.global) took_is
+
+    pub cancelled_front : slotted.cell.cancelled ≡ cancelled n log
+    cancelled_front = (agreed_at agree n e found (Some slotted) here).cancelled
+
+    took_for : (purpose : Purpose) (b : Bool) (s : Status T) → status n (log ++ Took n purpose ∷ []) ≡ s → slotted.cell.cancelled ≡ s.cancelled → IsUndropped s true → s.taken ≡ true → s.woken ≡ false → FewPollsFor s → MayFollow log (Took n purpose)
+        → Agree (after_take table) (log ++ Took n purpose ∷ []) (slice_set entries n (record { info = record e.info { to_drop = b }; out = Some (Unpolled p) }))
+    took_for purpose b s on cancel state took woke few follows =
+        let h = agreed_at agree n e found (Some slotted) here in
+        agree_again agree
+        (cell_put table (after_take table) n (record { slot = slotted.slot; cell = taken slotted.cell }) (ap (λ s. s.next) took_is) (ap (λ s. s.cells) took_is))
+        (log_pushed log n (Took n purpose) s refl on)
+        (entry_set entries n e _ found)
+        (record { slot = h.slot; has_handle = h.has_handle; awaited = h.awaited; cancelled = cancel; state = (state, took, woke); out = sym state.held; polled = tt })
+        few
+        (order-push log (Took n purpose) agree.order follows)
+
+    pub take_holds : (b : Bool) → slotted.cell.cancelled ≡ b → Agree (after_take table) (log ++ Took n (purpose_of b) ∷ []) (slice_set entries n (record { info = record e.info { to_drop = b }; out = Some (Unpolled p) }))
+    take_holds false fresh =
+        let h = agreed_at agree n e found (Some slotted) here in
+        let alive = state_agrees slotted (status n log) e (Scheduled p) state h in
+        let un : cancelled n log ≡ false = sym h.cancelled ∙ fresh in
+        let due = or-without_last (not (status n log).taken) ((status n log).woken) ((status n log).cancelled_since) (unfollowed-list_any (is_cancel n) (is_take n) log un) alive.1 in
+        took_for _ false _ (on_poll n log) h.cancelled (record { spawned = alive.0.spawned; dropped = alive.0.dropped; held = refl; outputs = alive.0.outputs; given = alive.0.given }) refl refl (few_poll _ _ _ due (agree.few_polls n)) (un, alive.0.held, alive.0.dropped)
+    take_holds true gone =
+        let h = agreed_at agree n e found (Some slotted) here in
+        let alive = state_agrees slotted (status n log) e (Scheduled p) state h in
+        took_for _ true _ (on_take n log) h.cancelled (record { spawned = alive.0.spawned; dropped = alive.0.dropped; held = refl; outputs = alive.0.outputs; given = alive.0.given }) refl refl (few_take _ _ _ (agree.few_polls n)) (sym h.cancelled ∙ gone, alive.0.held, alive.0.dropped)
+
+  module _ (now_held : held n log ≡ true) where
+    -- the state of a held task's cell
+    is_held_state : (st : CellState P T) → is_held st ≡ true → st ≡ Held
+    is_held_state (Idle p) h = absurd (cc)
+    is_held_state (Scheduled p) h = absurd (cc)
+    is_held_state Held h = refl
+    is_held_state (Finished t) h = absurd (cc)
+    is_held_state Gone h = absurd (cc)
+
+    the_cell : CellAt table log n e
+    the_cell = held_cell agree n e found now_held
+
+    cell_held : is_held the_cell.slotted.cell.state ≡ true
+    cell_held = sym (held_state the_cell.slotted.cell.state the_cell.slotted.cell.woken (status n log) the_cell.agrees.state) ∙ now_held
+
+    alive : StateAgrees {P = P} Held the_cell.slotted.cell.woken (status n log)
+    alive = state_agrees the_cell.slotted (status n log) e Held (is_held_state _ cell_held) the_cell.agrees
+
+    pub cancelled_is : cancelled_in (cell_at table (id_of n e.info)) ≡ cancelled n log
+    cancelled_is = ap cancelled_in the_cell.cell ∙ the_cell.agrees.cancelled
+
+    takes_back_is : takes_back_in (cell_at table (id_of n e.info)) ≡ not (cancelled n log)
+    takes_back_is = ap takes_back_in the_cell.cell ∙ ap (λ b. b && not the_cell.slotted.cell.cancelled) cell_held ∙ ap not the_cell.agrees.cancelled
+
+    -- where a poll of the task may end, its future was not polled
+    pub unpolled_there : e.info.to_drop ≡ false → is_unpolled (slice_get entries n) ≡ true
+    unpolled_there fresh = ap (λ (o : Option (TaskEntry P)). is_unpolled o) found ∙ by_future e.out e.info.to_drop fresh (the_cell.agrees.out ∙ now_held) the_cell.agrees.polled
+      where
+        by_future : (o : Option (FutureOut P)) (b : Bool) → b ≡ false → is_some o ≡ true → PolledAgrees o b → is_unpolled_future o ≡ true
+        by_future None b fresh h p = absurd (cc)
+        by_future (Some (Unpolled q)) b fresh h p = refl
+        by_future (Some (Polled q)) b fresh h p = absurd (cc)
+
+    -- a poll ended pending, and the future went back
+    pub record Pended (p : P) : Type 0 where
+      pub holds : Agree (after_end_pending table (id_of n e.info) p) (log ++ Returned n ∷ []) (slice_set entries n (record { info = e.info; out = None }))
+      pub cancelled : cancelled n log ≡ false
+      pub queued : woken_in (cell_at table (id_of n e.info)) ≡ woken n log
+      pub global : (after_end_pending table (id_of n e.info) p).global ≡ cond (woken n log) (table.global ++ n ∷ []) table.global
+
+    pended_state : (w : Bool) (p : P) (s : Status T) → s.cancelled ≡ false → s.cancelled_since ≡ false → StateAgrees {P = P} Held w s → StateAgrees (cond w (Scheduled p) (Idle p)) w (record s { held = false })
+    pended_state true p s u r h = (record { spawned = h.0.spawned; dropped = h.0.dropped; held = refl; outputs = h.0.outputs; given = h.0.given }, or_left _ s.cancelled_since (or_right (not s.taken) s.woken h.2))
+    pended_state false p s u r h = (record { spawned = h.0.spawned; dropped = h.0.dropped; held = refl; outputs = h.0.outputs; given = h.0.given }, h.1, h.2, u, r)
+
+    pub pend_holds : (p : P) → takes_back_in (cell_at table (id_of n e.info)) ≡ true → Pended p
+    pend_holds p ours =
+        let c = the_cell.slotted.cell in
+        let h = the_cell.agrees in
+        let un : cancelled n log ≡ false = not-true _ (sym takes_back_is ∙ ours) in
+        let ended : after_end_pending table (id_of n e.info) p ≡ queued_if c.woken (with_cell table (id_of n e.info) (pended c p)) (id_of n e.info) = ap (end_pending_at table (id_of n e.info) p) the_cell.cell ∙ cond-true (takes_back c) _ _ (sym (ap takes_back_in the_cell.cell) ∙ ours) in
+        record {
+          holds = agree_again agree
+              (cell_put table (after_end_pending table (id_of n e.info) p) n (record { slot = e.info.slot; cell = pended c p }) (ap (λ x. x.next) ended) (ap (λ x. x.cells) ended))
+              (log_pushed log n (Returned n) _ refl (on_return n log))
+              (entry_set entries n e _ found)
+              (record { slot = refl; has_handle = h.has_handle; awaited = h.awaited; cancelled = h.cancelled; state = pended_state c.woken p (status n log) un (unfollowed-list_any (is_cancel n) (is_take n) log un) alive; out = refl; polled = tt })
+              (agree.few_polls n)
+              (order-push log (Returned n) agree.order tt);
+          cancelled = un;
+          queued = ap woken_in the_cell.cell ∙ sym alive.2;
+          global = ap (λ x. x.global) ended ∙ ap (λ b. cond b (table.global ++ n ∷ []) table.global) (sym alive.2);
+        }
+
+    -- a poll ended pending on a cancelled task
+    pub record StaysOut (p q : P) : Type 0 where
+      pub same : after_end_pending table (id_of n e.info) p ≡ table
+      pub holds : Agree table log (slice_set entries n (record { info = record e.info { to_drop = true }; out = Some (Polled q) }))
+      pub cancelled : cancelled n log ≡ true
+
+    pub pend_stays : (p q : P) → takes_back_in (cell_at table (id_of n e.info)) ≡ false → StaysOut p q
+    pend_stays p q ours =
+        let h = the_cell.agrees in
+        record {
+          same = ap (end_pending_at table (id_of n e.info) p) the_cell.cell ∙ cond-false (takes_back the_cell.slotted.cell) _ _ (sym (ap takes_back_in the_cell.cell) ∙ ours);
+          holds = agree_again agree (cell_same table n (Some the_cell.slotted) the_cell.here) (log_same log n) (entry_set entries n e _ found)
+              (record { slot = h.slot; has_handle = h.has_handle; awaited = h.awaited; cancelled = h.cancelled; state = h.state; out = sym now_held; polled = refl })
+              (agree.few_polls n) agree.order;
+          cancelled = sym (not-not _) ∙ ap not (sym takes_back_is ∙ ours);
+        }
+
+    -- the future of the task was dropped, and the cell ends in this state where the handle is there
+    record Ends (more : List (Event T)) (s : Status T) (st : CellState P T) : Type 0 where
+      pub log_change : LogChange log more n s
+      pub order : InOrder more
+      pub few_polls : FewPollsFor s
+      pub spawned : s.spawned ≡ true
+      pub dropped : s.dropped ≡ true
+      pub held : s.held ≡ false
+      pub cancelled : s.cancelled ≡ cancelled n log
+      pub state : StateAgrees st the_cell.slotted.cell.woken s
+
+    pub record Ended (later : Table P T (Unit {0})) (more : List (Event T)) : Type 0 where
+      pub holds : Agree later more (slice_set entries n (record { info = record e.info { awaited = false }; out = None }))
+      pub global : later.global ≡ table.global
+
+    ended : (later : Table P T (Unit {0})) (more : List (Event T)) (s : Status T) (st : CellState P T)
+        → later ≡ cond the_cell.slotted.cell.has_handle (with_cell table (id_of n e.info) (record the_cell.slotted.cell { state = st; awaiter = None })) (without_cell table (id_of n e.info)) → Ends more s st → Ended later more
+    ended later more s st is ends =
+        let c = the_cell.slotted.cell in
+        let h = the_cell.agrees in
+        elim (cases_Bool c.has_handle) [
+          | inl there ↦
+              let put : later ≡ with_cell table (id_of n e.info) (record c { state = st; awaiter = None }) = is ∙ cond-true c.has_handle _ _ there in
+              record {
+                holds = agree_again agree (cell_put table later n (record { slot = e.info.slot; cell = record c { state = st; awaiter = None } }) (ap (λ x. x.next) put) (ap (λ x. x.cells) put)) ends.log_change (entry_set entries n e _ found)
+                    (record { slot = refl; has_handle = h.has_handle; awaited = refl; cancelled = h.cancelled ∙ sym ends.cancelled; state = ends.state; out = sym ends.held; polled = tt })
+                    ends.few_polls ends.order;
+                global = ap (λ x. x.global) put;
+              }
+          | inr gone ↦
+              let removed : later ≡ without_cell table (id_of n e.info) = is ∙ cond-false c.has_handle _ _ gone in
+              record {
+                holds = agree_again agree (cell_removed table later n (ap (λ x. x.next) removed) (ap (λ x. x.cells) removed)) ends.log_change (entry_set entries n e _ found)
+                    (record { spawned = ends.spawned; dropped = ends.dropped; held = ends.held; has_handle = sym h.has_handle ∙ gone; out = sym ends.held })
+                    ends.few_polls ends.order;
+                global = ap (λ x. x.global) removed;
+              }
+        ]
+
+    -- a poll ended ready: the future gave its output unless the task was cancelled, and was dropped
+    pub ready_holds : (t : T) → Ended (after_end_ready table (id_of n e.info) t) (cond (not (cancelled n log)) (log ++ Finish n t ∷ []) log ++ Dropped n ∷ [])
+    ready_holds t =
+        let is = ap (end_ready_at table (id_of n e.info) t) the_cell.cell ∙ cond-true (is_held the_cell.slotted.cell.state) _ _ cell_held in
+        let cancel = the_cell.agrees.cancelled in
+        elim (cases_Bool (cancelled n log)) [
+          | inl gone ↦ rw gone (ended _ _ _ Gone (is ∙ rw (cancel, gone) refl) (record {
+            log_change = log_pushed log n (Dropped n) _ refl (on_drop n log);
+            order = order-push log (Dropped n) agree.order alive.0.dropped;
+            few_polls = agree.few_polls n;
+            spawned = alive.0.spawned;
+            dropped = refl;
+            held = refl;
+            cancelled = refl;
+            state = record { spawned = alive.0.spawned; dropped = refl; held = refl; outputs = alive.0.outputs; given = alive.0.given };
+          }))
+          | inr fresh ↦
+              let middle = on_finish n t log in
+              rw fresh (ended _ _ _ (Finished t) (is ∙ rw (cancel, fresh) refl) (record {
+                log_change = record { here = on_drop n (log ++ Finish n t ∷ []) ∙ ap (λ (s : Status T). record s { dropped = true; held = false }) middle; others = λ q far. status_other q (log ++ Finish n t ∷ []) (Dropped n) far ∙ status_other q log (Finish n t) far };
+                order = order-push _ (Dropped n) (order-push log (Finish n t) agree.order fresh) (ap (λ s. s.dropped) middle ∙ alive.0.dropped);
+                few_polls = agree.few_polls n;
+                spawned = alive.0.spawned;
+                dropped = refl;
+                held = refl;
+                cancelled = refl;
+                state = record { spawned = alive.0.spawned; dropped = refl; held = refl; outputs = ap (λ l. l ++ t ∷ []) alive.0.outputs; given = alive.0.given };
+              }))
+        ]
+
+    ready_answer_is : (t : T) → ready_answer t (cell_at table (id_of n e.info)) ≡ record { awaiter = wakeup_of the_cell.slotted.cell.awaiter; unwanted = cond (the_cell.slotted.cell.has_handle && not the_cell.slotted.cell.cancelled) None (Some t) }
+    ready_answer_is t = ap (ready_answer t) the_cell.cell ∙ cond-true (is_held the_cell.slotted.cell.state) _ _ cell_held
+
+    pub ready_awaiter : (t : T) → is_some (ready_answer t (cell_at table (id_of n e.info))).awaiter ≡ e.info.awaited
+    ready_awaiter t = ap (λ a. is_some a.awaiter) (ready_answer_is t) ∙ wakeup_some the_cell.slotted.cell.awaiter ∙ the_cell.agrees.awaited
+
+    pub ready_unwanted : (t : T) → (ready_answer t (cell_at table (id_of n e.info))).unwanted ≡ cond (e.info.has_handle && not (cancelled n log)) None (Some t)
+    ready_unwanted t = ap (λ a. a.unwanted) (ready_answer_is t) ∙ rw (the_cell.agrees.has_handle, the_cell.agrees.cancelled) refl
+
+    -- the future was dropped, and gave no output
+    pub drop_holds : Ended (after_end_dropped table (id_of n e.info)) (log ++ Dropped n ∷ [])
+    drop_holds = ended _ _ _ Gone (ap (end_dropped_at table (id_of n e.info)) the_cell.cell ∙ cond-true (is_held the_cell.slotted.cell.state) _ _ cell_held) (record {
+      log_change = log_pushed log n (Dropped n) _ refl (on_drop n log);
+      order = order-push log (Dropped n) agree.order alive.0.dropped;
+      few_polls = agree.few_polls n;
+      spawned = alive.0.spawned;
+      dropped = refl;
+      held = refl;
+      cancelled = refl;
+      state = record { spawned = alive.0.spawned; dropped = refl; held = refl; outputs = alive.0.outputs; given = alive.0.given };
+    })
+
+    pub drop_awaiter : is_some (dropped_answer (cell_at table (id_of n e.info))) ≡ e.info.awaited
+    drop_awaiter = ap (λ o. is_some (dropped_answer o)) the_cell.cell ∙ ap is_some (cond-true (is_held the_cell.slotted.cell.state) (wakeup_of the_cell.slotted.cell.awaiter) None cell_held) ∙ wakeup_some the_cell.slotted.cell.awaiter ∙ the_cell.agrees.awaited
+
+-- where a poll of the task may end, its future was not polled
+pub unpolled_now : {P T : Type 0} (a : Inside P T) → IsWorld (execution_of a) a.core.cells a.entries.items (vec_capacity a.log) → {w : Execution T} → execution_of a ≡ w → (n : ℕ) → (held n w.log && not (info n w).to_drop) ≡ true → is_unpolled (slice_get a.entries.items n) ≡ true
+unpolled_now {P} a sound view n enabled =
+    let parts = and_parts (held n a.log.items) (not (info n (execution_of a)).to_drop) (ap (λ w. held n w.log && not (info n w).to_drop) view ∙ enabled) in
+    by_entry (slice_get a.entries.items n) refl (out_is sound.agree n ∙ parts.0) parts.0 (not-true _ parts.1)
+  where
+    by_entry : (o : Option (TaskEntry P)) → slice_get a.entries.items n ≡ o → is_out (slice_get a.entries.items n) ≡ true → held n a.log.items ≡ true → (info n (execution_of a)).to_drop ≡ false → is_unpolled (slice_get a.entries.items n) ≡ true
+    by_entry None found out now fresh = absurd (cc (out, ap (λ (o : Option (TaskEntry P)). is_out o) found))
+    by_entry (Some e) found out now fresh = unpolled_there sound.agree n e found now (sym (ap (λ o. (info_or o).to_drop) (info_at a.entries.items n e found)) ∙ fresh)
+
+-- a taken task is one of the tasks
+pub taken_within : {P T : Type 0} {table : Table P T (Unit {0})} {w : Execution T} {entries : List (TaskEntry P)} {room : ℕ} → IsWorld w table entries room → {task : Taken P} → IsTaken table task → task.id.number < length entries
+taken_within {P} {T} {table} {w} {entries} sound {task} taken = by_entry (slice_get entries task.id.number) refl (sound.agree.each task.id.number)
+  where
+    by_entry : (o : Option (TaskEntry P)) → slice_get entries task.id.number ≡ o → NumberAgrees (map.get table.cells task.id.number) (status task.id.number w.log) (slice_get entries task.id.number) → task.id.number < length entries
+    by_entry (Some e) found h = within_get entries task.id.number e found
+    by_entry None found h = absurd (subst (λ x. NumberAgrees x (status task.id.number w.log) None) taken.found (subst (λ x. NumberAgrees (map.get table.cells task.id.number) (status task.id.number w.log) x) found h))
+
+module _ {P T : Type 0} (a : Inside P T) (sound : IsWorld (execution_of a) a.core.cells a.entries.items (vec_capacity a.log)) {w : Execution T} (view : execution_of a ≡ w) (far : w.accepted ≢ w.limit) where
+  -- there was no task to take
+  pub take_none : {core : Core P T (Unit {0})} → a.core.cells.global ≡ [] → core ≡ record a.core { cells = after_take a.core.cells } → Done (stepped a (a.accepted + 1) core a.log.items a.entries.items a.notices a.picks) core.cells a.entries.items (vec_capacity a.log) (take_row w.global w) NoTask
+  take_none {core} none core_is =
+      let same : core ≡ a.core = core_is ∙ ap (λ (t : Table P T (Unit {0})). record a.core { cells = t }) (ap (take_first a.core.cells) none) in
+      let far = rw (← view) at far in
+      rw (← view, same) (record {
+        sound = stepped_sound a sound refl far false _ _ _ (λ _. refl) (omega arith) (omega arith) sound.agree;
+        does = by_row a.core.cells.global none;
+      })
+    where
+      by_row : (queue : List ℕ) → queue ≡ [] → row (take_row queue (execution_of a)) NoTask (record (execution_of a) { accepted = a.accepted + 1 })
+      by_row queue is = rw is (refl, refl)
+
+  -- the front of the queue was taken
+  pub take_done : {task : Taken P} {core : Core P T (Unit {0})} → TakesFront a.core.cells core.cells.global task → {i : TaskInfo} → slice_get (infos a.entries.items) task.id.number ≡ Some i → {accepted : ℕ} → accepted ≡ a.accepted + 1 → core ≡ record a.core { cells = after_take a.core.cells }
+      → {j : TaskInfo} → j ≡ record i { to_drop = task.cancelled } → {entries : List (TaskEntry P)} → entries ≡ slice_set a.entries.items task.id.number (record { info = j; out = Some (Unpolled task.future) }) → {purpose : Purpose} → purpose ≡ purpose_of task.cancelled
+      → {log : List (Event T)} → log ≡ a.log.items ++ Took task.id.number purpose ∷ [] → {notices : ℕ} → notices ≡ a.notices + 1 → {room : ℕ} → room ≡ vec_capacity a.log → {answer : Reply T} → answer ≡ take_reply task.id.number task.cancelled
+      → Done (stepped a accepted core log entries notices a.picks) core.cells entries room (take_row w.global w) answer
+  take_done {task} {core} takes {i} found counted core_is info_is entries_is purpose_is log_is noticed capacity answers =
+      let n = task.id.number in
+      let at = entry_of a.entries.items n i found in
+      let cell : Slotted P T (Unit {0}) = record { slot = task.id.slot; cell = takes.taken.cell } in
+      let queue = rest_front sound.agree n _ at.1 core.cells.global cell task.future takes.front takes.taken.found takes.taken.future in
+      let cancel : cancelled n a.log.items ≡ task.cancelled = sym (cancelled_front sound.agree n _ at.1 core.cells.global cell task.future takes.front takes.taken.found takes.taken.future) ∙ sym takes.taken.cancelled in
+      let holds = take_holds sound.agree n _ at.1 core.cells.global cell task.future takes.front takes.taken.found takes.taken.future task.cancelled (sym takes.taken.cancelled) in
+      let does = by_row n i found a.core.cells.global core.cells.global takes.front task.cancelled cancel in
+      let far = rw (← view) at far in
+      let does = rw (← queue) at does in
+      rw (← view, counted, core_is, entries_is, info_is, log_is, purpose_is, noticed, capacity, answers) (record {
+        sound = stepped_sound a sound refl far true _ _ _ (λ never. absurd (cc)) (let long = length-slice_set a.entries.items n (record { info = record i { to_drop = task.cancelled }; out = Some (Unpolled task.future) }) in omega arith) (let long = length-push a.log.items (Took n (purpose_of task.cancelled)) in omega arith) holds;
+        does = rw (infos-set a.entries.items n (record { info = record i { to_drop = task.cancelled }; out = Some (Unpolled task.future) })) does;
+      })
+    where
+      by_row : (n : ℕ) (i : TaskInfo) → slice_get (infos a.entries.items) n ≡ Some i → (queue rest : List ℕ) → queue ≡ n ∷ rest → (b : Bool) → cancelled n a.log.items ≡ b
+          → row (take_row queue (execution_of a)) (take_reply n b) (record (execution_of a) { log = a.log.items ++ Took n (purpose_of b) ∷ []; accepted = a.accepted + 1; global = rest; notices = a.notices + 1; tasks = slice_set (infos a.entries.items) n (record i { to_drop = b }) })
+      by_row n i found queue rest front true is = rw (front, is, found) (refl, refl)
+      by_row n i found queue rest front false is = rw (front, is, found) (refl, refl)
+
+module _ {P T : Type 0} (a : Inside P T) (sound : IsWorld (execution_of a) a.core.cells a.entries.items (vec_capacity a.log)) {w : Execution T} (view : execution_of a ≡ w) (far : w.accepted ≢ w.limit) (n : ℕ) {i : TaskInfo} (found : slice_get (infos a.entries.items) n ≡ Some i) where
+  module _ (b : Bool) (enabled : held n w.log && b ≡ true) where
+    is_held_now : held n a.log.items ≡ true
+    is_held_now = (and_parts (held n a.log.items) b (ap (λ w. held n w.log && b) view ∙ enabled)).0
+
+    module _ {accepted room : ℕ} {answer : Reply T} (counted : accepted ≡ a.accepted + 1) (capacity : room ≡ vec_capacity a.log) where
+      -- the future went back
+      pub pend_done : {id : TaskId} → id ≡ id_of n i → {core : Core P T (Unit {0})} (p : P) → core ≡ record a.core { cells = after_end_pending a.core.cells id p } → takes_back_in (cell_at a.core.cells id) ≡ true → {queues : Bool} → queues ≡ woken_in (cell_at a.core.cells id)
+          → {entries : List (TaskEntry P)} → entries ≡ slice_set a.entries.items n (record { info = i; out = None }) → {log : List (Event T)} → log ≡ a.log.items ++ Returned n ∷ [] → {notices : ℕ} → notices ≡ cond queues (a.notices + 1) a.notices → {kept : Bool} → kept ≡ queues → answer ≡ return_reply n kept
+          → Done (stepped a accepted core log entries notices a.picks) core.cells entries room (pend_row n w) answer
+      pend_done same p core_is ours queues_is entries_is log_is noticed keeps answers =
+          let step = pend_holds sound.agree n _ (entry_of _ n i found).1 is_held_now p (ap (λ id. takes_back_in (cell_at a.core.cells id)) (sym same) ∙ ours) in
+          let queued = queues_is ∙ ap (λ id. woken_in (cell_at a.core.cells id)) same ∙ step.queued in
+          let far = rw (← view) at far in
+          rw (← view, counted, core_is, entries_is, log_is, noticed, answers, keeps, capacity, same, queued) (record {
+            sound = stepped_sound a sound refl far (woken n a.log.items) _ _ _ (λ never. step.global ∙ cond-false (woken n a.log.items) _ _ never) (let long = length-slice_set a.entries.items n (record { info = i; out = None }) in omega arith) (let long = length-push a.log.items (Returned n) in omega arith) step.holds;
+            does = by_cases (after_end_pending a.core.cells (id_of n i) p).global step.global step.cancelled;
+          })
+        where
+          by_cases : (queue : List ℕ) → queue ≡ cond (woken n a.log.items) (a.core.cells.global ++ n ∷ []) a.core.cells.global → cancelled n a.log.items ≡ false
+              → row (pend_row n (execution_of a)) (return_reply n (woken n a.log.items))
+              (record (execution_of a) { log = a.log.items ++ Returned n ∷ []; accepted = a.accepted + 1; global = queue; notices = cond (woken n a.log.items) (a.notices + 1) a.notices; tasks = infos (slice_set a.entries.items n (record { info = i; out = None })) })
+          by_cases queue is fresh = elim (cases_Bool (woken n a.log.items)) [
+            | inl now ↦ rw (infos-set a.entries.items n (record { info = i; out = None }), set-here (infos a.entries.items) n i found, is, fresh, now) (refl, refl)
+            | inr never ↦ rw (infos-set a.entries.items n (record { info = i; out = None }), set-here (infos a.entries.items) n i found, is, fresh, never) (refl, refl)
+          ]
+
+      -- the task was cancelled, and its future stays out to be dropped
+      pub pend_dropped : {id : TaskId} → id ≡ id_of n i → {core : Core P T (Unit {0})} (p : P) → core ≡ record a.core { cells = after_end_pending a.core.cells id p } → takes_back_in (cell_at a.core.cells id) ≡ false
+          → {middle entries : List (TaskEntry P)} (q : P) {j : TaskInfo} → middle ≡ slice_set a.entries.items n (record { info = i; out = None }) → entries ≡ slice_set middle n (record { info = j; out = Some (Polled q) }) → j ≡ record i { to_drop = true } → answer ≡ Drop n
+          → Done (stepped a accepted core a.log.items entries a.notices a.picks) core.cells entries room (pend_row n w) answer
+      pend_dropped same p core_is ours {entries = entries} q {j = j} middle_is entries_is info_is answers =
+          let e : TaskEntry P = record { info = record i { to_drop = true }; out = Some (Polled q) } in
+          let step = pend_stays sound.agree n _ (entry_of _ n i found).1 is_held_now p q (ap (λ id. takes_back_in (cell_at a.core.cells id)) (sym same) ∙ ours) in
+          let far = rw (← view) at far in
+          let set : entries ≡ slice_set a.entries.items n e = set_again _ _ _ _ _ _ middle_is entries_is ∙ ap (λ (j : TaskInfo). slice_set a.entries.items n (record { info = j; out = Some (Polled q) })) info_is in
+          rw (← view, counted, core_is, set, answers, capacity, same, step.same) (record {
+            sound = stepped_sound a sound refl far false _ _ _ (λ _. refl) (let long = length-slice_set a.entries.items n e in omega arith) (omega arith) step.holds;
+            does = rw (infos-set a.entries.items n e, step.cancelled, found) (refl, refl);
+          })
+
+      -- the future gave its output
+      pub ready_done : {id : TaskId} → id ≡ id_of n i → {held_task : HeldTask} {output t : T} → ◌≡◌ {A = HeldTask × T} (held_task, output) (record { id = id; to_drop = false }, t) → {core : Core P T (Unit {0})} → core ≡ record a.core { cells = after_end_ready a.core.cells held_task.id output } → {ended : EndReady T (Unit {0})} → ended ≡ ready_answer output (cell_at a.core.cells held_task.id)
+          → {cancel : Bool} → cancel ≡ cancelled_in (cell_at a.core.cells id) → {j : TaskInfo} → j ≡ record i { awaited = false } → {entries : List (TaskEntry P)} → entries ≡ slice_set a.entries.items n (record { info = j; out = None })
+          → {log more : List (Event T)} → log ≡ cond (not cancel) (a.log.items ++ Finish n output ∷ []) a.log.items → more ≡ log ++ Dropped n ∷ [] → answer ≡ ready_reply (is_some ended.awaiter) ended.unwanted
+          → Done (stepped a accepted core more entries a.notices a.picks) core.cells entries room (ready_row n t w) answer
+      ready_done same {t = t} handed core_is ended_is cancel_is info_is entries_is log_is more_is answers =
+          let e : TaskEntry P = record { info = record i { awaited = false }; out = None } in
+          let at = (entry_of _ n i found).1 in
+          let step = ready_holds sound.agree n _ at is_held_now t in
+          let far = rw (← view) at far in
+          let ours = ap (λ p. p.0.id) handed ∙ same in
+          let gave = ap (λ p. p.1) handed in
+          let cancel = cancel_is ∙ ap (λ id. cancelled_in (cell_at a.core.cells id)) same ∙ cancelled_is sound.agree n _ at is_held_now in
+          rw (← view, counted, core_is, entries_is, info_is, answers, ended_is, more_is, log_is, cancel, capacity, ours, gave, ready_awaiter sound.agree n _ at is_held_now t, ready_unwanted sound.agree n _ at is_held_now t) (record {
+            sound = stepped_sound a sound refl far false _ _ _ (λ _. step.global) (let long = length-slice_set a.entries.items n e in omega arith) (let first = length-push_if (not (cancelled n a.log.items)) a.log.items (Finish n t) in let long = length-push (cond (not (cancelled n a.log.items)) (a.log.items ++ Finish n t ∷ []) a.log.items) (Dropped n) in omega arith) step.holds;
+            does = rw (infos-set a.entries.items n e) (by_cases t (after_end_ready a.core.cells (id_of n i) t).global step.global);
+          })
+        where
+          by_cases : (t : T) (queue : List ℕ) → queue ≡ a.core.cells.global
+              → row (ready_row n t (execution_of a)) (ready_reply i.awaited (cond (i.has_handle && not (cancelled n a.log.items)) None (Some t)))
+              (record (execution_of a) { log = cond (not (cancelled n a.log.items)) (a.log.items ++ Finish n t ∷ []) a.log.items ++ Dropped n ∷ []; accepted = a.accepted + 1; global = queue; tasks = slice_set (infos a.entries.items) n (record i { awaited = false }) })
+          by_cases t queue is = elim (cases_Bool (cancelled n a.log.items)) [
+            | inl gone ↦ rw (is, gone, found, and_right i.has_handle false refl) (refl, refl)
+            | inr fresh ↦ elim (cases_Bool i.has_handle) [
+              | inl there ↦ rw (is, fresh, found, there) (refl, refl)
+              | inr alone ↦ rw (is, fresh, found, alone) (refl, refl)
+            ]
+          ]
+
+      -- the future was dropped
+      pub drop_done : {id : TaskId} → id ≡ id_of n i → {held_task : HeldTask} → held_task ≡ record { id = id; to_drop = true } → {core : Core P T (Unit {0})} → core ≡ record a.core { cells = after_end_dropped a.core.cells held_task.id } → {awaiter : Option (Wakeup (Unit {0}))} → awaiter ≡ dropped_answer (cell_at a.core.cells held_task.id)
+          → {j : TaskInfo} → j ≡ record i { awaited = false } → {entries : List (TaskEntry P)} → entries ≡ slice_set a.entries.items n (record { info = j; out = None }) → {log : List (Event T)} → log ≡ a.log.items ++ Dropped n ∷ [] → {there : Bool} → there ≡ is_some awaiter → answer ≡ GoneReply there
+          → Done (stepped a accepted core log entries a.notices a.picks) core.cells entries room (dropped_row n w) answer
+      drop_done same handed core_is awaiter_is info_is entries_is log_is there_is answers =
+          let e : TaskEntry P = record { info = record i { awaited = false }; out = None } in
+          let at = (entry_of _ n i found).1 in
+          let step = drop_holds sound.agree n _ at is_held_now in
+          let far = rw (← view) at far in
+          let ours = ap (λ h. h.id) handed ∙ same in
+          rw (← view, counted, core_is, entries_is, info_is, log_is, answers, there_is, awaiter_is, capacity, ours, drop_awaiter sound.agree n _ at is_held_now) (record {
+            sound = stepped_sound a sound refl far false _ _ _ (λ _. step.global) (let long = length-slice_set a.entries.items n e in omega arith) (let long = length-push a.log.items (Dropped n) in omega arith) step.holds;
+            does = rw (infos-set a.entries.items n e, step.global, found) (refl, refl);
+          })

@@ -1,0 +1,60 @@
+-- There is room for what the steps to come add.
+use Rattle.std.proofs.Common.{◌≡◌, ◌≢◌, ℕ, ◌+◌, ◌*◌, ◌<◌, ◌≤◌, Fits, w32, Bool, true, false, cond, List, [], ◌∷◌, ◌++◌, length, ap, arith}
+use Rattle.std.specs.Prelude.{Result, Ok, Err, OnOk, is_err}
+use Rattle.executor_core.specs.World.{Execution}
+use Rattle.executor_core.specs.declared.interleave.event.Event.{Event}
+use Rattle.executor_core.specs.World.View.{HasRoom}
+use Rattle.executor_core.proofs.ListLemmas.{length-push}
+
+-- an event at most was logged
+pub length-push_if : {E : Type 0} (b : Bool) (log : List E) (e : E) → length (cond b (log ++ e ∷ []) log) ≤ length log + 1
+length-push_if true log e = let h = length-push log e in omega arith
+length-push_if false log e = omega arith
+
+module _ {T : Type 0} {w : Execution T} {room : ℕ} (has : HasRoom w room) where
+  -- one notice or pick more can be counted
+  pub notice_fits : w.notices < 4294967295
+  notice_fits = let h1 = has.within in let h2 = has.bounded in let h3 = has.few_unspent in omega arith
+
+  pub pick_fits : w.picks < 4294967295
+  pick_fits = let h1 = has.within in let h2 = has.bounded in let h3 = has.few_unspent in omega arith
+
+  module _ {v : Execution T} (view : w ≡ v) (far : v.accepted ≢ v.limit) where
+    is_below : w.accepted + 1 ≤ w.limit
+    is_below = let h = has.within in let other : w.accepted ≢ w.limit = rw (← view) at far in omega arith
+
+    -- one step more can be counted
+    pub step_fits : w.accepted < 4294967295
+    step_fits = let h1 = is_below in let h2 = has.bounded in omega arith
+
+    pub count_fits : Fits w32 (w.accepted + 1)
+    count_fits = let h1 = is_below in let h2 = has.bounded in omega arith
+
+    -- one event can be logged, and another one after it
+    pub event_fits : {count : ℕ} → count ≡ length w.log → count < room
+    event_fits is = let h1 = is_below in let h2 = has.few_events in let h3 = has.enough in omega arith
+
+    pub second_fits : (e : Event T) (b : Bool) {log : List (Event T)} → log ≡ cond b (w.log ++ e ∷ []) w.log → {capacity : ℕ} → capacity ≡ room → {count : ℕ} → count ≡ length log → count < capacity
+    second_fits e b log_is same is =
+        let h1 = is_below in
+        let h2 = has.few_events in
+        let h3 = has.enough in
+        let h4 = ap length log_is in
+        let h5 = length-push_if b w.log e in
+        omega arith
+
+    -- a step leaves one thing more to be spent, one task more and two events more, at most
+    pub room_again : (u : Execution T) → u.accepted ≡ w.accepted + 1 → u.limit ≡ w.limit → u.picks + u.notices ≤ w.picks + w.notices + 1 → length u.tasks ≤ length w.tasks + 1 → length u.log ≤ length w.log + 2 → HasRoom u room
+    room_again u counted same unspent tasks events =
+        let h1 = is_below in
+        let h2 = has.few_unspent in
+        let h3 = has.few_tasks in
+        let h4 = has.few_events in
+        let h5 = has.enough in
+        let h6 = has.bounded in
+        record { within = omega arith; bounded = omega arith; few_unspent = omega arith; few_tasks = omega arith; few_events = omega arith; enough = omega arith }
+
+-- one item more fits where a place for it was reserved
+pub reserved_fits : {A E : Type 0} (r : Result A E) {count capacity : ℕ} → OnOk r (count + 1 ≤ capacity) → is_err r ≡ false → count < capacity
+reserved_fits (Ok x) fits is = omega arith
+reserved_fits (Err e) fits is = absurd (cc)

@@ -1,0 +1,101 @@
+-- What a step leaves, and what it is: refused, or done.
+use Rattle.std.proofs.Common.{◌≡◌, ◌≢◌, ℕ, ◌+◌, ◌<◌, ◌≤◌, ◌⊎◌, inl, inr, Bool, true, false, cond, List, length, refl, sym, ap, subst, ◌∙◌, arith}
+use Rattle.std.proofs.lemmas.Bool.{false≢true}
+use Rattle.executor_core.specs.Cells.{Table}
+use Rattle.executor_core.specs.World.{Execution}
+use Rattle.executor_core.specs.World.Agreement.{Agree}
+use Rattle.executor_core.specs.World.Promises.{OnePlace, KeepsPromises}
+use Rattle.executor_core.specs.World.Steps.{row, enabled, Does, StepTo}
+use Rattle.std.specs.Vec.{vec_capacity}
+use Rattle.executor_core.specs.World.View.{execution_of, IsWorld}
+use Rattle.executor_core.proofs.World.Agreement.{few_polls}
+use Rattle.executor_core.proofs.World.Entries.{length-infos}
+use Rattle.executor_core.proofs.World.Notices.{notices_again}
+use Rattle.executor_core.proofs.World.Room.{room_again}
+use Rattle.executor_core.specs.World.Entries.{infos}
+use Rattle.executor_core.specs.declared.plain_core.Core.{Core}
+use Rattle.executor_core.specs.declared.interleave.World.TheInside.{Inside}
+use Rattle.executor_core.specs.declared.interleave.entry.TaskEntry.{TaskEntry}
+use Rattle.executor_core.specs.declared.interleave.event.Event.{Event}
+use Rattle.executor_core.specs.declared.interleave.request.Step.{Step}
+use Rattle.executor_core.specs.declared.interleave.reply.Reply.{Reply}
+use Rattle.executor_core.specs.declared.interleave.reply.Reply.TheVariants as reply
+
+module _ {P T : Type 0} where
+  -- the world after a step, by its parts
+  abbrev pub stepped : Inside P T → ℕ → Core P T (Unit {0}) → List (Event T) → List (TaskEntry P) → ℕ → ℕ → Execution T
+  stepped a accepted core log entries notices picks = record { log = log; accepted = accepted; limit = a.limit; global = core.cells.global; notices = notices; picks = picks; flag = core.flag; sleepers = core.sleepers; tasks = infos entries }
+
+  -- what a step left fits together, and is what its row says
+  pub record Done (later : Execution T) (table : Table P T (Unit {0})) (entries : List (TaskEntry P)) (room : ℕ) (r : Reply T × Execution T) (answer : Reply T) : Type 0 where
+    pub sound : IsWorld later table entries room
+    pub does : row r answer later
+
+module _ {T : Type 0} where
+  -- what a step leaves that queues a task or does not, and leaves the flag and the sleepers as they are
+  pub record Leaves (w v : Execution T) (queues : Bool) : Type 0 where
+    pub counted : v.accepted ≡ w.accepted + 1
+    pub limit : v.limit ≡ w.limit
+    pub flag : v.flag ≡ w.flag
+    pub sleepers : v.sleepers ≡ w.sleepers
+    pub picks : v.picks ≡ w.picks
+    pub notices : v.notices ≡ cond queues (w.notices + 1) w.notices
+    pub global : queues ≡ false → v.global ≡ w.global
+    pub tasks : length v.tasks ≤ length w.tasks + 1
+    pub events : length v.log ≤ length w.log + 2
+
+module _ {P T : Type 0} where
+  pub left : {w v : Execution T} {table later : Table P T (Unit {0})} {entries anew : List (TaskEntry P)} {room : ℕ} {queues : Bool} → IsWorld w table entries room → {u : Execution T} → w ≡ u → u.accepted ≢ u.limit → Leaves w v queues → Agree later v.log anew → IsWorld v later anew room
+  left {w} {v} {queues = queues} sound view far leaves agree =
+      record {
+        agree = agree;
+        notices = notices_again sound.notices leaves.flag leaves.sleepers leaves.picks (out queues leaves.notices leaves.global);
+        room = room_again sound.room view far v leaves.counted leaves.limit (few queues leaves.notices) leaves.tasks leaves.events;
+      }
+    where
+      out : (q : Bool) → v.notices ≡ cond q (w.notices + 1) w.notices → (q ≡ false → v.global ≡ w.global) → (0 < v.notices) ⊎ ((v.global ≡ w.global) × (v.notices ≡ w.notices))
+      out true is same = inl (omega arith)
+      out false is same = inr (same refl, is)
+
+      few : (q : Bool) → v.notices ≡ cond q (w.notices + 1) w.notices → v.picks + v.notices ≤ w.picks + w.notices + 1
+      few true is = let h = leaves.picks in omega arith
+      few false is = let h = leaves.picks in omega arith
+
+-- a step that leaves the flag, the sleepers and the picks as they are, with a notice where it queues a task
+module _ {P T : Type 0} (a : Inside P T) (sound : IsWorld (execution_of a) a.core.cells a.entries.items (vec_capacity a.log)) {w : Execution T} (view : execution_of a ≡ w) (far : w.accepted ≢ w.limit) where
+  pub stepped_sound : (queues : Bool) (table : Table P T (Unit {0})) (log : List (Event T)) (entries : List (TaskEntry P)) → (queues ≡ false → table.global ≡ a.core.cells.global) → length entries ≤ length a.entries.items + 1 → length log ≤ length a.log.items + 2 → Agree table log entries
+      → IsWorld (stepped a (a.accepted + 1) (record a.core { cells = table }) log entries (cond queues (a.notices + 1) a.notices) a.picks) table entries (vec_capacity a.log)
+  stepped_sound queues table log entries same tasks events agree =
+      left sound view far (record {
+        counted = refl;
+        limit = refl;
+        flag = refl;
+        sleepers = refl;
+        picks = refl;
+        notices = refl;
+        global = same;
+        tasks = let before = length-infos a.entries.items in let after = length-infos entries in omega arith;
+        events = events;
+      }) agree
+
+-- what holds of every world
+pub promises : {P T : Type 0} {w : Execution T} {table : Table P T (Unit {0})} {entries : List (TaskEntry P)} {room : ℕ} → IsWorld w table entries room → OnePlace w.log w.global → KeepsPromises w
+promises {w = w} sound one = record { one_place = one; in_order = sound.agree.order; few_polls = few_polls sound.agree; flag_law = sound.notices.flag_law; covered = sound.notices.covered }
+
+module _ {P T : Type 0} (step : Step P T) (old : Execution T) where
+  pub step_full : old.accepted ≡ old.limit → StepTo old step reply.LogFull old
+  step_full full = record { full = λ _. (refl, refl); not_now = λ far _. absurd (far full); done = λ far _. absurd (far full) }
+
+  pub step_not_now : old.accepted ≢ old.limit → enabled step old ≡ false → StepTo old step reply.NotNow old
+  step_not_now far off = record { full = λ full. absurd (far full); not_now = λ _ _. (refl, refl); done = λ _ on. absurd (false≢true (sym off ∙ on)) }
+
+  pub step_enabled : {arm : Step P T} → step ≡ arm → enabled step old ≡ true → enabled arm old ≡ true
+  step_enabled is on = subst (λ s. enabled s old ≡ true) is on
+
+  pub step_done : (arm : Step P T) → step ≡ arm → (answer : Reply T) (new : Execution T) → old.accepted ≢ old.limit → enabled step old ≡ true → Does arm old answer new → StepTo old step answer new
+  step_done arm is answer new far on does =
+      record {
+        full = λ full. absurd (far full);
+        not_now = λ _ off. absurd (false≢true (sym off ∙ on));
+        done = λ _ _. subst (λ s. Does s old answer new) (sym is) does;
+      }

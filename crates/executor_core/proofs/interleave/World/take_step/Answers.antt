@@ -1,0 +1,82 @@
+use Rattle.std.proofs.Common.{◌≡◌, ◌≢◌, subst, sym, ◌∙◌}
+use Rattle.std.proofs.lemmas.Bool.{ltb-true}
+use Rattle.executor_core.proofs.World.Steps.{step_full, step_not_now, step_enabled, step_done}
+use Rattle.executor_core.proofs.interleave.World.take_step.Goals as goal
+
+pub returns-then-self : goal.returns-then-self
+returns-then-self g c = step_full _ _ (subst (λ w. w.accepted ≡ w.limit) c.self.view_is c.if-self.true)
+
+pub returns-then-not-is_enabled : goal.returns-then-not-is_enabled
+returns-then-not-is_enabled g c = step_not_now _ _ (subst (λ w. w.accepted ≢ w.limit) c.self.view_is c.if-self.false) (sym c.is_enabled.ensures ∙ c.if-not-is_enabled.true)
+
+pub spawn-requires : goal.spawn-requires
+spawn-requires g c = record { room = (subst (λ w. w.accepted ≢ w.limit) c.self.view_is c.if-self.false) }
+
+pub returns-in-Spawn : goal.returns-in-Spawn
+returns-in-Spawn g c = step_done _ _ _ c.in-Spawn.is _ _ (subst (λ w. w.accepted ≢ w.limit) c.self.view_is c.if-self.false) (sym c.is_enabled.ensures ∙ c.if-not-is_enabled.false) c.spawn.ensures
+
+pub wake-requires : goal.wake-requires
+wake-requires g c = record { room = (subst (λ w. w.accepted ≢ w.limit) c.self.view_is c.if-self.false); enabled = step_enabled _ _ c.in-Wake.is (sym c.is_enabled.ensures ∙ c.if-not-is_enabled.false) }
+
+pub returns-in-Wake : goal.returns-in-Wake
+returns-in-Wake g c = step_done _ _ _ c.in-Wake.is _ _ (subst (λ w. w.accepted ≢ w.limit) c.self.view_is c.if-self.false) (sym c.is_enabled.ensures ∙ c.if-not-is_enabled.false) c.wake.ensures
+
+pub try_tick-requires : goal.try_tick-requires
+try_tick-requires g c = record { room = (subst (λ w. w.accepted ≢ w.limit) c.self.view_is c.if-self.false) }
+
+pub returns-in-TryTick : goal.returns-in-TryTick
+returns-in-TryTick g c = step_done _ _ _ c.in-TryTick.is _ _ (subst (λ w. w.accepted ≢ w.limit) c.self.view_is c.if-self.false) (sym c.is_enabled.ensures ∙ c.if-not-is_enabled.false) c.try_tick.ensures
+
+pub pend-requires : goal.pend-requires
+pend-requires g c = record { room = (subst (λ w. w.accepted ≢ w.limit) c.self.view_is c.if-self.false); enabled = step_enabled _ _ c.in-Pend.is (sym c.is_enabled.ensures ∙ c.if-not-is_enabled.false) }
+
+pub returns-in-Pend : goal.returns-in-Pend
+returns-in-Pend g c = step_done _ _ _ c.in-Pend.is _ _ (subst (λ w. w.accepted ≢ w.limit) c.self.view_is c.if-self.false) (sym c.is_enabled.ensures ∙ c.if-not-is_enabled.false) c.pend.ensures
+
+pub ready-requires : goal.ready-requires
+ready-requires g c = record { room = (subst (λ w. w.accepted ≢ w.limit) c.self.view_is c.if-self.false); enabled = step_enabled _ _ c.in-Ready.is (sym c.is_enabled.ensures ∙ c.if-not-is_enabled.false) }
+
+pub returns-in-Ready : goal.returns-in-Ready
+returns-in-Ready g c = step_done _ _ _ c.in-Ready.is _ _ (subst (λ w. w.accepted ≢ w.limit) c.self.view_is c.if-self.false) (sym c.is_enabled.ensures ∙ c.if-not-is_enabled.false) c.ready.ensures
+
+pub poll_handle-requires : goal.poll_handle-requires
+poll_handle-requires g c = record { room = (subst (λ w. w.accepted ≢ w.limit) c.self.view_is c.if-self.false); enabled = step_enabled _ _ c.in-PollHandle.is (sym c.is_enabled.ensures ∙ c.if-not-is_enabled.false) }
+
+pub returns-in-PollHandle : goal.returns-in-PollHandle
+returns-in-PollHandle g c = step_done _ _ _ c.in-PollHandle.is _ _ (subst (λ w. w.accepted ≢ w.limit) c.self.view_is c.if-self.false) (sym c.is_enabled.ensures ∙ c.if-not-is_enabled.false) c.poll_handle.ensures
+
+pub cancel-requires : goal.cancel-requires
+cancel-requires g c = record { room = (subst (λ w. w.accepted ≢ w.limit) c.self.view_is c.if-self.false); enabled = step_enabled _ _ c.in-Cancel.is (sym c.is_enabled.ensures ∙ c.if-not-is_enabled.false) }
+
+pub returns-in-Cancel : goal.returns-in-Cancel
+returns-in-Cancel g c = step_done _ _ _ c.in-Cancel.is _ _ (subst (λ w. w.accepted ≢ w.limit) c.self.view_is c.if-self.false) (sym c.is_enabled.ensures ∙ c.if-not-is_enabled.false) c.cancel.ensures
+
+pub detach-requires : goal.detach-requires
+detach-requires g c = record { room = (subst (λ w. w.accepted ≢ w.limit) c.self.view_is c.if-self.false); enabled = step_enabled _ _ c.in-Detach.is (sym c.is_enabled.ensures ∙ c.if-not-is_enabled.false) }
+
+pub returns-in-Detach : goal.returns-in-Detach
+returns-in-Detach g c = step_done _ _ _ c.in-Detach.is _ _ (subst (λ w. w.accepted ≢ w.limit) c.self.view_is c.if-self.false) (sym c.is_enabled.ensures ∙ c.if-not-is_enabled.false) c.detach.ensures
+
+pub drop_handle-requires : goal.drop_handle-requires
+drop_handle-requires g c = record { room = (subst (λ w. w.accepted ≢ w.limit) c.self.view_is c.if-self.false); enabled = step_enabled _ _ c.in-DropHandle.is (sym c.is_enabled.ensures ∙ c.if-not-is_enabled.false) }
+
+pub returns-in-DropHandle : goal.returns-in-DropHandle
+returns-in-DropHandle g c = step_done _ _ _ c.in-DropHandle.is _ _ (subst (λ w. w.accepted ≢ w.limit) c.self.view_is c.if-self.false) (sym c.is_enabled.ensures ∙ c.if-not-is_enabled.false) c.drop_handle.ensures
+
+pub dropped-requires : goal.dropped-requires
+dropped-requires g c = record { room = (subst (λ w. w.accepted ≢ w.limit) c.self.view_is c.if-self.false); enabled = step_enabled _ _ c.in-Dropped.is (sym c.is_enabled.ensures ∙ c.if-not-is_enabled.false) }
+
+pub returns-in-Dropped : goal.returns-in-Dropped
+returns-in-Dropped g c = step_done _ _ _ c.in-Dropped.is _ _ (subst (λ w. w.accepted ≢ w.limit) c.self.view_is c.if-self.false) (sym c.is_enabled.ensures ∙ c.if-not-is_enabled.false) c.dropped.ensures
+
+pub exchange-requires : goal.exchange-requires
+exchange-requires g c = record { room = (subst (λ w. w.accepted ≢ w.limit) c.self.view_is c.if-self.false); enabled = ltb-true _ _ (step_enabled _ _ c.in-Exchange.is (sym c.is_enabled.ensures ∙ c.if-not-is_enabled.false)) }
+
+pub returns-in-Exchange : goal.returns-in-Exchange
+returns-in-Exchange g c = step_done _ _ _ c.in-Exchange.is _ _ (subst (λ w. w.accepted ≢ w.limit) c.self.view_is c.if-self.false) (sym c.is_enabled.ensures ∙ c.if-not-is_enabled.false) c.exchange.ensures
+
+pub notify-requires : goal.notify-requires
+notify-requires g c = record { room = (subst (λ w. w.accepted ≢ w.limit) c.self.view_is c.if-self.false); enabled = ltb-true _ _ (step_enabled _ _ c.in-Notify.is (sym c.is_enabled.ensures ∙ c.if-not-is_enabled.false)) }
+
+pub returns-in-Notify : goal.returns-in-Notify
+returns-in-Notify g c = step_done _ _ _ c.in-Notify.is _ _ (subst (λ w. w.accepted ≢ w.limit) c.self.view_is c.if-self.false) (sym c.is_enabled.ensures ∙ c.if-not-is_enabled.false) c.notify.ensures

@@ -1,0 +1,30 @@
+//! What a party asks of a world.
+
+/// What a party asks for.
+#[derive(Debug, Drop)]
+pub enum Step<P, T> {
+    /// A task of this future is spawned.
+    Spawn(P),
+    /// The task of this number is woken.
+    Wake(u64),
+    /// The task at the front of the global queue is taken.
+    TryTick,
+    /// The poll of this task ends pending.
+    Pend(u64),
+    /// The poll of this task ends with this output.
+    Ready(u64, T),
+    /// The handle of this task is polled.
+    PollHandle(u64),
+    /// The task of this number is cancelled through its handle.
+    Cancel(u64),
+    /// The handle of this task ends, and the task runs on.
+    Detach(u64),
+    /// The handle of this task is dropped: the task is cancelled, and the handle ends.
+    DropHandle(u64),
+    /// The future of this task, which was out to be dropped, was dropped.
+    Dropped(u64),
+    /// A notice is spent: the flag is exchanged.
+    Exchange,
+    /// A pick is spent: a sleeper is notified.
+    Notify,
+}
