@@ -1,34 +1,25 @@
 -- What a spawn keeps and gives.
-use Rattle.std.proofs.Common.{◌≡◌, ◌≢◌, ℕ, suc, ◌+◌, ◌≤◌, ◌==◌, ◌||◌, Bool, true, false, List, [], ◌∷◌, ◌++◌, length, get_or, Option, Some, None, cond, refl, sym, ap, subst, ◌∙◌, inl, inr, arith, length-append}
+use Rattle.std.proofs.Common.{◌≡◌, ◌≢◌, ℕ, ◌+◌, ◌≤◌, List, [], ◌∷◌, ◌++◌, length, get_or, Option, Some, None, cond, refl, sym, ap, subst, ◌∙◌, inl, inr, arith, length-append}
 use Rattle.std.specs.FinMap as map
 use Rattle.std.specs.Ordering.{nat_cmp}
 use Rattle.executor_core.specs.Cells.{Slotted}
-use Rattle.executor_core.specs.Cell.{is_idle, is_held, is_scheduled, is_undropped}
 use Rattle.executor_core.specs.Numbers.{times}
 use Rattle.executor_core.specs.Cells.Law.{scheduled_in, ScheduledOnce}
 use Rattle.executor_core.specs.Cells.View.{seen, cells_of, numbers_of, table_of, Placed, IsSound, Settled, is_queueable}
 use Rattle.executor_core.specs.Cell.Changes.{new_cell}
-use Rattle.executor_core.specs.Cells.Calls.{after_spawn, IsFree, empty_table, AllDropped}
+use Rattle.executor_core.specs.Cells.Calls.{after_spawn, IsFree, empty_table}
 use Rattle.executor_core.proofs.TableLemmas.{same_table}
-use Rattle.executor_core.proofs.SlotLemmas.{sees_get, get_sees}
-use Rattle.executor_core.proofs.WriteLemmas.{front_cell}
-use Rattle.executor_core.proofs.StateLemmas.{ended_state, undropped_by}
+use Rattle.executor_core.proofs.SlotLemmas.{get_sees}
 use Rattle.executor_core.specs.declared.task.cell.Cell.{Cell}
 use Rattle.executor_core.specs.declared.task.cell.Numbered.{Numbered}
 use Rattle.executor_core.specs.declared.task.id.TaskId.{TaskId}
 use Rattle.std.proofs.lemmas.List.Elements.{All-push, All-weaker, All-nil}
 use Rattle.std.proofs.Common.{count_by}
-use Rattle.std.proofs.lemmas.List.Sums.{count_by-le-length}
 use Rattle.std.proofs.lemmas.Bool.{cases_eq}
 use Rattle.std.specs.List.{All}
 use Rattle.executor_core.proofs.SlotLemmas.{insert_same, insert_other, Fits, Changes, put_distinct, cells_of-put, get-cells_of}
 use Rattle.executor_core.proofs.TableLemmas.{law_put, times-push_same, times-push_other, numbers_of-push}
-use Rattle.executor_core.proofs.CountLemmas.{sum_by_zero, recounted, at_least}
-use Rattle.executor_core.proofs.WriteLemmas.{law_at}
-
-length-numbers_of : (ids : List TaskId) → length (numbers_of ids) ≡ length ids
-length-numbers_of [] = refl
-length-numbers_of (id ∷ ids) = ap suc (length-numbers_of ids)
+use Rattle.executor_core.proofs.CountLemmas.{recounted}
 
 none_of : {X : Type 0} (o : Option X) → ((x : X) → o ≡ Some x → ⊥) → o ≡ None
 none_of None h = refl
@@ -36,10 +27,6 @@ none_of (Some x) h = absurd (h x refl)
 
 counts : (u a b s t : ℕ) → u ≡ a + s → b ≡ a + 1 → t + 0 ≡ s + 0 → u + 1 ≡ b + t
 counts u a b s t p q r = omega arith
-
-no_one : (b : Bool) → cond b 1 0 ≤ 0 → b ≡ false
-no_one true h = absurd (omega arith)
-no_one false h = refl
 
 module _ {P T W : Type 0} where
   -- the same cells, with more room
@@ -161,44 +148,6 @@ module _ {P T W : Type 0} where
   pub empty_is : (first : ℕ) → table_of {P = P} {T = T} {W = W} first [] [] ≡ empty_table first
   unfolding cells_of
   empty_is first = refl
-
-  -- nothing is undropped where the count is zero
-  pub all_dropped : {next capacity : ℕ} {slots : List (Option (Numbered (Cell P T W)))} {ids : List TaskId}
-      → IsSound next slots ids capacity 0 → AllDropped (table_of next slots ids)
-  all_dropped {slots = slots} {ids = ids} sound n s found =
-      let sees = get_sees slots n s found in
-      let part : cond (is_queueable (get_or slots sees.at None)) 1 0 ≤ count_by is_queueable slots = at_least (λ o. cond (is_queueable o) 1 0) refl slots sees.at in
-      let counted = sound.counted in
-      let none : cond (is_queueable (get_or slots sees.at None)) 1 0 ≤ 0 = omega arith in
-      let may : is_queueable (Some sees.cell) ≡ false = sym (ap is_queueable sees.there) ∙ no_one _ none in
-      let law : times sees.cell.number (numbers_of ids) ≡ cond (is_scheduled sees.cell.cell.state) 1 0 = law_at sound sees.at sees.cell sees.there in
-      let short : times sees.cell.number (numbers_of ids) ≤ length (numbers_of ids) = count_by-le-length (λ k. k == sees.cell.number) (numbers_of ids) in
-      let same : length (numbers_of ids) ≡ length ids = length-numbers_of ids in
-      let queued : cond (is_scheduled sees.cell.cell.state) 1 0 ≤ 0 = omega arith in
-      ap (λ x. is_undropped x.cell.state) sees.is ∙ undropped_by sees.cell.cell.state may (no_one _ queued)
-
-  pub none_undropped : {next capacity undropped : ℕ} {slots : List (Option (Numbered (Cell P T W)))} {ids : List TaskId}
-      → IsSound next slots ids capacity undropped → AllDropped (table_of next slots ids) → undropped ≡ 0
-  none_undropped {slots = slots} {ids = ids} sound dropped =
-      let empty : length ids ≡ 0 = no_ids ids refl in
-      let none : count_by is_queueable slots ≡ 0 = sum_by_zero (λ o. cond (is_queueable o) 1 0) None slots (λ k. by_slot k (get_or slots k None) refl) in
-      let counted = sound.counted in
-      omega arith
-    where
-      state_of : (k : ℕ) (e : Numbered (Cell P T W)) → get_or slots k None ≡ Some e → (is_scheduled e.cell.state ≡ false) × ((is_idle e.cell.state || is_held e.cell.state) ≡ false)
-      state_of k e there = ended_state e.cell.state (dropped e.number (seen k e.cell) (sees_get slots sound.distinct k e there))
-
-      by_slot : (k : ℕ) (o : Option (Numbered (Cell P T W))) → get_or slots k None ≡ o → cond {A = ℕ} (is_queueable o) 1 0 ≡ 0
-      by_slot k None is = refl
-      by_slot k (Some e) is = let facts = state_of k e is in ap (λ b. cond {A = ℕ} b 1 0) facts.1
-
-      no_ids : (l : List TaskId) → ids ≡ l → length l ≡ 0
-      no_ids [] is = refl
-      no_ids (id ∷ rest) is =
-          let at = front_cell sound id is in
-          let facts = state_of id.slot at.0 at.1 in
-          let both : true ≡ false = sym at.3 ∙ facts.0 in
-          absurd (cc)
 
   -- the slots are the same list by another name
   pub regrown : {next capacity undropped : ℕ} {slots : List (Option (Numbered (Cell P T W)))} {ids : List TaskId}

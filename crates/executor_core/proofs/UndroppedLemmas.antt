@@ -1,5 +1,5 @@
 -- The count of undropped futures is that of the cells of the map.
-use Rattle.std.proofs.Common.{◌≡◌, ◌≢◌, ℕ, zero, suc, ◌+◌, ◌==◌, ◌||◌, Bool, false, List, [], ◌∷◌, length, get_or, Option, Some, None, cond, refl, sym, ap, ◌∙◌, arith}
+use Rattle.std.proofs.Common.{◌≡◌, ◌≢◌, ℕ, zero, suc, ◌+◌, ◌≤◌, ◌==◌, ◌||◌, Bool, true, false, List, [], ◌∷◌, length, get_or, Option, Some, None, cond, refl, sym, ap, ◌∙◌, arith}
 use Rattle.std.specs.Prelude.{count_by, map as list_map}
 use Rattle.std.specs.List.{All, sum_by}
 use Rattle.std.specs.Ordering.{nat_cmp}
@@ -9,20 +9,31 @@ use Rattle.std.specs.Cmp.{nat_cmp_total}
 use Rattle.std.specs.FinMap as map
 use Rattle.std.specs.FinMap.Entries.{put, find}
 use Rattle.std.proofs.lemmas.Bool.{eq-eqb, ne_eqb}
-use Rattle.std.proofs.lemmas.List.Sums.{sum_by-cons}
+use Rattle.std.proofs.lemmas.List.Sums.{sum_by-cons, count_by-le-length}
 use Rattle.std.proofs.lemmas.List.Elements.{All-head, All-tail}
 use Rattle.executor_core.specs.Cells.{Slotted}
 use Rattle.executor_core.specs.Cell.{is_idle, is_held, is_scheduled, is_undropped}
 use Rattle.executor_core.specs.Cells.Law.{scheduled_in}
 use Rattle.executor_core.specs.Numbers.{times}
-use Rattle.executor_core.specs.Cells.View.{seen, by_number, cells_of, Distinct, is_queueable, numbers_of, Placed, IsSound}
-use Rattle.executor_core.proofs.CountLemmas.{sum_by_zero}
+use Rattle.executor_core.specs.Cells.View.{seen, by_number, cells_of, Distinct, is_queueable, numbers_of, table_of, Placed, IsSound}
+use Rattle.executor_core.proofs.CountLemmas.{sum_by_zero, at_least}
 use Rattle.executor_core.proofs.SlotLemmas.{find_sees, get_sees, sees_get}
+use Rattle.executor_core.specs.Cells.Calls.{AllDropped}
+use Rattle.executor_core.proofs.StateLemmas.{ended_state, undropped_by}
+use Rattle.executor_core.proofs.WriteLemmas.{law_at, front_cell}
 use Rattle.executor_core.specs.declared.task.cell.Cell.{Cell}
 use Rattle.executor_core.specs.declared.task.cell.Numbered.{Numbered}
 use Rattle.executor_core.specs.declared.task.cell.CellState.{CellState}
 use Rattle.executor_core.specs.declared.task.cell.CellState.TheVariants.{Idle, Scheduled, Held, Finished, Gone}
 use Rattle.executor_core.specs.declared.task.id.TaskId.{TaskId}
+
+length-numbers_of : (ids : List TaskId) → length (numbers_of ids) ≡ length ids
+length-numbers_of [] = refl
+length-numbers_of (id ∷ ids) = ap suc (length-numbers_of ids)
+
+no_one : (b : Bool) → cond b 1 0 ≤ 0 → b ≡ false
+no_one true h = absurd (omega arith)
+no_one false h = refl
 
 -- no key occurs twice
 abbrev AllFresh : {X : Type 0} → List (ℕ × X) → Type 0
@@ -193,3 +204,41 @@ module _ {P T W : Type 0} where
       lawful : (i : ℕ) (s : Option (Numbered (Cell P T W))) → get_or slots i None ≡ s → queued_times ids s ≡ cond (scheduled_slot s) 1 0
       lawful i None is = refl
       lawful i (Some e) is = sound.law e.number ∙ ap (λ o. cond (scheduled_in o) 1 0) (sees_get slots sound.distinct i e is)
+
+  -- nothing is undropped where the count is zero
+  pub all_dropped : {next capacity : ℕ} {slots : List (Option (Numbered (Cell P T W)))} {ids : List TaskId}
+      → IsSound next slots ids capacity 0 → AllDropped (table_of next slots ids)
+  all_dropped {slots = slots} {ids = ids} sound n s found =
+      let sees = get_sees slots n s found in
+      let part : cond (is_queueable (get_or slots sees.at None)) 1 0 ≤ count_by is_queueable slots = at_least (λ o. cond (is_queueable o) 1 0) refl slots sees.at in
+      let counted = sound.counted in
+      let none : cond (is_queueable (get_or slots sees.at None)) 1 0 ≤ 0 = omega arith in
+      let may : is_queueable (Some sees.cell) ≡ false = sym (ap is_queueable sees.there) ∙ no_one _ none in
+      let law : times sees.cell.number (numbers_of ids) ≡ cond (is_scheduled sees.cell.cell.state) 1 0 = law_at sound sees.at sees.cell sees.there in
+      let short : times sees.cell.number (numbers_of ids) ≤ length (numbers_of ids) = count_by-le-length (λ k. k == sees.cell.number) (numbers_of ids) in
+      let same : length (numbers_of ids) ≡ length ids = length-numbers_of ids in
+      let queued : cond (is_scheduled sees.cell.cell.state) 1 0 ≤ 0 = omega arith in
+      ap (λ x. is_undropped x.cell.state) sees.is ∙ undropped_by sees.cell.cell.state may (no_one _ queued)
+
+  pub none_undropped : {next capacity undropped : ℕ} {slots : List (Option (Numbered (Cell P T W)))} {ids : List TaskId}
+      → IsSound next slots ids capacity undropped → AllDropped (table_of next slots ids) → undropped ≡ 0
+  none_undropped {slots = slots} {ids = ids} sound dropped =
+      let empty : length ids ≡ 0 = no_ids ids refl in
+      let none : count_by is_queueable slots ≡ 0 = sum_by_zero (λ o. cond (is_queueable o) 1 0) None slots (λ k. by_slot k (get_or slots k None) refl) in
+      let counted = sound.counted in
+      omega arith
+    where
+      state_of : (k : ℕ) (e : Numbered (Cell P T W)) → get_or slots k None ≡ Some e → (is_scheduled e.cell.state ≡ false) × ((is_idle e.cell.state || is_held e.cell.state) ≡ false)
+      state_of k e there = ended_state e.cell.state (dropped e.number (seen k e.cell) (sees_get slots sound.distinct k e there))
+
+      by_slot : (k : ℕ) (o : Option (Numbered (Cell P T W))) → get_or slots k None ≡ o → cond {A = ℕ} (is_queueable o) 1 0 ≡ 0
+      by_slot k None is = refl
+      by_slot k (Some e) is = let facts = state_of k e is in ap (λ b. cond {A = ℕ} b 1 0) facts.1
+
+      no_ids : (l : List TaskId) → ids ≡ l → length l ≡ 0
+      no_ids [] is = refl
+      no_ids (id ∷ rest) is =
+          let at = front_cell sound id is in
+          let facts = state_of id.slot at.0 at.1 in
+          let both : true ≡ false = sym at.3 ∙ facts.0 in
+          absurd (cc)

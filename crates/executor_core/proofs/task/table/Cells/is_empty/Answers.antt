@@ -2,7 +2,7 @@ use Rattle.std.proofs.Common.{sym, subst}
 use Rattle.std.proofs.lemmas.Bool.{eqb-true, eq-eqb}
 use Rattle.executor_core.specs.Cells.View.{IsSound}
 use Rattle.executor_core.specs.Cells.Calls.{AllDropped}
-use Rattle.executor_core.proofs.SpawnLemmas.{all_dropped, none_undropped}
+use Rattle.executor_core.proofs.UndroppedLemmas.{all_dropped, none_undropped}
 use Rattle.executor_core.proofs.task.table.Cells.is_empty.Goals as goal
 
 pub returns : goal.returns
