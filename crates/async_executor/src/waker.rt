@@ -36,6 +36,7 @@ impl<W: Wake, R: Wait + Clone + Drop> TaskWaker<W, R> {
 impl<W: Wake, R: Wait + Clone + Drop> Wake for TaskWaker<W, R> {
     /// Schedules the task where it waits for a wake. Where it is being polled, it is scheduled once
     /// that poll ends.
+    #[inline(always)]
     fn wake(&self) {
         let notice = self.state.cells().wake(self.id);
         if let Some(notice) = notice {

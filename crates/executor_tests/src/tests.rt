@@ -12,11 +12,10 @@ use std::sync::Wait;
 use std::test::Fail;
 
 // The task of this future. A test fails where it is refused.
-fn spawned<
-    F: Future<TaskWaker<W, R>> + Send,
-    W: Wake + Send,
-    R: Wait + Clone + Drop + Send + Sync,
->(ex: &Executor<F, W, R>, future: F) -> Result<Task<F, W, R>, Fail>
+fn spawned<F: Future<TaskWaker<W, R>> + Send, W: Wake + Send, R: Wait + Clone + Drop + Send + Sync>(
+    ex: &Executor<F, W, R>,
+    future: F,
+) -> Result<Task<F, W, R>, Fail>
 where
     F::Output: Send,
 {
