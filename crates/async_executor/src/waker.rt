@@ -38,8 +38,9 @@ impl<W: Wake, R: Wait + Clone + Drop> Wake for TaskWaker<W, R> {
     /// that poll ends.
     #[inline(always)]
     fn wake(&self) {
-        let notice = self.state.cells().wake(self.id);
-        if let Some(notice) = notice {
+        let mut cells = self.state.cells();
+        if let Some(notice) = cells.wake(self.id) {
+            drop(cells);
             announce!(self.state, notice);
         }
     }
