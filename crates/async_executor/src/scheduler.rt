@@ -56,10 +56,11 @@ impl<H: Home> ExecutorIn<H> {
     /// once, or dropped where the task was cancelled.
     pub fn try_tick(&self) -> bool {
         let state = self.home.state();
-        let found = state.cells().take_global(None);
-        let Some((taken, notice)) = found else {
+        let mut cells = state.cells();
+        let Some((taken, notice)) = cells.take_global(None) else {
             return false;
         };
+        drop(cells);
         announce!(state, notice);
         self.run_task(taken);
         true

@@ -97,6 +97,7 @@ impl<H: Home> Future<H::Waker> for TaskIn<H> {
     /// then on. While there is no answer, a copy of the waker is kept, in place of an earlier one,
     /// and is woken once there is one. Where the copy is refused, the waker itself is woken and
     /// nothing is kept.
+    #[inline(always)]
     fn poll(&mut self, w: &H::Waker) -> Poll<Result<OutputIn<H>, Cancelled>>
         ensures answered { self.new.answered ≡ is_ready result }
         ensures again { IsTrue self.old.answered → IsReadyErr result }

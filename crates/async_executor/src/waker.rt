@@ -36,9 +36,11 @@ impl<W: Wake, R: Wait + Clone + Drop> TaskWaker<W, R> {
 impl<W: Wake, R: Wait + Clone + Drop> Wake for TaskWaker<W, R> {
     /// Schedules the task where it waits for a wake. Where it is being polled, it is scheduled once
     /// that poll ends.
+    #[inline(always)]
     fn wake(&self) {
-        let notice = self.state.cells().wake(self.id);
-        if let Some(notice) = notice {
+        let mut cells = self.state.cells();
+        if let Some(notice) = cells.wake(self.id) {
+            drop(cells);
             announce!(self.state, notice);
         }
     }

@@ -1,5 +1,7 @@
 //! The futures that are run, and a waker that does nothing.
-use executor_core::task::{Future, OutOfMemory, Poll, Wake};
+use async_executor::{Future, OutOfMemory, Poll, Wake};
+use std::alloc::{AllocError, Global};
+use std::sync::{Arc, Mutex};
 
 /// Wakes nobody.
 #[derive(Drop)]
@@ -39,5 +41,67 @@ impl<W: Wake> Future<W> for Yields {
         self.left -= 1;
         w.wake();
         Poll::Pending
+    }
+}
+
+/// Leaves a copy of its waker where others find it, once, and is never ready.
+#[derive(Drop)]
+pub struct LeavesWaker<W> {
+    place: Arc<Mutex<Option<W>>>,
+    is_left: bool,
+}
+
+impl<W: Drop> LeavesWaker<W> {
+    /// The waker is left here.
+    pub fn at(place: &Arc<Mutex<Option<W>>>) -> Result<LeavesWaker<W>, AllocError> {
+        Ok(LeavesWaker {
+            place: Arc::try_clone(place)?,
+            is_left: false,
+        })
+    }
+}
+
+impl<W: Wake> Future<W> for LeavesWaker<W> {
+    type Output = u64;
+
+    fn poll(&mut self, w: &W) -> Poll<u64> {
+        if self.is_left {
+            return Poll::Pending;
+        }
+        let before = match (w.copy(), self.place.try_lock()) {
+            (Ok(copy), Some(mut place)) => place.replace(copy),
+            _ => None,
+        };
+        drop(before);
+        self.is_left = true;
+        Poll::Pending
+    }
+}
+
+/// The size of a large future.
+const LARGE: usize = 4_096;
+
+/// Ready at its first poll, and large.
+#[derive(Drop)]
+pub struct Large {
+    bytes: [u8; LARGE],
+}
+
+impl Large {
+    pub fn new() -> Large {
+        Large { bytes: [7; LARGE] }
+    }
+
+    /// On the heap.
+    pub fn boxed(alloc: Global) -> Result<Box<Large>, AllocError> {
+        Ok(Box::new(alloc, Large::new())?)
+    }
+}
+
+impl<W> Future<W> for Large {
+    type Output = u64;
+
+    fn poll(&mut self, _w: &W) -> Poll<u64> {
+        Poll::Ready(u64::from(self.bytes[0]))
     }
 }

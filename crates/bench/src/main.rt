@@ -8,6 +8,7 @@
 
 pub mod futures;
 pub mod rows;
+pub mod threads;
 
 use rows::Row;
 use std::alloc::Global;
@@ -15,6 +16,7 @@ use std::io;
 use std::process::ExitCode;
 use std::rt::Clock;
 use std::sync::Wait;
+use std::thread::Threads;
 use std::time::{Duration, Instant};
 
 const SMALL: u64 = 10;
@@ -60,7 +62,10 @@ fn refused(rt: &impl Print, row: Row) -> io::Result<ExitCode> {
     Ok(ExitCode::FAILURE)
 }
 
-fn print_counts<R: Wait + Clone + Drop + Send + Sync + Print>(rt: &R, alloc: Global) -> io::Result<ExitCode> {
+fn print_counts<R: Wait + Clone + Drop + Send + Sync + Threads + Print>(
+    rt: &R,
+    alloc: Global,
+) -> io::Result<ExitCode> {
     for row in Row::ALL {
         let Some(count) = row.run(rt, alloc, SMALL) else {
             return refused(rt, row);
@@ -87,7 +92,7 @@ fn print_time(rt: &impl Print, row: Row, operations: u64, time: Duration) -> io:
 }
 
 // The shortest time of the runs, or `None` where memory was refused.
-fn fastest<R: Wait + Clone + Drop + Send + Sync + Clock>(
+fn fastest<R: Wait + Clone + Drop + Send + Sync + Threads + Clock>(
     rt: &R,
     alloc: Global,
     row: Row,

@@ -1,9 +1,10 @@
 //! What is measured.
-use crate::futures::{IdleWaker, Yields};
-use async_executor::executor::Executor;
-use executor_core::task::{Future, Poll};
+use crate::futures::{IdleWaker, Large, LeavesWaker, Yields};
+use crate::threads::threads_try_tick;
+use async_executor::{Executor, Future, Poll, TaskWaker, Wake};
 use std::alloc::Global;
-use std::sync::Wait;
+use std::sync::{Arc, Mutex, Wait};
+use std::thread::Threads;
 
 /// One kind of measured operation.
 #[derive(Debug, Clone, Copy, PartialEq, Eq)]
@@ -20,16 +21,37 @@ pub enum Row {
     SpawnDrop,
     /// Spawn a task, cancel it, run it and ask for its output.
     SpawnCancel,
+    /// Poll the handle of a task that is not run.
+    PollHandlePending,
+    /// Wake an idle task, and run it.
+    WakeIdle,
+    /// Spawn, detach and run a task whose future has 4,096 bytes.
+    SpawnTryTick4k,
+    /// The same, with the future in a box.
+    SpawnTryTick4kBoxed,
+    /// Run 1,000 tasks that wake themselves, on one thread.
+    ThreadsTryTick1,
+    /// The same on two threads.
+    ThreadsTryTick2,
+    /// The same on four threads.
+    ThreadsTryTick4,
 }
 
 impl Row {
-    pub const ALL: [Row; 6] = [
+    pub const ALL: [Row; 13] = [
         Row::SpawnTryTick,
         Row::SpawnDrain,
         Row::YieldTryTick,
         Row::EmptyTryTick,
         Row::SpawnDrop,
         Row::SpawnCancel,
+        Row::PollHandlePending,
+        Row::WakeIdle,
+        Row::SpawnTryTick4k,
+        Row::SpawnTryTick4kBoxed,
+        Row::ThreadsTryTick1,
+        Row::ThreadsTryTick2,
+        Row::ThreadsTryTick4,
     ];
 
     /// The name on the command line.
@@ -41,6 +63,13 @@ impl Row {
             Row::EmptyTryTick => "empty_try_tick",
             Row::SpawnDrop => "spawn_drop",
             Row::SpawnCancel => "spawn_cancel",
+            Row::PollHandlePending => "poll_handle_pending",
+            Row::WakeIdle => "wake_idle",
+            Row::SpawnTryTick4k => "spawn_try_tick_4k",
+            Row::SpawnTryTick4kBoxed => "spawn_try_tick_4k_boxed",
+            Row::ThreadsTryTick1 => "threads_try_tick_1",
+            Row::ThreadsTryTick2 => "threads_try_tick_2",
+            Row::ThreadsTryTick4 => "threads_try_tick_4",
         }
     }
 
@@ -56,7 +85,25 @@ impl Row {
 
     /// Runs this many operations on a new executor, and counts those that did what they were to do. `None` where
     /// memory was refused.
-    pub fn run<R: Wait + Clone + Drop + Send + Sync>(
+    pub fn run<R: Wait + Clone + Drop + Send + Sync + Threads>(
+        self,
+        rt: &R,
+        alloc: Global,
+        operations: u64,
+    ) -> Option<u64> {
+        match self {
+            Row::WakeIdle => wake_idle(rt, alloc, operations),
+            Row::SpawnTryTick4k => spawn_large(rt, alloc, operations),
+            Row::SpawnTryTick4kBoxed => spawn_boxed(rt, alloc, operations),
+            Row::ThreadsTryTick1 => threads_try_tick(rt, alloc, 1, operations),
+            Row::ThreadsTryTick2 => threads_try_tick(rt, alloc, 2, operations),
+            Row::ThreadsTryTick4 => threads_try_tick(rt, alloc, 4, operations),
+            _ => self.run_yields(rt, alloc, operations),
+        }
+    }
+
+    // The rows on one thread whose futures are `Yields`.
+    fn run_yields<R: Wait + Clone + Drop + Send + Sync>(
         self,
         rt: &R,
         alloc: Global,
@@ -70,11 +117,17 @@ impl Row {
             Row::EmptyTryTick => Some(empty_try_tick(&ex, operations)),
             Row::SpawnDrop => spawn_drop(&ex, operations),
             Row::SpawnCancel => spawn_cancel(&ex, operations),
+            Row::PollHandlePending => poll_handle_pending(&ex, operations),
+            _ => None,
         }
     }
 }
 
-fn ticks<R: Wait + Clone + Drop + Send + Sync>(ex: &Executor<Yields, IdleWaker, R>, times: u64) -> u64 {
+fn ticks<F, R>(ex: &Executor<F, IdleWaker, R>, times: u64) -> u64
+where
+    F: Future<TaskWaker<IdleWaker, R>, Output = u64> + Send,
+    R: Wait + Clone + Drop + Send + Sync,
+{
     let mut count = 0u64;
     for _ in 0..times {
         if ex.try_tick() {
@@ -145,6 +198,73 @@ fn spawn_cancel<R: Wait + Clone + Drop + Send + Sync>(
     for _ in 0..operations {
         let mut cancel = ex.spawn(Yields::READY).ok()?.cancel();
         if ex.try_tick() && cancel.poll(&IdleWaker) == Poll::Ready(None) {
+            count = count.saturating_add(1);
+        }
+    }
+    Some(count)
+}
+
+fn poll_handle_pending<R: Wait + Clone + Drop + Send + Sync>(
+    ex: &Executor<Yields, IdleWaker, R>,
+    operations: u64,
+) -> Option<u64> {
+    let mut task = ex.spawn(Yields::READY).ok()?;
+    let mut count = 0u64;
+    for _ in 0..operations {
+        if task.poll(&IdleWaker) == Poll::Pending {
+            count = count.saturating_add(1);
+        }
+    }
+    Some(count)
+}
+
+fn wake_idle<R: Wait + Clone + Drop + Send + Sync>(
+    rt: &R,
+    alloc: Global,
+    operations: u64,
+) -> Option<u64> {
+    let place = Arc::new(alloc, Mutex::new(None)).ok()?;
+    let ex: Executor<LeavesWaker<_>, IdleWaker, R> = Executor::new(rt.clone().ok()?, alloc).ok()?;
+    ex.spawn(LeavesWaker::at(&place).ok()?).ok()?.detach();
+    ex.try_tick();
+    let left = place.lock(rt).take();
+    let waker: TaskWaker<IdleWaker, R> = left?;
+    let mut count = 0u64;
+    for _ in 0..operations {
+        waker.wake();
+        if ex.try_tick() {
+            count = count.saturating_add(1);
+        }
+    }
+    Some(count)
+}
+
+fn spawn_large<R: Wait + Clone + Drop + Send + Sync>(
+    rt: &R,
+    alloc: Global,
+    operations: u64,
+) -> Option<u64> {
+    let ex: Executor<Large, IdleWaker, R> = Executor::new(rt.clone().ok()?, alloc).ok()?;
+    let mut count = 0u64;
+    for _ in 0..operations {
+        ex.spawn(Large::new()).ok()?.detach();
+        if ex.try_tick() {
+            count = count.saturating_add(1);
+        }
+    }
+    Some(count)
+}
+
+fn spawn_boxed<R: Wait + Clone + Drop + Send + Sync>(
+    rt: &R,
+    alloc: Global,
+    operations: u64,
+) -> Option<u64> {
+    let ex: Executor<Box<Large>, IdleWaker, R> = Executor::new(rt.clone().ok()?, alloc).ok()?;
+    let mut count = 0u64;
+    for _ in 0..operations {
+        ex.spawn(Large::boxed(alloc).ok()?).ok()?.detach();
+        if ex.try_tick() {
             count = count.saturating_add(1);
         }
     }

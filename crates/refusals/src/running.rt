@@ -89,7 +89,11 @@ fn run_all<R: Wait + Clone + Drop + Send + Sync>(
 }
 
 /// Spawns tasks on a new executor and runs them. A call that is refused is made again.
-pub fn spawn_and_run<R: Wait + Clone + Drop + Send + Sync>(rt: &R, alloc: Global, outcome: &mut Outcome) {
+pub fn spawn_and_run<R: Wait + Clone + Drop + Send + Sync>(
+    rt: &R,
+    alloc: Global,
+    outcome: &mut Outcome,
+) {
     let sum = AtomicU64::new(0);
     let Some(ex) = made(rt, alloc, outcome) else {
         return outcome.expect(false);

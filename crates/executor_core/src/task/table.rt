@@ -85,6 +85,7 @@ impl<P, T, W> Cells<P, T, W> {
     ///
     /// `Exhausted` exactly where every number was given, and `OutOfMemory` where a growth was
     /// refused. The future comes back, and nothing else changed.
+    #[inline(always)]
     pub fn spawn(&mut self, future: P) -> Result<(TaskId, Notice), SpawnError<P>>
         ensures ok { IfOk result (λ r. self.new ≡ after_spawn self.old r.0.slot future) }
         ensures id { IfOk result (λ r. r.0.number ≡ self.old.next) }
