@@ -244,3 +244,23 @@ where
         Err(_) => Err("refused".into()),
     }
 }
+
+/// What this future gives at its first poll, on an executor of its own that is dropped after it.
+pub fn output_of<
+    F: Future<TaskWaker<TestWaker, R>> + Send,
+    R: AllocGlobal + Wait + Clone + Drop + Send + Sync,
+>(rt: R, future: F) -> Option<F::Output>
+where
+    F::Output: Send,
+{
+    let alloc = rt.alloc();
+    let waker = TestWaker::new(&Record::new(alloc).ok()?).ok()?;
+    let ex = Executor::new(rt, alloc).ok()?;
+    let mut task = ex.spawn(future).ok()?;
+    let ticked = ex.try_tick();
+    drop(ex);
+    match task.poll(&waker) {
+        Poll::Ready(Ok(output)) if ticked => Some(output),
+        _ => None,
+    }
+}

@@ -1,5 +1,5 @@
-//! In which order a task's parts are dropped and its awaiter is woken: they halt, and another thread
-//! looks.
+//! What becomes of a task, and in which order, where it is cancelled or let go while another thread
+//! polls or drops its future.
 use std::test::Fail;
 use test_parts::future::Kind::{Never, Ready, WakesAndReady, Yields};
 use test_parts::line::Answer::{Cancelled, Pending, Ticked};
