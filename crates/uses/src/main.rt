@@ -4,9 +4,8 @@
 mod calling;
 mod futures;
 
-use async_executor::executor::{Cancelled, Executor};
+use async_executor::{Cancelled, Executor, Future, OutOfMemory, Poll};
 use calling::{asks_again, gives_back};
-use executor_core::task::{Future, OutOfMemory, Poll};
 use futures::{Job, Nobody, Receiver, Sum, send};
 use std::alloc::Global;
 use std::io;
@@ -89,6 +88,16 @@ fn mixes<R: Wait + Clone + Drop + Send + Sync>(rt: R, alloc: Global) -> Option<(
     ))
 }
 
+/// Runs a future on the heap, of which only the address is moved at each poll.
+fn boxes<R: Wait + Clone + Drop + Send + Sync>(rt: R, alloc: Global) -> Option<u64> {
+    let executor = Executor::new(rt, alloc).ok()?;
+    let future = Box::new(alloc, Sum::of(1, 2)).ok()?;
+    let mut task = executor.spawn(future).ok()?;
+    executor.try_tick();
+    executor.try_tick();
+    output_of(task.poll(&Nobody))
+}
+
 /// Runs a task that waits for a number, which another party sends through the waker that it left.
 fn receives<R: Wait + Clone + Drop + Send + Sync>(rt: R, alloc: Global) -> Option<u64> {
     let right = rt.clone().ok()?;
@@ -159,6 +168,7 @@ fn main(rt: HostRuntime) -> io::Result<()> {
         println!(rt; "asks_again: {:?}", asks_again(&mut task, &Nobody))?;
     }
     println!(rt; "mixes: {:?}", mixes(rt.clone()?, alloc))?;
+    println!(rt; "boxes: {:?}", boxes(rt.clone()?, alloc))?;
     println!(rt; "receives: {:?}", receives(rt.clone()?, alloc))?;
     println!(rt; "nests: {:?}", nests(rt.clone()?, alloc))?;
     println!(rt; "shares: {:?}", shares(rt.clone()?, alloc))
