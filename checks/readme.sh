@@ -34,7 +34,7 @@ stands() { printf '%s\n' "$sources" | xargs grep -qE -- "$1"; }
 is_there() {
     case $1 in
         *[!A-Za-z0-9_:./]* | S | self | break | unsafe | specs/ | proofs/ | src/ | out/) return 0 ;;
-        uses::*) grep -q "fn ${1#uses::}<" crates/uses/src/*.rt ;;
+        uses::*) grep -qE "fn ${1#uses::}\b" crates/uses/src/*.rt ;;
         */* | *.md | *.txt | *.svg) [ -e "$1" ] || [ -e "docs/$1" ] || [ -e "crates/executor_core/src/$1.rt" ] ;;
         [A-Z]*::[a-z]*) stands "fn ${1#*::}\b" ;;
         [A-Z]*) stands "(struct|enum|trait|type|const) $1\b" || stands "^ +$1(\(|,| \{|$)" ;;
@@ -98,6 +98,19 @@ if [ -s "$copy/log" ]; then
     fail "examples that crates/uses lacks:" "$copy/log"
 else
     pass "each example is in crates/uses"
+fi
+
+# The public calls of async_executor whose comment names no example.
+for source in crates/async_executor/src/*.rt; do
+    awk -v source="${source##*/}" '
+        /^ *\/\/\/ Example: / { example = 1 }
+        /^ *pub fn / { if (!example) print source ": " $3 }
+        !/^ *(\/\/\/|#\[)/ { example = 0 }' "$source"
+done > "$copy/log"
+if [ -s "$copy/log" ]; then
+    fail "calls without an example:" "$copy/log"
+else
+    pass "each public call has an example"
 fi
 
 for page in README.md docs/*.md "$calling"; do
