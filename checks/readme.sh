@@ -1,7 +1,7 @@
 #!/bin/sh
 # Compares what the pages say with what the repository has: programs, callers and printed runs word
-# for word, the contracts that are quoted, the calls and clauses that carry a promise, the modules of
-# the map, the worked interleaving of exsim, links, and figures.
+# for word, quoted contracts, the calls and clauses that carry a promise, the modules of the map,
+# the worked interleaving of exsim, examples, links, and figures.
 # Usage: checks/readme.sh, anywhere. RT names the command rt. Its last line counts the comparisons.
 set -u
 . "$(dirname "$0")/edits"
@@ -54,7 +54,7 @@ sed -n 's/^It prints `\([^`]*\)`.*/\1/p' README.md > "$copy/said"
 cp crates/hello/stdout "$copy/wanted"
 same "README.md, what the program prints"
 
-block README.md text "Both print" > "$copy/said"
+block README.md text "The first two print" > "$copy/said"
 cp crates/exsim/stdout "$copy/wanted"
 same "README.md, the run of exsim"
 
@@ -128,6 +128,10 @@ sed -n '/^## One interleaving/,/^## /s/^| `\([^`]*\)` | `\([^`]*\)` |.*/\1\t\2/p
 cut -f2 "$copy/rows" > "$copy/said"
 (cd crates/exsim && cut -f1 "$copy/rows" | "${RT:-rt}" try 2> /dev/null) > "$copy/wanted"
 same "EXSIM.md, the worked interleaving"
+
+sed -n 's/^bench | \([a-z0-9_]*\) .*/\1/p' docs/figures.txt | sort > "$copy/said"
+cut -d' ' -f1 crates/bench/stdout | grep -Fxf "$copy/said" | sort > "$copy/wanted"
+same "figures.txt, the rows of bench"
 
 docs/figures.py --check > "$copy/figures"
 sed '$d' "$copy/figures"
