@@ -1,7 +1,7 @@
 #!/bin/sh
 # Compares what the pages say with what the repository has: programs, callers and printed runs word
-# for word, the contracts that are quoted, the calls and clauses that carry a promise, the modules of
-# the map, the worked interleaving of exsim, links, and figures.
+# for word, quoted contracts, the calls and clauses that carry a promise, the modules of the map,
+# the worked interleaving of exsim, examples, links, and figures.
 # Usage: checks/readme.sh, anywhere. RT names the command rt. Its last line counts the comparisons.
 set -u
 . "$(dirname "$0")/edits"
@@ -34,7 +34,7 @@ stands() { printf '%s\n' "$sources" | xargs grep -qE -- "$1"; }
 is_there() {
     case $1 in
         *[!A-Za-z0-9_:./]* | S | self | break | unsafe | specs/ | proofs/ | src/ | out/) return 0 ;;
-        uses::*) grep -q "fn ${1#uses::}<" crates/uses/src/*.rt ;;
+        uses::*) grep -qE "fn ${1#uses::}\b" crates/uses/src/*.rt ;;
         */* | *.md | *.txt | *.svg) [ -e "$1" ] || [ -e "docs/$1" ] || [ -e "crates/executor_core/src/$1.rt" ] ;;
         [A-Z]*::[a-z]*) stands "fn ${1#*::}\b" ;;
         [A-Z]*) stands "(struct|enum|trait|type|const) $1\b" || stands "^ +$1(\(|,| \{|$)" ;;
@@ -54,7 +54,7 @@ sed -n 's/^It prints `\([^`]*\)`.*/\1/p' README.md > "$copy/said"
 cp crates/hello/stdout "$copy/wanted"
 same "README.md, what the program prints"
 
-block README.md text "Both print" > "$copy/said"
+block README.md text "The first two print" > "$copy/said"
 cp crates/exsim/stdout "$copy/wanted"
 same "README.md, the run of exsim"
 
@@ -100,6 +100,19 @@ else
     pass "each example is in crates/uses"
 fi
 
+# The public calls of async_executor whose comment names no example.
+for source in crates/async_executor/src/*.rt; do
+    awk -v source="${source##*/}" '
+        /^ *\/\/\/ Example: / { example = 1 }
+        /^ *pub fn / { if (!example) print source ": " $3 }
+        !/^ *(\/\/\/|#\[)/ { example = 0 }' "$source"
+done > "$copy/log"
+if [ -s "$copy/log" ]; then
+    fail "calls without an example:" "$copy/log"
+else
+    pass "each public call has an example"
+fi
+
 for page in README.md docs/*.md "$calling"; do
     grep -oE '\]\([^)#]*' "$page" | sed 's/^](//' | grep -v '^http' | while read -r link; do
         [ -e "$(dirname "$page")/$link" ] || echo "$page: $link"
@@ -115,6 +128,10 @@ sed -n '/^## One interleaving/,/^## /s/^| `\([^`]*\)` | `\([^`]*\)` |.*/\1\t\2/p
 cut -f2 "$copy/rows" > "$copy/said"
 (cd crates/exsim && cut -f1 "$copy/rows" | "${RT:-rt}" try 2> /dev/null) > "$copy/wanted"
 same "EXSIM.md, the worked interleaving"
+
+sed -n 's/^bench | \([a-z0-9_]*\) .*/\1/p' docs/figures.txt | sort > "$copy/said"
+cut -d' ' -f1 crates/bench/stdout | grep -Fxf "$copy/said" | sort > "$copy/wanted"
+same "figures.txt, the rows of bench"
 
 docs/figures.py --check > "$copy/figures"
 sed '$d' "$copy/figures"

@@ -1,8 +1,7 @@
 //! One task, run to its end on the thread of `main`.
 #![tactic(auto)]
 
-use async_executor::executor::Executor;
-use executor_core::task::{Future, OutOfMemory, Poll, Wake};
+use async_executor::{Executor, Future, OutOfMemory, Poll, Wake};
 use std::io;
 
 /// Gives the sum of two numbers at its second poll. At its first poll it asks for the second.

@@ -2,8 +2,7 @@
 ghost use Rattle.std.specs.Prelude.{◌≡◌, true, IfErr};
 ghost use Rattle.async_executor.specs.Answers.{is_ready, IsReadyErr};
 
-use async_executor::executor::{Cancelled, Executor, Task, TaskWaker};
-use executor_core::task::{Future, Poll, Wake};
+use async_executor::{Cancelled, Executor, Future, Poll, Task, TaskWaker, Wake};
 use std::sync::Wait;
 
 /// Spawns a future, and gives it back where memory is refused or no task number is left.

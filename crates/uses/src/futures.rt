@@ -1,5 +1,5 @@
 //! The futures that the callers spawn, and the waker that they ask with.
-use executor_core::task::{Future, OutOfMemory, Poll, Wake};
+use async_executor::{Future, OutOfMemory, Poll, Wake};
 use std::alloc::{AllocError, Global};
 use std::sync::{Arc, Mutex, Wait};
 

@@ -4,9 +4,9 @@
 mod calling;
 mod futures;
 
-use async_executor::executor::{Cancelled, Executor};
+use async_executor::{Cancelled, Executor, Future, OutOfMemory, Poll};
 use calling::{asks_again, gives_back};
-use executor_core::task::{Future, OutOfMemory, Poll};
+use executor_core::interleave::{Reply, Step, World};
 use futures::{Job, Nobody, Receiver, Sum, send};
 use std::alloc::Global;
 use std::io;
@@ -75,6 +75,19 @@ fn falls_back<R: Wait + Clone + Drop + Send + Sync>(
     Some(task.poll(&Nobody))
 }
 
+/// Ends two handles that would answer `None`: one task runs on, and one is cancelled.
+fn lets_go<R: Wait + Clone + Drop + Send + Sync>(
+    executor: &Executor<Sum, Nobody, R>,
+) -> Option<Poll<Option<u64>>> {
+    executor.spawn(Sum::of(1, 2)).ok()?.fallible().detach();
+    let mut cancel = executor.spawn(Sum::of(3, 4)).ok()?.fallible().cancel();
+    // Two ticks poll the first task to its end, and one drops the future of the second.
+    for _ in 0..3 {
+        executor.try_tick();
+    }
+    Some(cancel.poll(&Nobody))
+}
+
 /// Runs futures of two kinds on one executor.
 fn mixes<R: Wait + Clone + Drop + Send + Sync>(rt: R, alloc: Global) -> Option<(u64, u64)> {
     let executor = Executor::new(rt, alloc).ok()?;
@@ -87,6 +100,16 @@ fn mixes<R: Wait + Clone + Drop + Send + Sync>(rt: R, alloc: Global) -> Option<(
         output_of(add.poll(&Nobody))?,
         output_of(give.poll(&Nobody))?,
     ))
+}
+
+/// Runs a future on the heap, of which only the address is moved at each poll.
+fn boxes<R: Wait + Clone + Drop + Send + Sync>(rt: R, alloc: Global) -> Option<u64> {
+    let executor = Executor::new(rt, alloc).ok()?;
+    let future = Box::new(alloc, Sum::of(1, 2)).ok()?;
+    let mut task = executor.spawn(future).ok()?;
+    executor.try_tick();
+    executor.try_tick();
+    output_of(task.poll(&Nobody))
 }
 
 /// Runs a task that waits for a number, which another party sends through the waker that it left.
@@ -143,6 +166,16 @@ fn shares<R: Wait + Threads + Clone + Drop + Send + Sync>(rt: R, alloc: Global) 
     Some(executor.is_empty())
 }
 
+/// Takes the steps of several parties on a world: a wake in the middle of a poll is not lost, and
+/// the task is queued again as the poll ends.
+fn interleaves(alloc: Global) -> Option<bool> {
+    let mut world: World<(), u64> = World::new(alloc, 4).ok()?;
+    world.step(Step::Spawn(()));
+    world.step(Step::TryTick);
+    world.step(Step::Wake(0));
+    Some(matches!(world.step(Step::Pend(0)), Reply::Queued(0)))
+}
+
 fn main(rt: HostRuntime) -> io::Result<()> {
     let alloc = rt.alloc();
     let Ok(executor) = Executor::new(rt.clone()?, alloc) else {
@@ -153,13 +186,16 @@ fn main(rt: HostRuntime) -> io::Result<()> {
     println!(rt; "cancels: {:?}", cancels(&executor))?;
     println!(rt; "drops: {}", drops(&executor))?;
     println!(rt; "falls_back: {:?}", falls_back(&executor))?;
+    println!(rt; "lets_go: {:?}", lets_go(&executor))?;
     if let Ok(mut task) = gives_back(&executor, Sum::of(1, 2)) {
         executor.try_tick();
         executor.try_tick();
         println!(rt; "asks_again: {:?}", asks_again(&mut task, &Nobody))?;
     }
     println!(rt; "mixes: {:?}", mixes(rt.clone()?, alloc))?;
+    println!(rt; "boxes: {:?}", boxes(rt.clone()?, alloc))?;
     println!(rt; "receives: {:?}", receives(rt.clone()?, alloc))?;
     println!(rt; "nests: {:?}", nests(rt.clone()?, alloc))?;
-    println!(rt; "shares: {:?}", shares(rt.clone()?, alloc))
+    println!(rt; "shares: {:?}", shares(rt.clone()?, alloc))?;
+    println!(rt; "interleaves: {:?}", interleaves(alloc))
 }

@@ -6,6 +6,8 @@ use std::alloc::AllocError;
 use thiserror::Error;
 
 /// A growth of memory was refused. Nothing else changed.
+///
+/// Example: `uses::gives_back`.
 #[derive(Debug, Clone, Copy, PartialEq, Eq, Error)]
 #[error("out of memory")]
 pub struct OutOfMemory;
@@ -17,6 +19,8 @@ impl From<AllocError> for OutOfMemory {
 }
 
 /// Why no task was spawned, with its future. Nothing else changed.
+///
+/// Example: `uses::gives_back`.
 #[derive(Debug, PartialEq, Eq, Drop, Error)]
 pub enum SpawnError<P> {
     /// A growth of memory was refused.
@@ -29,6 +33,8 @@ pub enum SpawnError<P> {
 
 impl<P> SpawnError<P> {
     /// The future that was refused.
+    ///
+    /// Example: `uses::gives_back`.
     pub fn into_inner(self) -> P
         ensures { result ≡ refused_future self }
     {

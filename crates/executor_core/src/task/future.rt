@@ -2,15 +2,23 @@
 use crate::task::error::OutOfMemory;
 
 /// Asks whoever polls for another poll. It stands for `std::task::Waker`.
+///
+/// Example: `uses::receives`.
 pub trait Wake: Drop {
     /// Asks for another poll.
     fn wake(&self);
 
-    /// A second waker for the same poll, or the answer that memory for it was refused.
+    /// A second waker for the same poll.
+    ///
+    /// # Errors
+    ///
+    /// `OutOfMemory` where memory for it is refused.
     fn copy(&self) -> Result<Self, OutOfMemory>;
 }
 
 /// The answer of a poll. It stands for `std::task::Poll`.
+///
+/// Example: `uses::runs`.
 #[derive(Debug, PartialEq, Eq, Drop)]
 pub enum Poll<T> {
     /// The future gave this, and is not to be polled again.
@@ -20,6 +28,8 @@ pub enum Poll<T> {
 }
 
 /// What is polled to its end, by wakers of the type W. It stands for `std::future::Future`.
+///
+/// Example: `uses::mixes`.
 pub trait Future<W>: Drop {
     /// What it gives in the end.
     type Output: Drop;
