@@ -1,4 +1,4 @@
-pub use Rattle.executor_core.specs.Refusals
+pub use Rattle.executor_core.specs.SpawnError
 pub mod Answers
 pub mod Poller
 pub mod Store
