@@ -1,5 +1,5 @@
 -- What a world keeps of each task, and what is known of it, by number.
-use Rattle.std.proofs.Common.{◌≡◌, ◌≢◌, ℕ, zero, suc, ◌+◌, ◌<◌, true, false, List, [], ◌∷◌, ◌++◌, length, Option, Some, None, refl, sym, ap, ◌∙◌, arith}
+use Rattle.std.proofs.Common.{◌≡◌, ℕ, zero, suc, ◌<◌, true, List, [], ◌∷◌, ◌++◌, length, Option, Some, None, refl, sym, ap, ◌∙◌, arith}
 use Rattle.std.proofs.lemmas.List.{map-append}
 use Rattle.std.specs.Prelude.{slice_get, slice_set}
 use Rattle.executor_core.specs.World.Entries.{infos}
@@ -7,7 +7,6 @@ use Rattle.executor_core.specs.World.{Execution}
 use Rattle.executor_core.specs.World.Steps.{info, info_or}
 use Rattle.executor_core.specs.World.View.{execution_of}
 use Rattle.executor_core.specs.declared.interleave.World.TheInside.{Inside}
-use Rattle.executor_core.proofs.ListLemmas.{within_get}
 use Rattle.executor_core.specs.declared.interleave.entry.TaskInfo.{TaskInfo}
 use Rattle.executor_core.specs.declared.interleave.entry.TaskEntry.{TaskEntry}
 use Rattle.executor_core.specs.declared.interleave.entry.FutureOut.{FutureOut}

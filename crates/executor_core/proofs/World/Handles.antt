@@ -1,5 +1,5 @@
 -- A handle is polled, detached or dropped.
-use Rattle.std.proofs.Common.{◌≡◌, ◌≢◌, ℕ, ◌+◌, ◌≤◌, ◌||◌, ◌&&◌, not, Bool, true, false, List, [], ◌∷◌, ◌++◌, length, Option, Some, None, is_some, cond, refl, sym, ap, subst, ◌∙◌, inl, inr, arith}
+use Rattle.std.proofs.Common.{◌≡◌, ◌≢◌, ℕ, ◌+◌, ◌||◌, not, Bool, true, false, List, [], ◌∷◌, ◌++◌, Option, Some, None, cond, refl, sym, ap, subst, ◌∙◌, inl, inr, arith}
 use Rattle.std.proofs.lemmas.Bool.{cases_Bool, cond-true, cond-false}
 use Rattle.std.specs.Prelude.{slice_get, slice_set}
 use Rattle.std.specs.Vec.{vec_capacity}
@@ -11,14 +11,14 @@ use Rattle.executor_core.specs.World.{Execution}
 use Rattle.executor_core.specs.World.Entries.{infos}
 use Rattle.executor_core.specs.World.Log.{spawned, dropped, held, idle, outputs, given}
 use Rattle.executor_core.specs.World.Promises.{InOrder}
-use Rattle.executor_core.specs.World.Steps.{info, row, handle_row, output_reply, detach_row, end_reply, drop_handle_row}
+use Rattle.executor_core.specs.World.Steps.{info, handle_row, output_reply, detach_row, end_reply, drop_handle_row}
 use Rattle.executor_core.specs.World.View.{execution_of, IsWorld}
 use Rattle.executor_core.specs.World.Agreement.{Status, status, FewPollsFor, StateAgrees, Agree, AnswerAgrees, HandleAgrees, HandlesAgree}
 use Rattle.executor_core.proofs.ListLemmas.{length-push, length-slice_set}
 use Rattle.executor_core.proofs.World.Log.{on_give, order-push}
 use Rattle.executor_core.proofs.World.Entries.{infos-set, entry_of, handle_there}
-use Rattle.executor_core.proofs.World.Agreement.{id_of, dropped_state, undropped_is, undropped_state, CellAt, handle_cell, LogChange, log_same, log_pushed, entry_set, cell_put, cell_removed, agree_again}
-use Rattle.executor_core.proofs.World.Marks.{cancel_marks, idle_undropped}
+use Rattle.executor_core.proofs.World.Agreement.{id_of, undropped_is, undropped_state, CellAt, handle_cell, LogChange, log_same, log_pushed, entry_set, cell_put, cell_removed, agree_again}
+use Rattle.executor_core.proofs.World.Marks.{cancel_marks}
 use Rattle.executor_core.proofs.World.Room.{length-push_if}
 use Rattle.executor_core.proofs.World.Steps.{stepped, Done, stepped_sound}
 use Rattle.executor_core.specs.declared.task.cell.CellState.{CellState}
@@ -246,16 +246,5 @@ module _ {P T : Type 0} (a : Inside P T) (sound : IsWorld (execution_of a) a.cor
             let far = rw (← view) at far in
             rw (← view, counted, core_is, set_to _ entries_is info_is, log_is, noticed, answers, keeps, now, queues_is, output_is, capacity, same, alive, marks.queued) (record {
               sound = stepped_sound a sound refl far (idle n a.log.items) _ _ _ (λ never. queue ∙ cond-false (idle n a.log.items) _ _ never) (let long = length-slice_set a.entries.items n e in omega arith) (let long = length-push_if (not (dropped n a.log.items)) a.log.items (Cancelled n) in omega arith) (detach_holds marks.holds n _ at there);
-              does = rw (infos-set a.entries.items n e) (by_cases (after_detach (after_cancel a.core.cells (id_of n i)) (id_of n i)).global queue);
+              does = rw (infos-set a.entries.items n e, queue, found) (refl, refl);
             })
-          where
-            by_cases : (queue : List ℕ) → queue ≡ cond (idle n a.log.items) (a.core.cells.global ++ n ∷ []) a.core.cells.global
-                → row (drop_handle_row n (execution_of a)) (end_reply (idle n a.log.items) (slice_get (outputs n a.log.items) 0))
-                (record (execution_of a) { log = cond (not (dropped n a.log.items)) (a.log.items ++ Cancelled n ∷ []) a.log.items; accepted = a.accepted + 1; global = queue; notices = cond (idle n a.log.items) (a.notices + 1) a.notices; tasks = slice_set (infos a.entries.items) n (record i { has_handle = false; awaited = false }) })
-            by_cases queue is = elim (cases_Bool (idle n a.log.items)) [
-              | inl now ↦ rw (is, now, idle_undropped (spawned n a.log.items) (dropped n a.log.items) _ _ now, found) (refl, refl)
-              | inr never ↦ elim (cases_Bool (dropped n a.log.items)) [
-                | inl gone ↦ rw (is, never, gone, found) (refl, refl)
-                | inr alive ↦ rw (is, never, alive, found) (refl, refl)
-              ]
-            ]

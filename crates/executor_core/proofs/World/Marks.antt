@@ -1,17 +1,17 @@
 -- A task is marked as woken or cancelled, and an idle one is queued.
-use Rattle.std.proofs.Common.{◌≡◌, ◌≢◌, ℕ, ◌+◌, ◌≤◌, ◌||◌, ◌&&◌, not, Bool, true, false, List, [], ◌∷◌, ◌++◌, length, Option, Some, None, is_some, cond, refl, sym, ap, subst, ◌∙◌, inl, inr, arith}
+use Rattle.std.proofs.Common.{◌≡◌, ◌≢◌, ℕ, ◌+◌, ◌≤◌, ◌||◌, ◌&&◌, not, Bool, true, false, List, [], ◌∷◌, ◌++◌, Some, is_some, cond, refl, sym, ap, ◌∙◌, inl, inr, arith}
 use Rattle.std.proofs.lemmas.Bool.{cases_Bool, or_left, or_right, cond-true, cond-false}
 use Rattle.std.specs.Prelude.{slice_get}
 use Rattle.std.specs.FinMap as map
-use Rattle.executor_core.specs.Cells.{Slotted, Table}
+use Rattle.executor_core.specs.Cells.{Table}
 use Rattle.executor_core.specs.Cell.{is_idle, is_held, is_undropped}
 use Rattle.std.specs.Vec.{vec_capacity}
 use Rattle.executor_core.specs.Cells.Calls.{cell_at, undropped_in, idle_in, wakes, after_wake, wake_at, passes, after_cancel, cancel_at, cancel_queues, queued_if, with_cell}
 use Rattle.executor_core.specs.Cell.Changes.{woken, state_woken, cancelled_cell}
 use Rattle.executor_core.specs.World.{Execution}
 use Rattle.executor_core.specs.World.Entries.{infos}
-use Rattle.executor_core.specs.World.Log.{spawned, dropped, cancelled, held, idle}
-use Rattle.executor_core.specs.World.Steps.{info, row, notice_reply, mark_row, wake_row, cancel_row}
+use Rattle.executor_core.specs.World.Log.{dropped, cancelled, held, idle}
+use Rattle.executor_core.specs.World.Steps.{info, notice_reply, mark_row, wake_row, cancel_row}
 use Rattle.executor_core.specs.World.View.{execution_of, IsWorld}
 use Rattle.executor_core.specs.World.Promises.{MayFollow}
 use Rattle.executor_core.specs.World.Agreement.{Status, status, FewPollsFor, StateAgrees, Agree}
@@ -32,12 +32,6 @@ use Rattle.executor_core.specs.declared.interleave.entry.TaskInfo.{TaskInfo}
 use Rattle.executor_core.specs.declared.interleave.reply.Reply.{Reply}
 use Rattle.executor_core.specs.declared.interleave.event.Event.{Event}
 use Rattle.executor_core.specs.declared.interleave.event.Event.TheVariants.{Woken, Cancelled}
-
--- the future of an idle task is not dropped
-pub idle_undropped : (a b c d : Bool) → a && not b && c && d ≡ true → b ≡ false
-idle_undropped a false c d h = refl
-idle_undropped true true c d h = absurd (cc)
-idle_undropped false true c d h = absurd (cc)
 
 few_wake : (a w : ℕ) (b c : Bool) → a + cond b 1 0 ≤ 1 + w → a + cond c 1 0 ≤ 1 + (1 + w)
 few_wake a w true true h = omega arith
@@ -160,19 +154,8 @@ module _ {P T : Type 0} (a : Inside P T) (sound : IsWorld (execution_of a) a.cor
         let queued : queues ≡ idle n a.log.items = queues_is ∙ ap does same ∙ marks.queued in
         rw (← view, counted, core_is, log_is, noticed, answers, keeps, capacity, same, alive, queued) (record {
           sound = stepped_sound a sound refl (rw (← view) at far) (idle n a.log.items) _ _ _ (λ never. marks.global ∙ cond-false (idle n a.log.items) _ _ never) (omega arith) (let long = length-push_if (not (dropped n a.log.items)) a.log.items event in omega arith) marks.holds;
-          does = by_cases event (later (id_of n i)).global marks.global;
+          does = rw marks.global (refl, refl);
         })
-      where
-        by_cases : (event : Event T) (queue : List ℕ) → queue ≡ cond (idle n a.log.items) (a.core.cells.global ++ n ∷ []) a.core.cells.global
-            → row (mark_row event n (execution_of a)) (notice_reply (idle n a.log.items))
-            (record (execution_of a) { log = cond (not (dropped n a.log.items)) (a.log.items ++ event ∷ []) a.log.items; accepted = a.accepted + 1; global = queue; notices = cond (idle n a.log.items) (a.notices + 1) a.notices })
-        by_cases event queue is = elim (cases_Bool (idle n a.log.items)) [
-          | inl now ↦ rw (is, now, idle_undropped (spawned n a.log.items) (dropped n a.log.items) _ _ now) (refl, refl)
-          | inr never ↦ elim (cases_Bool (dropped n a.log.items)) [
-            | inl gone ↦ rw (is, never, gone) (refl, refl)
-            | inr alive ↦ rw (is, never, alive) (refl, refl)
-          ]
-        ]
 
     pub wake_done : {core : Core P T (Unit {0})} {log : List (Event T)} → core ≡ record a.core { cells = after_wake a.core.cells id } → queues ≡ wakes a.core.cells id → log ≡ cond undropped (a.log.items ++ Woken n ∷ []) a.log.items
         → Done (stepped a accepted core log a.entries.items notices a.picks) core.cells a.entries.items room (wake_row n w) answer

@@ -1,6 +1,6 @@
 -- A task is taken, and its poll ends.
 use Rattle.std.proofs.Common.{◌≡◌, ◌≢◌, ℕ, ◌+◌, ◌<◌, ◌≤◌, ◌||◌, ◌&&◌, not, Bool, true, false, List, [], ◌∷◌, ◌++◌, length, Option, Some, None, is_some, cond, refl, sym, ap, subst, ◌∙◌, inl, inr, arith}
-use Rattle.std.proofs.lemmas.Bool.{cases_Bool, and_parts, and_right, or_left, or_right, not-true, cond-true, cond-false}
+use Rattle.std.proofs.lemmas.Bool.{cases_Bool, and_parts, or_left, or_right, not-true, cond-true, cond-false}
 use Rattle.std.specs.Prelude.{slice_get, slice_set}
 use Rattle.std.specs.List.{list_any}
 use Rattle.std.specs.FinMap as map
@@ -8,7 +8,7 @@ use Rattle.std.specs.Vec.{vec_capacity}
 use Rattle.executor_core.specs.Cells.{Slotted, Table}
 use Rattle.executor_core.specs.Cell.{is_held}
 use Rattle.executor_core.specs.Cells.Calls.{cell_at, cancelled_in, woken_in, takes_back_in, with_cell, without_cell, queued_if, IsTaken, TakesFront, after_take, take_first, with_taken_at, after_end_pending, end_pending_at, after_end_ready, end_ready_at, ready_answer, after_end_dropped, end_dropped_at, dropped_answer}
-use Rattle.executor_core.specs.Cell.Changes.{taken, takes_back, pended, readied, disposed, wakeup_of}
+use Rattle.executor_core.specs.Cell.Changes.{taken, takes_back, pended, wakeup_of}
 use Rattle.executor_core.specs.World.{Execution}
 use Rattle.executor_core.specs.World.Entries.{infos, is_out, is_unpolled, is_unpolled_future, PolledAgrees}
 use Rattle.executor_core.specs.World.Log.{unfollowed, is_cancel, is_take, cancelled, held, woken}
@@ -23,7 +23,6 @@ use Rattle.executor_core.proofs.World.Room.{length-push_if}
 use Rattle.executor_core.proofs.World.Steps.{stepped, Done, stepped_sound}
 use Rattle.executor_core.proofs.World.Log.{on_poll, on_take, on_return, on_drop, on_finish, order-push, status_other}
 use Rattle.executor_core.proofs.World.Agreement.{id_of, out_is, held_state, state_agrees, CellAt, held_cell, agreed_at, LogChange, log_same, log_pushed, entry_set, cell_put, cell_removed, cell_same, agree_again}
-use Rattle.executor_core.specs.declared.task.cell.Cell.{Cell}
 use Rattle.executor_core.specs.declared.task.cell.CellState.{CellState}
 use Rattle.executor_core.specs.declared.task.cell.CellState.TheVariants.{Idle, Scheduled, Held, Finished, Gone}
 use Rattle.executor_core.specs.declared.plain_core.Core.{Core}
@@ -179,44 +178,39 @@ module _ {P T : Type 0} {table : Table P T (Unit {0})} {log : List (Event T)} {e
           cancelled = sym (not-not _) ∙ ap not (sym takes_back_is ∙ ours);
         }
 
-    -- the future of the task was dropped, and the cell ends in this state where the handle is there
-    record Ends (more : List (Event T)) (s : Status T) (st : CellState P T) : Type 0 where
-      pub log_change : LogChange log more n s
-      pub order : InOrder more
-      pub few_polls : FewPollsFor s
-      pub spawned : s.spawned ≡ true
-      pub dropped : s.dropped ≡ true
-      pub held : s.held ≡ false
-      pub cancelled : s.cancelled ≡ cancelled n log
-      pub state : StateAgrees st the_cell.slotted.cell.woken s
-
     pub record Ended (later : Table P T (Unit {0})) (more : List (Event T)) : Type 0 where
       pub holds : Agree later more (slice_set entries n (record { info = record e.info { awaited = false }; out = None }))
       pub global : later.global ≡ table.global
 
-    ended : (later : Table P T (Unit {0})) (more : List (Event T)) (s : Status T) (st : CellState P T)
-        → later ≡ cond the_cell.slotted.cell.has_handle (with_cell table (id_of n e.info) (record the_cell.slotted.cell { state = st; awaiter = None })) (without_cell table (id_of n e.info)) → Ends more s st → Ended later more
-    ended later more s st is ends =
+    -- the cell ends in this state, where the handle is there, and else is gone
+    ended : (s : Status T) (st : CellState P T) {later : Table P T (Unit {0})} {more : List (Event T)}
+        → later ≡ cond the_cell.slotted.cell.has_handle (with_cell table (id_of n e.info) (record the_cell.slotted.cell { state = st; awaiter = None })) (without_cell table (id_of n e.info))
+        → LogChange log more n s → InOrder more → s.spawned ≡ true → s.dropped ≡ true → s.held ≡ false → s.cancelled ≡ cancelled n log → StateAgrees st the_cell.slotted.cell.woken s → FewPollsFor s → Ended later more
+    ended s st {later} is log_change order spawn drop hold cancel state few =
         let c = the_cell.slotted.cell in
         let h = the_cell.agrees in
         elim (cases_Bool c.has_handle) [
           | inl there ↦
               let put : later ≡ with_cell table (id_of n e.info) (record c { state = st; awaiter = None }) = is ∙ cond-true c.has_handle _ _ there in
               record {
-                holds = agree_again agree (cell_put table later n (record { slot = e.info.slot; cell = record c { state = st; awaiter = None } }) (ap (λ x. x.next) put) (ap (λ x. x.cells) put)) ends.log_change (entry_set entries n e _ found)
-                    (record { slot = refl; has_handle = h.has_handle; awaited = refl; cancelled = h.cancelled ∙ sym ends.cancelled; state = ends.state; out = sym ends.held; polled = tt })
-                    ends.few_polls ends.order;
+                holds = agree_again agree (cell_put table later n (record { slot = e.info.slot; cell = record c { state = st; awaiter = None } }) (ap (λ x. x.next) put) (ap (λ x. x.cells) put)) log_change (entry_set entries n e _ found)
+                    (record { slot = refl; has_handle = h.has_handle; awaited = refl; cancelled = h.cancelled ∙ sym cancel; state = state; out = sym hold; polled = tt }) few order;
                 global = ap (λ x. x.global) put;
               }
           | inr gone ↦
               let removed : later ≡ without_cell table (id_of n e.info) = is ∙ cond-false c.has_handle _ _ gone in
               record {
-                holds = agree_again agree (cell_removed table later n (ap (λ x. x.next) removed) (ap (λ x. x.cells) removed)) ends.log_change (entry_set entries n e _ found)
-                    (record { spawned = ends.spawned; dropped = ends.dropped; held = ends.held; has_handle = sym h.has_handle ∙ gone; out = sym ends.held })
-                    ends.few_polls ends.order;
+                holds = agree_again agree (cell_removed table later n (ap (λ x. x.next) removed) (ap (λ x. x.cells) removed)) log_change (entry_set entries n e _ found)
+                    (record { spawned = spawn; dropped = drop; held = hold; has_handle = sym h.has_handle ∙ gone; out = sym hold }) few order;
                 global = ap (λ x. x.global) removed;
               }
         ]
+
+    -- without an output
+    ended_gone : {later : Table P T (Unit {0})} → later ≡ cond the_cell.slotted.cell.has_handle (with_cell table (id_of n e.info) (record the_cell.slotted.cell { state = Gone; awaiter = None })) (without_cell table (id_of n e.info)) → Ended later (log ++ Dropped n ∷ [])
+    ended_gone is =
+        ended _ Gone is (log_pushed log n (Dropped n) _ refl (on_drop n log)) (order-push log (Dropped n) agree.order alive.0.dropped) alive.0.spawned refl refl refl
+        (record { spawned = alive.0.spawned; dropped = refl; held = refl; outputs = alive.0.outputs; given = alive.0.given }) (agree.few_polls n)
 
     -- a poll ended ready: the future gave its output unless the task was cancelled, and was dropped
     pub ready_holds : (t : T) → Ended (after_end_ready table (id_of n e.info) t) (cond (not (cancelled n log)) (log ++ Finish n t ∷ []) log ++ Dropped n ∷ [])
@@ -224,28 +218,13 @@ module _ {P T : Type 0} {table : Table P T (Unit {0})} {log : List (Event T)} {e
         let is = ap (end_ready_at table (id_of n e.info) t) the_cell.cell ∙ cond-true (is_held the_cell.slotted.cell.state) _ _ cell_held in
         let cancel = the_cell.agrees.cancelled in
         elim (cases_Bool (cancelled n log)) [
-          | inl gone ↦ rw gone (ended _ _ _ Gone (is ∙ rw (cancel, gone) refl) (record {
-            log_change = log_pushed log n (Dropped n) _ refl (on_drop n log);
-            order = order-push log (Dropped n) agree.order alive.0.dropped;
-            few_polls = agree.few_polls n;
-            spawned = alive.0.spawned;
-            dropped = refl;
-            held = refl;
-            cancelled = refl;
-            state = record { spawned = alive.0.spawned; dropped = refl; held = refl; outputs = alive.0.outputs; given = alive.0.given };
-          }))
+          | inl gone ↦ rw gone (ended_gone (is ∙ rw (cancel, gone) refl))
           | inr fresh ↦
               let middle = on_finish n t log in
-              rw fresh (ended _ _ _ (Finished t) (is ∙ rw (cancel, fresh) refl) (record {
-                log_change = record { here = on_drop n (log ++ Finish n t ∷ []) ∙ ap (λ (s : Status T). record s { dropped = true; held = false }) middle; others = λ q far. status_other q (log ++ Finish n t ∷ []) (Dropped n) far ∙ status_other q log (Finish n t) far };
-                order = order-push _ (Dropped n) (order-push log (Finish n t) agree.order fresh) (ap (λ s. s.dropped) middle ∙ alive.0.dropped);
-                few_polls = agree.few_polls n;
-                spawned = alive.0.spawned;
-                dropped = refl;
-                held = refl;
-                cancelled = refl;
-                state = record { spawned = alive.0.spawned; dropped = refl; held = refl; outputs = ap (λ l. l ++ t ∷ []) alive.0.outputs; given = alive.0.given };
-              }))
+              rw fresh (ended _ (Finished t) (is ∙ rw (cancel, fresh) refl)
+              (record { here = on_drop n (log ++ Finish n t ∷ []) ∙ ap (λ (s : Status T). record s { dropped = true; held = false }) middle; others = λ q far. status_other q (log ++ Finish n t ∷ []) (Dropped n) far ∙ status_other q log (Finish n t) far })
+              (order-push _ (Dropped n) (order-push log (Finish n t) agree.order fresh) (ap (λ s. s.dropped) middle ∙ alive.0.dropped)) alive.0.spawned refl refl refl
+              (record { spawned = alive.0.spawned; dropped = refl; held = refl; outputs = ap (λ l. l ++ t ∷ []) alive.0.outputs; given = alive.0.given }) (agree.few_polls n))
         ]
 
     ready_answer_is : (t : T) → ready_answer t (cell_at table (id_of n e.info)) ≡ record { awaiter = wakeup_of the_cell.slotted.cell.awaiter; unwanted = cond (the_cell.slotted.cell.has_handle && not the_cell.slotted.cell.cancelled) None (Some t) }
@@ -259,16 +238,7 @@ module _ {P T : Type 0} {table : Table P T (Unit {0})} {log : List (Event T)} {e
 
     -- the future was dropped, and gave no output
     pub drop_holds : Ended (after_end_dropped table (id_of n e.info)) (log ++ Dropped n ∷ [])
-    drop_holds = ended _ _ _ Gone (ap (end_dropped_at table (id_of n e.info)) the_cell.cell ∙ cond-true (is_held the_cell.slotted.cell.state) _ _ cell_held) (record {
-      log_change = log_pushed log n (Dropped n) _ refl (on_drop n log);
-      order = order-push log (Dropped n) agree.order alive.0.dropped;
-      few_polls = agree.few_polls n;
-      spawned = alive.0.spawned;
-      dropped = refl;
-      held = refl;
-      cancelled = refl;
-      state = record { spawned = alive.0.spawned; dropped = refl; held = refl; outputs = alive.0.outputs; given = alive.0.given };
-    })
+    drop_holds = ended_gone (ap (end_dropped_at table (id_of n e.info)) the_cell.cell ∙ cond-true (is_held the_cell.slotted.cell.state) _ _ cell_held)
 
     pub drop_awaiter : is_some (dropped_answer (cell_at table (id_of n e.info))) ≡ e.info.awaited
     drop_awaiter = ap (λ o. is_some (dropped_answer o)) the_cell.cell ∙ ap is_some (cond-true (is_held the_cell.slotted.cell.state) (wakeup_of the_cell.slotted.cell.awaiter) None cell_held) ∙ wakeup_some the_cell.slotted.cell.awaiter ∙ the_cell.agrees.awaited
@@ -327,8 +297,7 @@ module _ {P T : Type 0} (a : Inside P T) (sound : IsWorld (execution_of a) a.cor
     where
       by_row : (n : ℕ) (i : TaskInfo) → slice_get (infos a.entries.items) n ≡ Some i → (queue rest : List ℕ) → queue ≡ n ∷ rest → (b : Bool) → cancelled n a.log.items ≡ b
           → row (take_row queue (execution_of a)) (take_reply n b) (record (execution_of a) { log = a.log.items ++ Took n (purpose_of b) ∷ []; accepted = a.accepted + 1; global = rest; notices = a.notices + 1; tasks = slice_set (infos a.entries.items) n (record i { to_drop = b }) })
-      by_row n i found queue rest front true is = rw (front, is, found) (refl, refl)
-      by_row n i found queue rest front false is = rw (front, is, found) (refl, refl)
+      by_row n i found queue rest front b is = rw (front, is, found) (refl, refl)
 
 module _ {P T : Type 0} (a : Inside P T) (sound : IsWorld (execution_of a) a.core.cells a.entries.items (vec_capacity a.log)) {w : Execution T} (view : execution_of a ≡ w) (far : w.accepted ≢ w.limit) (n : ℕ) {i : TaskInfo} (found : slice_get (infos a.entries.items) n ≡ Some i) where
   module _ (b : Bool) (enabled : held n w.log && b ≡ true) where
@@ -346,16 +315,8 @@ module _ {P T : Type 0} (a : Inside P T) (sound : IsWorld (execution_of a) a.cor
           let far = rw (← view) at far in
           rw (← view, counted, core_is, entries_is, log_is, noticed, answers, keeps, capacity, same, queued) (record {
             sound = stepped_sound a sound refl far (woken n a.log.items) _ _ _ (λ never. step.global ∙ cond-false (woken n a.log.items) _ _ never) (let long = length-slice_set a.entries.items n (record { info = i; out = None }) in omega arith) (let long = length-push a.log.items (Returned n) in omega arith) step.holds;
-            does = by_cases (after_end_pending a.core.cells (id_of n i) p).global step.global step.cancelled;
+            does = rw (infos-set a.entries.items n (record { info = i; out = None }), set-here (infos a.entries.items) n i found, step.global, step.cancelled) (refl, refl);
           })
-        where
-          by_cases : (queue : List ℕ) → queue ≡ cond (woken n a.log.items) (a.core.cells.global ++ n ∷ []) a.core.cells.global → cancelled n a.log.items ≡ false
-              → row (pend_row n (execution_of a)) (return_reply n (woken n a.log.items))
-              (record (execution_of a) { log = a.log.items ++ Returned n ∷ []; accepted = a.accepted + 1; global = queue; notices = cond (woken n a.log.items) (a.notices + 1) a.notices; tasks = infos (slice_set a.entries.items n (record { info = i; out = None })) })
-          by_cases queue is fresh = elim (cases_Bool (woken n a.log.items)) [
-            | inl now ↦ rw (infos-set a.entries.items n (record { info = i; out = None }), set-here (infos a.entries.items) n i found, is, fresh, now) (refl, refl)
-            | inr never ↦ rw (infos-set a.entries.items n (record { info = i; out = None }), set-here (infos a.entries.items) n i found, is, fresh, never) (refl, refl)
-          ]
 
       -- the task was cancelled, and its future stays out to be dropped
       pub pend_dropped : {id : TaskId} → id ≡ id_of n i → {core : Core P T (Unit {0})} (p : P) → core ≡ record a.core { cells = after_end_pending a.core.cells id p } → takes_back_in (cell_at a.core.cells id) ≡ false
@@ -386,19 +347,8 @@ module _ {P T : Type 0} (a : Inside P T) (sound : IsWorld (execution_of a) a.cor
           let cancel = cancel_is ∙ ap (λ id. cancelled_in (cell_at a.core.cells id)) same ∙ cancelled_is sound.agree n _ at is_held_now in
           rw (← view, counted, core_is, entries_is, info_is, answers, ended_is, more_is, log_is, cancel, capacity, ours, gave, ready_awaiter sound.agree n _ at is_held_now t, ready_unwanted sound.agree n _ at is_held_now t) (record {
             sound = stepped_sound a sound refl far false _ _ _ (λ _. step.global) (let long = length-slice_set a.entries.items n e in omega arith) (let first = length-push_if (not (cancelled n a.log.items)) a.log.items (Finish n t) in let long = length-push (cond (not (cancelled n a.log.items)) (a.log.items ++ Finish n t ∷ []) a.log.items) (Dropped n) in omega arith) step.holds;
-            does = rw (infos-set a.entries.items n e) (by_cases t (after_end_ready a.core.cells (id_of n i) t).global step.global);
+            does = rw (infos-set a.entries.items n e, step.global, found) (refl, refl);
           })
-        where
-          by_cases : (t : T) (queue : List ℕ) → queue ≡ a.core.cells.global
-              → row (ready_row n t (execution_of a)) (ready_reply i.awaited (cond (i.has_handle && not (cancelled n a.log.items)) None (Some t)))
-              (record (execution_of a) { log = cond (not (cancelled n a.log.items)) (a.log.items ++ Finish n t ∷ []) a.log.items ++ Dropped n ∷ []; accepted = a.accepted + 1; global = queue; tasks = slice_set (infos a.entries.items) n (record i { awaited = false }) })
-          by_cases t queue is = elim (cases_Bool (cancelled n a.log.items)) [
-            | inl gone ↦ rw (is, gone, found, and_right i.has_handle false refl) (refl, refl)
-            | inr fresh ↦ elim (cases_Bool i.has_handle) [
-              | inl there ↦ rw (is, fresh, found, there) (refl, refl)
-              | inr alone ↦ rw (is, fresh, found, alone) (refl, refl)
-            ]
-          ]
 
       -- the future was dropped
       pub drop_done : {id : TaskId} → id ≡ id_of n i → {held_task : HeldTask} → held_task ≡ record { id = id; to_drop = true } → {core : Core P T (Unit {0})} → core ≡ record a.core { cells = after_end_dropped a.core.cells held_task.id } → {awaiter : Option (Wakeup (Unit {0}))} → awaiter ≡ dropped_answer (cell_at a.core.cells held_task.id)

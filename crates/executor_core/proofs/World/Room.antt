@@ -1,5 +1,5 @@
 -- There is room for what the steps to come add.
-use Rattle.std.proofs.Common.{◌≡◌, ◌≢◌, ℕ, ◌+◌, ◌*◌, ◌<◌, ◌≤◌, Fits, w32, Bool, true, false, cond, List, [], ◌∷◌, ◌++◌, length, ap, arith}
+use Rattle.std.proofs.Common.{◌≡◌, ◌≢◌, ℕ, ◌+◌, ◌<◌, ◌≤◌, Fits, w32, Bool, true, false, cond, List, [], ◌∷◌, ◌++◌, length, ap, arith}
 use Rattle.std.specs.Prelude.{Result, Ok, Err, OnOk, is_err}
 use Rattle.executor_core.specs.World.{Execution}
 use Rattle.executor_core.specs.declared.interleave.event.Event.{Event}

@@ -1,5 +1,5 @@
 -- A task is spawned; and the world before its first step.
-use Rattle.std.proofs.Common.{◌≡◌, ◌≢◌, ℕ, ◌+◌, ◌*◌, ◌≤◌, ◌||◌, not, Bool, true, false, List, [], ◌∷◌, ◌++◌, length, Option, Some, None, refl, sym, ap, subst, ◌∙◌, inl, inr, arith}
+use Rattle.std.proofs.Common.{◌≡◌, ◌≢◌, ℕ, ◌+◌, ◌*◌, ◌≤◌, ◌||◌, not, true, List, [], ◌∷◌, ◌++◌, length, Option, Some, None, refl, sym, ap, subst, ◌∙◌, inl, inr, arith}
 use Rattle.std.proofs.lemmas.Bool.{cases_eq}
 use Rattle.std.specs.Prelude.{slice_get}
 use Rattle.std.specs.Ordering.{nat_cmp}
@@ -13,7 +13,7 @@ use Rattle.executor_core.specs.SpawnError.{last_number}
 use Rattle.executor_core.specs.World.{Execution}
 use Rattle.executor_core.specs.World.Entries.{infos}
 use Rattle.executor_core.specs.World.Log.{dropped}
-use Rattle.executor_core.specs.World.Steps.{new_info, FreeSlot, Spawns}
+use Rattle.executor_core.specs.World.Steps.{new_info, Spawns}
 use Rattle.executor_core.specs.World.View.{execution_of, IsWorld}
 use Rattle.executor_core.specs.World.Agreement.{Status, status, no_status, FewPollsFor, NumberAgrees, Agree}
 use Rattle.executor_core.proofs.ListLemmas.{get-push_last, get-push_other, get_past, length-push}
@@ -29,7 +29,6 @@ use Rattle.executor_core.specs.declared.interleave.entry.TaskInfo.{TaskInfo}
 use Rattle.executor_core.specs.declared.interleave.entry.TaskEntry.{TaskEntry}
 use Rattle.executor_core.specs.declared.interleave.event.Event.{Event}
 use Rattle.executor_core.specs.declared.interleave.event.Event.TheVariants.{Spawned}
-use Rattle.executor_core.specs.declared.interleave.reply.Reply.{Reply}
 use Rattle.executor_core.specs.declared.interleave.reply.Reply.TheVariants.{Task}
 
 -- the entry of a new task

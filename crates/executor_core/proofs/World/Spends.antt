@@ -1,6 +1,5 @@
 -- A notice or a pick is spent.
-use Rattle.std.proofs.Common.{◌≡◌, ◌≢◌, ℕ, zero, suc, ◌+◌, ◌-◌, ◌<◌, ◌≤◌, Bool, true, false, not, cond, List, [], ◌∷◌, length, Option, Some, None, is_some, refl, sym, ap, ◌∙◌, inl, inr, arith}
-use Rattle.std.proofs.lemmas.Bool.{cases_Bool}
+use Rattle.std.proofs.Common.{◌≡◌, ◌≢◌, ℕ, zero, suc, ◌+◌, ◌-◌, ◌<◌, ◌≤◌, Bool, true, false, not, cond, List, [], ◌∷◌, length, Option, Some, None, is_some, refl, sym, ap, ◌∙◌, arith}
 use Rattle.std.specs.Prelude.{slice_get, option_map}
 use Rattle.std.specs.Map.{keys_of}
 use Rattle.std.specs.Vec.{vec_capacity}
@@ -8,10 +7,9 @@ use Rattle.executor_core.specs.Sleepers.{SleeperLaw}
 use Rattle.executor_core.specs.Sleepers.Calls.{last_of, all_unnotified, after_notify, notify_answer}
 use Rattle.executor_core.specs.World.{Execution}
 use Rattle.executor_core.specs.World.Promises.{floating_notices}
-use Rattle.executor_core.specs.World.Steps.{row, pick_reply, exchange_row, notify_reply, sleeper_reply, notify_row}
+use Rattle.executor_core.specs.World.Steps.{pick_reply, exchange_row, notify_reply, sleeper_reply, notify_row}
 use Rattle.executor_core.specs.World.View.{execution_of, IsWorld}
 use Rattle.executor_core.proofs.SleeperPairLemmas.{length-keys}
-use Rattle.executor_core.proofs.World.Entries.{length-infos}
 use Rattle.executor_core.proofs.World.Notices.{notices_exchanged, notices_notified}
 use Rattle.executor_core.proofs.World.Room.{room_again}
 use Rattle.executor_core.proofs.World.Steps.{stepped, Done}
@@ -53,16 +51,12 @@ module _ {P T : Type 0} (a : Inside P T) (sound : IsWorld (execution_of a) a.cor
           notices = notices_exchanged sound.notices refl refl;
           room = room_again sound.room refl far _ refl refl (fewer (not a.core.flag) a.picks a.notices floats) (omega arith) (omega arith);
         };
-        does = by_flag a.core.flag;
+        does = (refl, refl);
       })
     where
       fewer : (b : Bool) (picks notices : ℕ) → 0 < notices → cond b (picks + 1) picks + (notices - 1) ≤ picks + notices + 1
       fewer true picks notices h = omega arith
       fewer false picks notices h = omega arith
-
-      by_flag : (flag : Bool) → row (exchange_row (record (execution_of a) { flag = flag })) (pick_reply (not flag)) (record (execution_of a) { accepted = a.accepted + 1; flag = true; notices = a.notices - 1; picks = cond (not flag) (a.picks + 1) a.picks })
-      by_flag true = (refl, refl)
-      by_flag false = (refl, refl)
 
   pub notify_done : 0 < w.picks → SleeperLaw a.core.sleepers → {core : Core P T (Unit {0})} → core ≡ record a.core { sleepers = after_notify a.core.sleepers } → {last : Option ℕ} → last ≡ last_of (keys_of a.core.sleepers.unnotified)
       → {wakeup : Option (Wakeup (Unit {0}))} → wakeup ≡ notify_answer a.core.sleepers → {notified : Bool} → notified ≡ is_some wakeup → {answer : Reply T} → answer ≡ sleeper_reply notified last

@@ -43,11 +43,16 @@ module _ {T : Type 0} where
   abbrev pub logged : Event T → Execution T → Execution T
   logged e w = record w { log = w.log ++ e ∷ [] }
 
-  abbrev pub queued : ℕ → Execution T → Execution T
-  queued n w = record w { global = w.global ++ n ∷ [] }
-
   abbrev pub noticed : Execution T → Execution T
   noticed w = record w { notices = w.notices + 1 }
+
+  -- the event is logged where this holds
+  abbrev pub logged_where : Bool → Event T → Execution T → Execution T
+  logged_where b e w = record w { log = cond b (w.log ++ e ∷ []) w.log }
+
+  -- the number goes to the global end, and a notice is out, where this holds
+  abbrev pub queued_where : Bool → ℕ → Execution T → Execution T
+  queued_where b n w = record w { global = cond b (w.global ++ n ∷ []) w.global; notices = cond b (w.notices + 1) w.notices }
 
   abbrev pub informed : ℕ → TaskInfo → Execution T → Execution T
   informed n i w = record w { tasks = slice_set w.tasks n i }
@@ -60,7 +65,7 @@ module _ {T : Type 0} where
   -- spawn: the next number gets a slot and stands at the global end
   abbrev pub spawn_row : ℕ → Execution T → Execution T
   spawn_row slot w =
-      noticed (queued (length w.tasks) (logged (Spawned (length w.tasks)) (record w { tasks = w.tasks ++ new_info slot ∷ [] })))
+      queued_where true (length w.tasks) (logged (Spawned (length w.tasks)) (record w { tasks = w.tasks ++ new_info slot ∷ [] }))
 
   -- whether a task was queued
   abbrev pub notice_reply : Bool → Reply T
@@ -68,9 +73,7 @@ module _ {T : Type 0} where
 
   -- a task is marked so, unless its future was dropped, and an idle one is queued
   abbrev pub mark_row : Event T → ℕ → Execution T → Reply T × Execution T
-  mark_row e n w =
-      cond (idle n w.log) (reply.Notice, noticed (queued n (logged e w)))
-      (cond (dropped n w.log) (reply.Nothing, w) (reply.Nothing, logged e w))
+  mark_row e n w = (notice_reply (idle n w.log), queued_where (idle n w.log) n (logged_where (not (dropped n w.log)) e w))
 
   -- wake n
   abbrev pub wake_row : ℕ → Execution T → Reply T × Execution T
@@ -88,9 +91,8 @@ module _ {T : Type 0} where
   abbrev pub take_row : List ℕ → Execution T → Reply T × Execution T
   take_row [] w = (reply.NoTask, w)
   take_row (n ∷ rest) w =
-      cond (cancelled n w.log)
-      (reply.Drop n, noticed (logged (Took n ToDrop) (informed n (record (info n w) { to_drop = true }) (record w { global = rest }))))
-      (reply.Poll n, noticed (logged (Took n ToPoll) (informed n (record (info n w) { to_drop = false }) (record w { global = rest }))))
+      let cancel = cancelled n w.log in
+      (take_reply n cancel, noticed (logged (Took n (purpose_of cancel)) (informed n (record (info n w) { to_drop = cancel }) (record w { global = rest }))))
 
   -- where a future went back, by whether its task was queued
   abbrev pub return_reply : ℕ → Bool → Reply T
@@ -100,9 +102,7 @@ module _ {T : Type 0} where
   abbrev pub pend_row : ℕ → Execution T → Reply T × Execution T
   pend_row n w =
       cond (cancelled n w.log) (reply.Drop n, informed n (record (info n w) { to_drop = true }) w)
-      (cond (woken n w.log)
-      (reply.Queued n, noticed (queued n (logged (Returned n) w)))
-      (reply.Idle n, logged (Returned n) w))
+      (return_reply n (woken n w.log), queued_where (woken n w.log) n (logged (Returned n) w))
 
   abbrev pub ready_reply : Bool → Option T → Reply T
   ready_reply awaiter None = reply.Finished awaiter
@@ -112,10 +112,8 @@ module _ {T : Type 0} where
   abbrev pub ready_row : ℕ → T → Execution T → Reply T × Execution T
   ready_row n t w =
       let unawaited = informed n (record (info n w) { awaited = false }) w in
-      let finished = logged (Dropped n) (logged (Finished n t) unawaited) in
-      cond (cancelled n w.log)
-      (reply.Unwanted t (info n w).awaited, logged (Dropped n) unawaited)
-      (cond (info n w).has_handle (reply.Finished (info n w).awaited, finished) (reply.Unwanted t (info n w).awaited, finished))
+      let unwanted = cond ((info n w).has_handle && not (cancelled n w.log)) None (Some t) in
+      (ready_reply (info n w).awaited unwanted, logged (Dropped n) (logged_where (not (cancelled n w.log)) (Finished n t) unawaited))
 
   -- dropped n: the future was dropped, and gave no output
   abbrev pub dropped_row : ℕ → Execution T → Reply T × Execution T
@@ -145,7 +143,7 @@ module _ {T : Type 0} where
 
   -- drophandle n: a cancel, and then a detach
   abbrev pub drop_handle_row : ℕ → Execution T → Reply T × Execution T
-  drop_handle_row n w = (cond (idle n w.log) reply.Notice (detach_row n w).0, (detach_row n (cancel_row n w).1).1)
+  drop_handle_row n w = (end_reply (idle n w.log) (slice_get (outputs n w.log) 0), (detach_row n (cancel_row n w).1).1)
 
   -- whether a pick is out
   abbrev pub pick_reply : Bool → Reply T
@@ -153,9 +151,7 @@ module _ {T : Type 0} where
 
   -- exchange: a notice is spent, and a pick is out where the flag was false
   abbrev pub exchange_row : Execution T → Reply T × Execution T
-  exchange_row w =
-      let spent = record w { notices = w.notices - 1; flag = true } in
-      cond w.flag (reply.Nothing, spent) (reply.Pick, record spent { picks = w.picks + 1 })
+  exchange_row w = (pick_reply (not w.flag), record w { notices = w.notices - 1; flag = true; picks = cond (not w.flag) (w.picks + 1) w.picks })
 
   abbrev pub notify_reply : Option ℕ → Reply T
   notify_reply None = reply.Nobody

@@ -1,4 +1,4 @@
-use Rattle.std.proofs.Common.{◌≡◌, ◌<◌, ◌∙◌, length, subst, sym, ap, refl}
+use Rattle.std.proofs.Common.{◌<◌, ◌∙◌, length, subst, sym, ap, refl}
 use Rattle.executor_core.proofs.ListLemmas.{length-slice_set}
 use Rattle.executor_core.proofs.World.Agreement.{held_within}
 use Rattle.executor_core.proofs.World.Polls.{unpolled_now, pend_done, pend_dropped}

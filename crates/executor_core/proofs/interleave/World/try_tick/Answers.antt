@@ -1,4 +1,3 @@
-use Rattle.std.proofs.Common.{refl}
 use Rattle.executor_core.proofs.World.Polls.{taken_within, take_done, take_none}
 use Rattle.executor_core.proofs.World.Room.{count_fits, step_fits, event_fits, notice_fits}
 use Rattle.executor_core.proofs.interleave.World.try_tick.Goals as goal
