@@ -29,7 +29,7 @@ use Rattle.executor_core.specs.declared.interleave.entry.TaskInfo.{TaskInfo}
 use Rattle.executor_core.specs.declared.interleave.entry.TaskEntry.{TaskEntry}
 use Rattle.executor_core.specs.declared.interleave.event.Event.{Event}
 use Rattle.executor_core.specs.declared.interleave.event.Event.TheVariants.{Spawned}
-use Rattle.executor_core.specs.declared.interleave.reply.Reply.TheVariants.{Task}
+use Rattle.executor_core.specs.declared.interleave.reply.Reply.TheVariants.{OutOfMemory, Task}
 
 -- the entry of a new task
 abbrev new_entry : {P : Type 0} → ℕ → TaskEntry P
@@ -80,6 +80,11 @@ module _ {P T : Type 0} (a : Inside P T) (sound : IsWorld (execution_of a) a.cor
       let within = sound.room.within in
       let bounded = sound.room.bounded in
       omega arith
+
+  -- memory was refused, and nothing changed
+  pub spawn_refused : {core : Core P T (Unit {0})} → core ≡ a.core → {entries : List (TaskEntry P)} → entries ≡ a.entries.items
+      → IsWorld (stepped a a.accepted core a.log.items entries a.notices a.picks) core.cells entries (vec_capacity a.log) × Spawns w OutOfMemory (stepped a a.accepted core a.log.items entries a.notices a.picks)
+  spawn_refused core_is entries_is = rw (← view, core_is, entries_is) (sound, inl (refl, refl))
 
   pub spawn_done : (slot : ℕ) (p : P) {number : ℕ} → number ≡ a.core.cells.next → IsFree a.core.cells slot → {core : Core P T (Unit {0})} → core ≡ record a.core { cells = after_spawn a.core.cells slot p } → {entry : TaskEntry P} → entry ≡ new_entry slot
       → {reserved entries : List (TaskEntry P)} → entries ≡ reserved ++ entry ∷ [] → reserved ≡ a.entries.items → {log : List (Event T)} → log ≡ a.log.items ++ Spawned number ∷ [] → {notices : ℕ} → notices ≡ a.notices + 1 → {room : ℕ} → room ≡ vec_capacity a.log

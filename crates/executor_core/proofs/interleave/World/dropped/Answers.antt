@@ -22,3 +22,6 @@ invariant_of-self g c = (drop_done c.self.inside c.self.invariant c.self.view_is
 
 pub returns : goal.returns
 returns g c = (drop_done c.self.inside c.self.invariant c.self.view_is c.requires.room c.args.n c.begin-info.ensures.found _ c.requires.enabled c.begin-info.ensures.counted c.push_reserved.ensures.capacity c.id.ensures c.drop_future-held.ensures c.end_dropped-awaiter.ensures.state c.end_dropped-awaiter.ensures.answer c.with_awaited.ensures c.set_entry.ensures.items c.push_reserved.ensures.items c.has_awaiter.ensures refl).does
+
+pub end_dropped-awaiter-requires : goal.end_dropped-awaiter-requires
+end_dropped-awaiter-requires g c = ap (λ h. h.to_drop) c.drop_future-held.ensures

@@ -31,3 +31,6 @@ returns-in-Back g c = (pend_done c.self.inside c.self.invariant c.self.view_is c
 
 pub returns-in-Drop : goal.returns-in-Drop
 returns-in-Drop g c = (pend_dropped c.self.inside c.self.invariant c.self.view_is c.requires.room c.args.n c.begin-info.ensures.found _ c.requires.enabled c.begin-info.ensures.counted refl (ap (λ h. h.id) c.poll_pending-future.ensures ∙ c.id.ensures) _ c.end_pending.ensures.state c.in-Drop.ensures.answer.0 c.in-Drop.future c.take_unpolled-future.ensures c.set_entry.ensures.items c.with_to_drop-info.ensures refl).does
+
+pub end_pending-requires : goal.end_pending-requires
+end_pending-requires g c = ap (λ h. h.to_drop) c.poll_pending-future.ensures

@@ -1,4 +1,4 @@
-use Rattle.std.proofs.Common.{◌∙◌, refl}
+use Rattle.std.proofs.Common.{◌∙◌, ap, refl}
 use Rattle.executor_core.proofs.World.Agreement.{held_within}
 use Rattle.executor_core.proofs.World.Polls.{unpolled_now, ready_done}
 use Rattle.executor_core.proofs.World.Room.{step_fits, event_fits, second_fits}
@@ -21,3 +21,6 @@ invariant_of-self g c = (ready_done c.self.inside c.self.invariant c.self.view_i
 
 pub returns : goal.returns
 returns g c = (ready_done c.self.inside c.self.invariant c.self.view_is c.requires.room c.args.n c.begin-info.ensures.found _ c.requires.enabled c.begin-info.ensures.counted (c.push_reserved.ensures.capacity ∙ c.log_if.ensures.capacity) c.id-id.ensures c.poll_ready-output.ensures c.end_ready-ended.ensures.state c.end_ready-ended.ensures.answer c.is_cancelled-cancelled.ensures c.with_awaited.ensures c.take_unpolled-future.ensures c.log_if.ensures.items c.push_reserved.ensures.items c.reply_of.ensures).does
+
+pub end_ready-ended-requires : goal.end_ready-ended-requires
+end_ready-ended-requires g c = ap (λ p. p.0.to_drop) c.poll_ready-output.ensures
