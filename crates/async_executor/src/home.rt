@@ -14,8 +14,9 @@ use std::sync::{Arc, Mutex, Wait};
 
 /// A share of an executor's state and of its store.
 ///
-/// Each call is one change of the store, which no other change overlaps. It polls nothing of a task,
-/// drops nothing and wakes nobody: what is to be dropped or woken is part of its answer.
+/// Each call from `spawn` on is one change of the store, which no other change overlaps. It polls
+/// nothing of a task, drops nothing and wakes nobody: what is to be dropped or woken is part of its
+/// answer.
 pub trait Home: Drop {
     type Future: Future<TaskWaker<Self::Waker, Self::Runtime>>;
 
@@ -35,7 +36,7 @@ pub trait Home: Drop {
     fn spawn(&self, future: Self::Future) -> Result<(TaskId, Notice), SpawnError<Self::Future>>
         ensures { IfErr result (λ e. refused_future e ≡ future) };
 
-    /// Takes the future of the task, and its waker.
+    /// Takes the future of the task, with the waker to poll it with.
     fn take(&self, id: TaskId) -> Option<(Self::Future, TaskWaker<Self::Waker, Self::Runtime>)>;
 
     /// Keeps the future of the waker's task again. Where the task has no place, both are given back.

@@ -1,8 +1,10 @@
 //! Spawns tasks and runs them.
 //!
-//! A task that is run goes this way: its id is taken from the table and its future from the store;
-//! the future is polled or dropped with no lock held; what is left of it goes back into the store,
-//! and the task is ended in the table. What neither keeps is dropped after that.
+//! A task that is run goes this way: its id is taken from the table and its future from the store, and
+//! the future is polled or dropped with no lock held. A future that is not ready goes back into the
+//! store, and then its task is ended in the table. A task with an output is ended in the table first,
+//! and the output goes into the store where a handle wants it. What neither keeps is dropped after
+//! that.
 ghost use Rattle.std.specs.Prelude.{◌≡◌, true, false, IfOk, IfErr};
 ghost use Rattle.executor_core.specs.SpawnError.{refused_future};
 

@@ -58,6 +58,7 @@ impl<W: Wake, R: Wait + Clone + Drop> State<W, R> {
         ensures { LockLaw (mutex_guard_value result) }
     {
         let cells = lock!(self.cells, &self.rt);
+        // A reader that does nothing, whose contract is the law.
         cells.law_holds();
         cells
     }
@@ -69,6 +70,7 @@ impl<W: Wake, R: Wait + Clone + Drop> State<W, R> {
         ensures law { SleeperLaw (mutex_guard_value result).sleepers }
     {
         let guard = lock!(self.sleepers, &self.rt);
+        // Its contract has the law.
         guard.sleepers.is_notified();
         guard
     }
