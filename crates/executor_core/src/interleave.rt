@@ -6,8 +6,8 @@
 //! on its `Core`, and logs what happened to which task. A step that is not enabled is answered and
 //! changes nothing.
 //!
-//! The notices and the picks that the steps leave to be spent are kept as counts. Any party may spend
-//! one that is out, at any time: a notice by an exchange, a pick by a notification.
+//! The notices and the picks that the steps leave to be spent are kept as counts. They float: any
+//! party may spend one, at any time, a notice by an exchange, a pick by a notification.
 //!
 //! The log alone says where a task stands: whether it was dropped, is held, is owed a poll or a
 //! drop, or is idle is read off the events. The contracts of `World::step` and `World::run` say

@@ -148,12 +148,12 @@ module _ {P T : Type 0} where
   dropped_state (Finished t) w s h = h.dropped
   dropped_state Gone w s h = h.dropped
 
-  pub held_state : (st : CellState P T) (w : Bool) (s : Status T) → StateAgrees st w s → s.held ≡ is_held st
-  held_state (Idle p) w s h = h.0.held
-  held_state (Scheduled p) w s h = h.0.held
-  held_state Held w s h = h.0.held
-  held_state (Finished t) w s h = h.held
-  held_state Gone w s h = h.held
+  pub held_by_state : (st : CellState P T) (w : Bool) (s : Status T) → StateAgrees st w s → s.held ≡ is_held st
+  held_by_state (Idle p) w s h = h.0.held
+  held_by_state (Scheduled p) w s h = h.0.held
+  held_by_state Held w s h = h.0.held
+  held_by_state (Finished t) w s h = h.held
+  held_by_state Gone w s h = h.held
 
   scheduled_is : (o : Option (Slotted P T (Unit {0}))) (s : Status T) (i : Option (TaskEntry P)) → NumberAgrees o s i → has_state is_scheduled o ≡ owed_of s
   scheduled_is None s None h = sym (ap owed_of h)
@@ -170,7 +170,7 @@ module _ {P T : Type 0} where
   held_is : (o : Option (Slotted P T (Unit {0}))) (s : Status T) (i : Option (TaskEntry P)) → NumberAgrees o s i → has_state is_held o ≡ s.held
   held_is None s None h = sym (ap (λ x. x.held) h)
   held_is None s (Some e) h = sym h.held
-  held_is (Some slotted) s (Some e) h = sym (held_state slotted.cell.state slotted.cell.woken s h.state)
+  held_is (Some slotted) s (Some e) h = sym (held_by_state slotted.cell.state slotted.cell.woken s h.state)
   held_is (Some slotted) s None h = absurd h
 
   pub cells_agree : {table : Table P T (Unit {0})} {log : List (Event T)} {entries : List (TaskEntry P)} → Agree table log entries → CellsAgree table log

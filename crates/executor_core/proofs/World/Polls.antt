@@ -22,7 +22,7 @@ use Rattle.executor_core.proofs.World.Entries.{infos-set, entry_of, info_at}
 use Rattle.executor_core.proofs.World.Room.{length-push_if}
 use Rattle.executor_core.proofs.World.Steps.{stepped, Done, stepped_sound}
 use Rattle.executor_core.proofs.World.Log.{on_poll, on_take, on_return, on_drop, on_finish, order-push, status_other}
-use Rattle.executor_core.proofs.World.Agreement.{id_of, out_is, held_state, state_agrees, CellAt, held_cell, agreed_at, LogChange, log_same, log_pushed, entry_set, cell_put, cell_removed, cell_same, agree_again}
+use Rattle.executor_core.proofs.World.Agreement.{id_of, out_is, held_by_state, state_agrees, CellAt, held_cell, agreed_at, LogChange, log_same, log_pushed, entry_set, cell_put, cell_removed, cell_same, agree_again}
 use Rattle.executor_core.specs.declared.task.cell.CellState.{CellState}
 use Rattle.executor_core.specs.declared.task.cell.CellState.TheVariants.{Idle, Scheduled, Held, Finished, Gone}
 use Rattle.executor_core.specs.declared.plain_core.Core.{Core}
@@ -111,7 +111,7 @@ module _ {P T : Type 0} {table : Table P T (Unit {0})} {log : List (Event T)} {e
     the_cell = held_cell agree n e found now_held
 
     cell_held : is_held the_cell.slotted.cell.state ≡ true
-    cell_held = sym (held_state the_cell.slotted.cell.state the_cell.slotted.cell.woken (status n log) the_cell.agrees.state) ∙ now_held
+    cell_held = sym (held_by_state the_cell.slotted.cell.state the_cell.slotted.cell.woken (status n log) the_cell.agrees.state) ∙ now_held
 
     alive : StateAgrees {P = P} Held the_cell.slotted.cell.woken (status n log)
     alive = state_agrees the_cell.slotted (status n log) e Held (is_held_state _ cell_held) the_cell.agrees
@@ -230,18 +230,18 @@ module _ {P T : Type 0} {table : Table P T (Unit {0})} {log : List (Event T)} {e
     ready_answer_is : (t : T) → ready_answer t (cell_at table (id_of n e.info)) ≡ record { awaiter = wakeup_of the_cell.slotted.cell.awaiter; unwanted = cond (the_cell.slotted.cell.has_handle && not the_cell.slotted.cell.cancelled) None (Some t) }
     ready_answer_is t = ap (ready_answer t) the_cell.cell ∙ cond-true (is_held the_cell.slotted.cell.state) _ _ cell_held
 
-    pub ready_awaiter : (t : T) → is_some (ready_answer t (cell_at table (id_of n e.info))).awaiter ≡ e.info.awaited
-    ready_awaiter t = ap (λ a. is_some a.awaiter) (ready_answer_is t) ∙ wakeup_some the_cell.slotted.cell.awaiter ∙ the_cell.agrees.awaited
+    pub awaiter_is : (t : T) → is_some (ready_answer t (cell_at table (id_of n e.info))).awaiter ≡ e.info.awaited
+    awaiter_is t = ap (λ a. is_some a.awaiter) (ready_answer_is t) ∙ wakeup_some the_cell.slotted.cell.awaiter ∙ the_cell.agrees.awaited
 
-    pub ready_unwanted : (t : T) → (ready_answer t (cell_at table (id_of n e.info))).unwanted ≡ cond (e.info.has_handle && not (cancelled n log)) None (Some t)
-    ready_unwanted t = ap (λ a. a.unwanted) (ready_answer_is t) ∙ rw (the_cell.agrees.has_handle, the_cell.agrees.cancelled) refl
+    pub unwanted_is : (t : T) → (ready_answer t (cell_at table (id_of n e.info))).unwanted ≡ cond (e.info.has_handle && not (cancelled n log)) None (Some t)
+    unwanted_is t = ap (λ a. a.unwanted) (ready_answer_is t) ∙ rw (the_cell.agrees.has_handle, the_cell.agrees.cancelled) refl
 
     -- the future was dropped, and gave no output
     pub drop_holds : Ended (after_end_dropped table (id_of n e.info)) (log ++ Dropped n ∷ [])
     drop_holds = ended_gone (ap (end_dropped_at table (id_of n e.info)) the_cell.cell ∙ cond-true (is_held the_cell.slotted.cell.state) _ _ cell_held)
 
-    pub drop_awaiter : is_some (dropped_answer (cell_at table (id_of n e.info))) ≡ e.info.awaited
-    drop_awaiter = ap (λ o. is_some (dropped_answer o)) the_cell.cell ∙ ap is_some (cond-true (is_held the_cell.slotted.cell.state) (wakeup_of the_cell.slotted.cell.awaiter) None cell_held) ∙ wakeup_some the_cell.slotted.cell.awaiter ∙ the_cell.agrees.awaited
+    pub gone_awaiter_is : is_some (dropped_answer (cell_at table (id_of n e.info))) ≡ e.info.awaited
+    gone_awaiter_is = ap (λ o. is_some (dropped_answer o)) the_cell.cell ∙ ap is_some (cond-true (is_held the_cell.slotted.cell.state) (wakeup_of the_cell.slotted.cell.awaiter) None cell_held) ∙ wakeup_some the_cell.slotted.cell.awaiter ∙ the_cell.agrees.awaited
 
 -- where a poll of the task may end, its future was not polled
 pub unpolled_now : {P T : Type 0} (a : Inside P T) → IsWorld (execution_of a) a.core.cells a.entries.items (vec_capacity a.log) → {w : Execution T} → execution_of a ≡ w → (n : ℕ) → (held n w.log && not (info n w).to_drop) ≡ true → is_unpolled (slice_get a.entries.items n) ≡ true
@@ -345,7 +345,7 @@ module _ {P T : Type 0} (a : Inside P T) (sound : IsWorld (execution_of a) a.cor
           let ours = ap (λ p. p.0.id) handed ∙ same in
           let gave = ap (λ p. p.1) handed in
           let cancel = cancel_is ∙ ap (λ id. cancelled_in (cell_at a.core.cells id)) same ∙ cancelled_is sound.agree n _ at is_held_now in
-          rw (← view, counted, core_is, entries_is, info_is, answers, ended_is, more_is, log_is, cancel, capacity, ours, gave, ready_awaiter sound.agree n _ at is_held_now t, ready_unwanted sound.agree n _ at is_held_now t) (record {
+          rw (← view, counted, core_is, entries_is, info_is, answers, ended_is, more_is, log_is, cancel, capacity, ours, gave, awaiter_is sound.agree n _ at is_held_now t, unwanted_is sound.agree n _ at is_held_now t) (record {
             sound = stepped_sound a sound refl far false _ _ _ (λ _. step.global) (let long = length-slice_set a.entries.items n e in omega arith) (let first = length-push_if (not (cancelled n a.log.items)) a.log.items (Finish n t) in let long = length-push (cond (not (cancelled n a.log.items)) (a.log.items ++ Finish n t ∷ []) a.log.items) (Dropped n) in omega arith) step.holds;
             does = rw (infos-set a.entries.items n e, step.global, found) (refl, refl);
           })
@@ -360,7 +360,7 @@ module _ {P T : Type 0} (a : Inside P T) (sound : IsWorld (execution_of a) a.cor
           let step = drop_holds sound.agree n _ at is_held_now in
           let far = rw (← view) at far in
           let ours = ap (λ h. h.id) handed ∙ same in
-          rw (← view, counted, core_is, entries_is, info_is, log_is, answers, there_is, awaiter_is, capacity, ours, drop_awaiter sound.agree n _ at is_held_now) (record {
+          rw (← view, counted, core_is, entries_is, info_is, log_is, answers, there_is, awaiter_is, capacity, ours, gone_awaiter_is sound.agree n _ at is_held_now) (record {
             sound = stepped_sound a sound refl far false _ _ _ (λ _. step.global) (let long = length-slice_set a.entries.items n e in omega arith) (let long = length-push a.log.items (Dropped n) in omega arith) step.holds;
             does = rw (infos-set a.entries.items n e, step.global, found) (refl, refl);
           })

@@ -31,52 +31,24 @@ module _ {P T : Type 0} where
     pub sound : IsWorld later table entries room
     pub does : row r answer later
 
-module _ {T : Type 0} where
-  -- what a step leaves that queues a task or does not, and leaves the flag and the sleepers as they are
-  pub record Leaves (w v : Execution T) (queues : Bool) : Type 0 where
-    pub counted : v.accepted ≡ w.accepted + 1
-    pub limit : v.limit ≡ w.limit
-    pub flag : v.flag ≡ w.flag
-    pub sleepers : v.sleepers ≡ w.sleepers
-    pub picks : v.picks ≡ w.picks
-    pub notices : v.notices ≡ cond queues (w.notices + 1) w.notices
-    pub global : queues ≡ false → v.global ≡ w.global
-    pub tasks : length v.tasks ≤ length w.tasks + 1
-    pub events : length v.log ≤ length w.log + 2
-
-module _ {P T : Type 0} where
-  pub left : {w v : Execution T} {table later : Table P T (Unit {0})} {entries anew : List (TaskEntry P)} {room : ℕ} {queues : Bool} → IsWorld w table entries room → {u : Execution T} → w ≡ u → u.accepted ≢ u.limit → Leaves w v queues → Agree later v.log anew → IsWorld v later anew room
-  left {w} {v} {queues = queues} sound view far leaves agree =
-      record {
-        agree = agree;
-        notices = notices_again sound.notices leaves.flag leaves.sleepers leaves.picks (out queues leaves.notices leaves.global);
-        room = room_again sound.room view far v leaves.counted leaves.limit (few queues leaves.notices) leaves.tasks leaves.events;
-      }
-    where
-      out : (q : Bool) → v.notices ≡ cond q (w.notices + 1) w.notices → (q ≡ false → v.global ≡ w.global) → (0 < v.notices) ⊎ ((v.global ≡ w.global) × (v.notices ≡ w.notices))
-      out true is same = inl (omega arith)
-      out false is same = inr (same refl, is)
-
-      few : (q : Bool) → v.notices ≡ cond q (w.notices + 1) w.notices → v.picks + v.notices ≤ w.picks + w.notices + 1
-      few true is = let h = leaves.picks in omega arith
-      few false is = let h = leaves.picks in omega arith
-
 -- a step that leaves the flag, the sleepers and the picks as they are, with a notice where it queues a task
 module _ {P T : Type 0} (a : Inside P T) (sound : IsWorld (execution_of a) a.core.cells a.entries.items (vec_capacity a.log)) {w : Execution T} (view : execution_of a ≡ w) (far : w.accepted ≢ w.limit) where
   pub stepped_sound : (queues : Bool) (table : Table P T (Unit {0})) (log : List (Event T)) (entries : List (TaskEntry P)) → (queues ≡ false → table.global ≡ a.core.cells.global) → length entries ≤ length a.entries.items + 1 → length log ≤ length a.log.items + 2 → Agree table log entries
       → IsWorld (stepped a (a.accepted + 1) (record a.core { cells = table }) log entries (cond queues (a.notices + 1) a.notices) a.picks) table entries (vec_capacity a.log)
   stepped_sound queues table log entries same tasks events agree =
-      left sound view far (record {
-        counted = refl;
-        limit = refl;
-        flag = refl;
-        sleepers = refl;
-        picks = refl;
-        notices = refl;
-        global = same;
-        tasks = let before = length-infos a.entries.items in let after = length-infos entries in omega arith;
-        events = events;
-      }) agree
+      record {
+        agree = agree;
+        notices = notices_again sound.notices refl refl refl (noticed queues same);
+        room = room_again sound.room view far _ refl refl (one_more queues) (let before = length-infos a.entries.items in let after = length-infos entries in omega arith) events;
+      }
+    where
+      noticed : (q : Bool) → (q ≡ false → table.global ≡ a.core.cells.global) → (0 < cond q (a.notices + 1) a.notices) ⊎ ((table.global ≡ a.core.cells.global) × (cond q (a.notices + 1) a.notices ≡ a.notices))
+      noticed true same = inl (omega arith)
+      noticed false same = inr (same refl, refl)
+
+      one_more : (q : Bool) → a.picks + cond q (a.notices + 1) a.notices ≤ a.picks + a.notices + 1
+      one_more true = omega arith
+      one_more false = omega arith
 
 -- what holds of every world
 pub promises : {P T : Type 0} {w : Execution T} {table : Table P T (Unit {0})} {entries : List (TaskEntry P)} {room : ℕ} → IsWorld w table entries room → OnePlace w.log w.global → KeepsPromises w
