@@ -39,7 +39,8 @@ pub trait Home: Drop {
     /// Takes the future of the task, with the waker to poll it with.
     fn take(&self, id: TaskId) -> Option<(Self::Future, TaskWaker<Self::Waker, Self::Runtime>)>;
 
-    /// Keeps the future of the waker's task again. Where the task has no place, both are given back.
+    /// Keeps the future of the waker's task again. Where the task has no place, both are given
+    /// back.
     fn put_back(
         &self,
         future: Self::Future,

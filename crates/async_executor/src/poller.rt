@@ -53,8 +53,8 @@ impl<F: Future<TaskWaker<W, R>>, W: Wake, R: Wait + Clone + Drop> Poller<(), F::
 
     ghost disposed = { λ p id _ after. DisposesOwn p id after };
 
-    /// Polls the future once, and drops it where it is ready. Another task's future is not there, and
-    /// so it is not ready.
+    /// Polls the future once, and drops it where it is ready. Another task's future is not there,
+    /// and so it is not ready.
     fn poll(&mut self, id: TaskId, _future: ()) -> Polled<(), F::Output> {
         self.polls += 1;
         let Some((future, waker)) = &mut self.out else {

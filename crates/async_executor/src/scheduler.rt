@@ -1,10 +1,10 @@
 //! Spawns tasks and runs them.
 //!
-//! A task that is run goes this way: its id is taken from the table and its future from the store, and
-//! the future is polled or dropped with no lock held. A future that is not ready goes back into the
-//! store, and then its task is ended in the table. A task with an output is ended in the table first,
-//! and the output goes into the store where a handle wants it. What neither keeps is dropped after
-//! that.
+//! A task that is run goes this way: its id is taken from the table and its future from the store,
+//! and the future is polled or dropped with no lock held. A future that is not ready goes back into
+//! the store, and then its task is ended in the table. A task with an output is ended in the table
+//! first, and the output goes into the store where a handle wants it. What neither keeps is dropped
+//! after that.
 ghost use Rattle.std.specs.Prelude.{◌≡◌, true, false, IfOk, IfErr};
 ghost use Rattle.executor_core.specs.SpawnError.{refused_future};
 
@@ -26,12 +26,20 @@ pub struct ExecutorIn<H: Home> {
 
 impl<H: Home> ExecutorIn<H> {
     /// An executor without tasks. It keeps the right to wait for its locks, and the allocator.
+    ///
+    /// # Errors
+    ///
+    /// `OutOfMemory` where memory for what the executor shares is refused.
+    ///
+    /// Example: `uses::runs`.
     pub fn new(rt: H::Runtime, alloc: Global) -> Result<ExecutorIn<H>, OutOfMemory> {
         let home = H::new(rt, alloc)?;
         Ok(ExecutorIn { home })
     }
 
     /// Whether the future of every task was dropped. A task that was cancelled counts until then.
+    ///
+    /// Example: `uses::detaches`.
     pub fn is_empty(&self) -> bool {
         self.home.state().cells().is_empty()
     }
@@ -42,6 +50,8 @@ impl<H: Home> ExecutorIn<H> {
     ///
     /// Where memory is refused, or no number is left for the task, the future is given back and all
     /// is as before.
+    ///
+    /// Example: `uses::gives_back`.
     pub fn spawn(&self, future: H::Future) -> Result<TaskIn<H>, SpawnError<H::Future>>
         ensures ok { IfOk result (λ task. task.answered ≡ false) }
         ensures refused { IfErr result (λ e. refused_future e ≡ future) }
@@ -56,6 +66,8 @@ impl<H: Home> ExecutorIn<H> {
 
     /// Runs the task that was scheduled first, and says whether there was one: its future is polled
     /// once, or dropped where the task was cancelled.
+    ///
+    /// Example: `uses::runs`.
     pub fn try_tick(&self) -> bool {
         let state = self.home.state();
         let mut cells = state.cells();
@@ -118,8 +130,8 @@ impl<H: Home> ExecutorIn<H> {
         self.end_dropped(held);
     }
 
-    // Leaves the output to the handle. Where none is there, or the task was cancelled meanwhile, the
-    // output is dropped.
+    // Leaves the output to the handle. Where none is there, or the task was cancelled meanwhile,
+    // the output is dropped.
     fn end_ready(&self, id: TaskId, held: Held, output: OutputIn<H>)
         requires { held.to_drop ≡ false }
     {

@@ -11,8 +11,8 @@ use std::alloc::Global;
 use std::sync::{Mutex, MutexGuard, Wait};
 
 /// Spends the notice of a task that was queued or taken: where somebody sleeps and nobody was
-/// notified since, a sleeper is woken. No lock may be held. It stands for `State::notify` of the Rust
-/// crate. It is no function for the reason that `lock` is none.
+/// notified since, a sleeper is woken. No lock may be held. It stands for `State::notify` of the
+/// Rust crate. It is no function for the reason that `lock` is none.
 macro_rules! announce {
     ($state:expr, $notice:expr) => {
         if let Some(pick) = $state.exchange($notice) {

@@ -166,8 +166,8 @@ impl<F: Drop, S: Drop, T: Drop> Store<F, S, T> {
     }
 }
 
-// Each of these is one change of the store, with one of the table inside it where that has to change
-// with it. They are the calls of a `Home`.
+// Each of these is one change of the store, with one of the table inside it where that has to
+// change with it. They are the calls of a `Home`.
 impl<F: Drop, W: Wake, R: Wait + Clone + Drop, T: Drop> Store<F, Arc<State<W, R>>, T> {
     /// The task's place is made before the task is queued.
     pub(crate) fn spawn(

@@ -1,7 +1,7 @@
 //! The handles of an executor's tasks.
 //!
-//! `CancelIn` and `FallibleTaskIn` are names for a `TaskIn`, and differ from it in what they answer.
-//! Each of them cancels its task when it is dropped before it has answered.
+//! `CancelIn` and `FallibleTaskIn` are names for a `TaskIn`, and differ from it in what they
+//! answer. Each of them cancels its task when it is dropped before it has answered.
 //!
 //! What a handle does to a task that has ended is one change of the store and of the table, since
 //! the task may have to leave its slot and its place to a new one. What it does before is a change
@@ -15,6 +15,8 @@ use executor_core::task::{Future, Poll, PollHandle, TaskId, Wake};
 use thiserror::Error;
 
 /// A task has no output to give: it was cancelled, or its handle has answered before.
+///
+/// Example: `uses::asks_again`.
 #[derive(Debug, Clone, Copy, PartialEq, Eq, Error)]
 #[error("the task was cancelled")]
 pub struct Cancelled;
@@ -39,6 +41,8 @@ impl<H: Home> TaskIn<H> {
     }
 
     /// Lets the task run on without a handle. Its output is dropped once it is there.
+    ///
+    /// Example: `uses::detaches`.
     pub fn detach(self) {
         let TaskIn { home, id, answered } = self;
         if answered {
@@ -57,6 +61,8 @@ impl<H: Home> TaskIn<H> {
 
     /// Cancels the task at once: it is scheduled, and its future is dropped in place of its next
     /// poll. What is given is a future that ends once the future of the task was dropped.
+    ///
+    /// Example: `uses::cancels`.
     pub fn cancel(self) -> CancelIn<H>
         ensures { result.task.answered ≡ self.answered }
     {
@@ -69,6 +75,8 @@ impl<H: Home> TaskIn<H> {
     }
 
     /// The same task, with `None` in place of `Cancelled`.
+    ///
+    /// Example: `uses::falls_back`.
     pub fn fallible(self) -> FallibleTaskIn<H>
         ensures { result.task.answered ≡ self.answered }
     {
@@ -76,6 +84,8 @@ impl<H: Home> TaskIn<H> {
     }
 
     /// Whether the task has ended or was cancelled, or this handle has answered.
+    ///
+    /// Example: `uses::falls_back`.
     pub fn is_finished(&self) -> bool
         ensures { IsTrue self.now.answered → IsTrue result }
     {
@@ -97,6 +107,8 @@ impl<H: Home> Future<H::Waker> for TaskIn<H> {
     /// then on. While there is no answer, a copy of the waker is kept, in place of an earlier one,
     /// and is woken once there is one. Where the copy is refused, the waker itself is woken and
     /// nothing is kept.
+    ///
+    /// Example: `uses::asks_again`.
     #[inline(always)]
     fn poll(&mut self, w: &H::Waker) -> Poll<Result<OutputIn<H>, Cancelled>>
         ensures answered { self.new.answered ≡ is_ready result }
@@ -155,6 +167,8 @@ impl<H: Home> Future<H::Waker> for CancelIn<H> {
     type Output = Option<OutputIn<H>>;
 
     /// As the poll of `Task`, with `None` in place of `Cancelled`.
+    ///
+    /// Example: `uses::cancels`.
     fn poll(&mut self, w: &H::Waker) -> Poll<Option<OutputIn<H>>>
         ensures answered { self.new.task.answered ≡ is_ready result }
         ensures again { IsTrue self.old.task.answered → IsReadyNone result }
@@ -171,12 +185,16 @@ pub struct FallibleTaskIn<H: Home> {
 
 impl<H: Home> FallibleTaskIn<H> {
     /// As `Task::detach`.
+    ///
+    /// Example: `uses::lets_go`.
     pub fn detach(self) {
         let FallibleTaskIn { task } = self;
         task.detach();
     }
 
     /// As `Task::cancel`.
+    ///
+    /// Example: `uses::lets_go`.
     pub fn cancel(self) -> CancelIn<H>
         ensures { result.task.answered ≡ self.task.answered }
     {
@@ -185,6 +203,8 @@ impl<H: Home> FallibleTaskIn<H> {
     }
 
     /// As `Task::is_finished`.
+    ///
+    /// Example: `uses::falls_back`.
     pub fn is_finished(&self) -> bool
         ensures { IsTrue self.now.task.answered → IsTrue result }
     {
@@ -196,6 +216,8 @@ impl<H: Home> Future<H::Waker> for FallibleTaskIn<H> {
     type Output = Option<OutputIn<H>>;
 
     /// As the poll of `Task`, with `None` in place of `Cancelled`.
+    ///
+    /// Example: `uses::falls_back`.
     fn poll(&mut self, w: &H::Waker) -> Poll<Option<OutputIn<H>>>
         ensures answered { self.new.task.answered ≡ is_ready result }
         ensures again { IsTrue self.old.task.answered → IsReadyNone result }

@@ -8,8 +8,10 @@ use std::sync::{Arc, Wait};
 /// Schedules one task of an executor for another poll.
 ///
 /// It may be kept and sent on: it outlives the task and the executor, and then wakes nothing. It
-/// stands for the `std::task::Waker` that the Rust crate hands to its futures, and as it is a `Wake`,
-/// an executor may be driven from within a task of another one.
+/// stands for the `std::task::Waker` that the Rust crate hands to its futures, and as it is a
+/// `Wake`, an executor may be driven from within a task of another one.
+///
+/// Example: `uses::receives`.
 #[derive(Drop)]
 pub struct TaskWaker<W, R> {
     state: Arc<State<W, R>>,
@@ -36,6 +38,8 @@ impl<W: Wake, R: Wait + Clone + Drop> TaskWaker<W, R> {
 impl<W: Wake, R: Wait + Clone + Drop> Wake for TaskWaker<W, R> {
     /// Schedules the task where it waits for a wake. Where it is being polled, it is scheduled once
     /// that poll ends.
+    ///
+    /// Example: `uses::receives`.
     #[inline(always)]
     fn wake(&self) {
         let mut cells = self.state.cells();
@@ -46,6 +50,12 @@ impl<W: Wake, R: Wait + Clone + Drop> Wake for TaskWaker<W, R> {
     }
 
     /// Another waker of the same task.
+    ///
+    /// # Errors
+    ///
+    /// `OutOfMemory` where another share of the state is refused.
+    ///
+    /// Example: `uses::receives`.
     fn copy(&self) -> Result<Self, OutOfMemory> {
         let state = Arc::try_clone(&self.state)?;
         Ok(TaskWaker { state, id: self.id })

@@ -1,9 +1,10 @@
 //! Measures the executors.
 //!
-//! `bench NAME N R` runs the row NAME with N operations, R times over, and prints the name, N, and the seconds and
-//! the nanoseconds an operation of the fastest run. R is 5 where it is left out; unless it is 1, one run more goes
-//! before, to warm up. `bench list` prints the names. Without arguments each row is run once at a small N, and the
-//! number of its operations that did what they were to do is printed.
+//! `bench NAME N R` runs the row NAME with N operations, R times over, and prints the name, N, and
+//! the seconds and the nanoseconds an operation of the fastest run. R is 5 where it is left out;
+//! unless it is 1, one run more goes before, to warm up. `bench list` prints the names. Without
+//! arguments each row is run once at a small N, and the number of its operations that did what they
+//! were to do is printed.
 #![tactic(auto)]
 
 pub mod futures;

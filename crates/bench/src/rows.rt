@@ -83,8 +83,8 @@ impl Row {
         None
     }
 
-    /// Runs this many operations on a new executor, and counts those that did what they were to do. `None` where
-    /// memory was refused.
+    /// Runs this many operations on a new executor, and counts those that did what they were to do.
+    /// `None` where memory was refused.
     pub fn run<R: Wait + Clone + Drop + Send + Sync + Threads>(
         self,
         rt: &R,

@@ -26,8 +26,8 @@ fn tick_until_empty<R: Wait + Clone + Drop + Send + Sync>(
     polls.fetch_add(count, Ordering::SeqCst);
 }
 
-/// Has this many threads run 1,000 tasks that wake themselves, each of which is polled as often, so that all together
-/// are polled this often or a little more. Gives the number of polls.
+/// Has this many threads run 1,000 tasks that wake themselves, each of which is polled as often, so
+/// that all together are polled this often or a little more. Gives the number of polls.
 pub fn threads_try_tick<R: Wait + Clone + Drop + Send + Sync + Threads>(
     rt: &R,
     alloc: Global,

@@ -1,19 +1,19 @@
 //! A world: the steps of all parties of an executor in any order, and the log of what they did.
 //!
-//! A party may spawn, wake, take a task, end its poll, say that its future was dropped, poll, cancel,
-//! detach or drop its handle, exchange the flag, or notify a sleeper. A `World` takes any list of such
-//! steps, of all parties, with steps of others between a take and the end of its poll. It makes each
-//! on its `Core`, and logs what happened to which task. A step that is not enabled is answered and
-//! changes nothing.
+//! A party may spawn, wake, take a task, end its poll, say that its future was dropped, poll,
+//! cancel, detach or drop its handle, exchange the flag, or notify a sleeper. A `World` takes any
+//! list of such steps, of all parties, with steps of others between a take and the end of its poll.
+//! It makes each on its `Core`, and logs what happened to which task. A step that is not enabled is
+//! answered and changes nothing.
 //!
 //! The notices and the picks that the steps leave to be spent are kept as counts. They float: any
 //! party may spend one, at any time, a notice by an exchange, a pick by a notification.
 //!
 //! The log alone says where a task stands: whether it was dropped, is held, is owed a poll or a
 //! drop, or is idle is read off the events. The contracts of `World::step` and `World::run` say
-//! that the queue and the futures that are out agree with the log after every list of steps, and that
-//! no notice is lost: where a task is queued and somebody sleeps, one is notified, or a notice or a
-//! pick is out.
+//! that the queue and the futures that are out agree with the log after every list of steps, and
+//! that no notice is lost: where a task is queued and somebody sleeps, one is notified, or a notice
+//! or a pick is out.
 ghost use Rattle.std.specs.Prelude.{◌≡◌, ◌≢◌, ◌≤◌, ◌||◌, ◌↔◌, length, IfOk, OnErr};
 ghost use Rattle.executor_core.specs.World.Agreement.{CellsAgree, HandlesAgree};
 ghost use Rattle.executor_core.specs.Cells.Calls.{AllDropped};
@@ -42,6 +42,8 @@ use std::marker::Model;
 /// Futures are of type P and outputs of type T; wakers are units. A contract sees it as an
 /// `Execution`: the log, the global queue, what is out to be spent, the flag and the sleepers, and
 /// what the log does not say of a task.
+///
+/// Example: `uses::interleaves`.
 #[derive(Drop)]
 pub struct World<P, T> {
     alloc: Global,
@@ -180,7 +182,8 @@ impl<P: Drop, T: Copy> World<P, T> {
         has_future(&self.entries, n)
     }
 
-    /// The cells on which the steps were made. They answer each handle that is there as the log says.
+    /// The cells on which the steps were made. They answer each handle that is there as the log
+    /// says.
     pub fn cells(&self) -> &Cells<P, T, ()>
         ensures next { result.now.next ≡ length self.now.tasks }
         ensures global { result.now.global ≡ self.now.global }

@@ -1,4 +1,5 @@
-//! Tasks, their queue, the sleepers, and a world of all parties in any order: what the executors stand on.
+//! Tasks, their queue, the sleepers, and a world of all parties in any order: what the executors
+//! stand on.
 #![tactic(auto)]
 
 pub mod interleave;

@@ -2,10 +2,10 @@
 //!
 //! What the running executor shares stands behind two locks and in an atomic: the cells of the
 //! tasks, the sleepers, and the flag between them. `Core` has the same three as plain values, and
-//! one method for each step that a party may take on them. Such a step is one call on the cells, one
-//! change of the list of sleepers, one exchange or one store of the flag, or one notification; in
-//! between, any other party may take its own. Each contract is one equation: the state with the part
-//! that the step is about changed.
+//! one method for each step that a party may take on them. Such a step is one call on the cells,
+//! one change of the list of sleepers, one exchange or one store of the flag, or one notification;
+//! in between, any other party may take its own. Each contract is one equation: the state with the
+//! part that the step is about changed.
 ghost use Rattle.std.specs.Prelude.{◌≡◌, [], true, false, not, is_some, IsErr, IfOk, IfErr, OnErr, IfNone, IfSome};
 ghost use Rattle.executor_core.specs.Cells.Calls.{empty_table, after_spawn, IsFree, wakes, after_wake, after_cancel, cancel_queues, after_detach, detach_answer, after_poll_handle, poll_answer, after_end_pending, EndsPending, after_end_ready, ready_answer, after_end_dropped, dropped_answer, after_take, TakesFront, cell_at};
 ghost use Rattle.executor_core.specs.SpawnError.{last_number, Refuses};
@@ -24,8 +24,8 @@ use std::alloc::Global;
 /// The plain twin of what a running executor shares: the cells of its tasks, its sleepers, and the
 /// flag between them.
 ///
-/// Futures are of type P, outputs of type T and wakers of type W. Each method is one shared step: it
-/// has the name and the answer of the one call that it makes, and leaves the other parts as they
+/// Futures are of type P, outputs of type T and wakers of type W. Each method is one shared step:
+/// it has the name and the answer of the one call that it makes, and leaves the other parts as they
 /// were. A contract names the parts.
 #[derive(Drop)]
 pub struct Core<P, T, W> {

@@ -6,8 +6,8 @@
 //! was taken, to be woken. At most one is. While it is, no other waker is taken; it ends by that
 //! sleeper's answer, which is to sleep again or to be removed.
 //!
-//! The list stands under a lock. Whoever queues a task does not take that lock each time, for a flag
-//! beside it repeats what the list said last:
+//! The list stands under a lock. Whoever queues a task does not take that lock each time, for a
+//! flag beside it repeats what the list said last:
 //!
 //! | flag | the list said |
 //! |---|---|

@@ -17,11 +17,11 @@
 //! the future back, `end_ready` keeps its output for the handle. A wake that comes while the future
 //! is out is a mark in the cell, and the end of the poll schedules the task again.
 //!
-//! A cancel is a mark too, and schedules an idle task. A task with this mark is not polled again and
-//! gives no output: whoever takes it has its future dropped, and whoever holds it gets the future
-//! back from `end_pending`, to be dropped, or the output from `end_ready`. `end_dropped` is the end
-//! of a task whose future was dropped unfinished. A cell whose future was dropped is removed as soon
-//! as its handle is there no more.
+//! A cancel is a mark too, and schedules an idle task. A task with this mark is not polled again
+//! and gives no output: whoever takes it has its future dropped, and whoever holds it gets the
+//! future back from `end_pending`, to be dropped, or the output from `end_ready`. `end_dropped` is
+//! the end of a task whose future was dropped unfinished. A cell whose future was dropped is
+//! removed as soon as its handle is there no more.
 //!
 //! What a call leaves to do is a value that can neither be copied nor dropped. Each has only the
 //! ends that this table names, so a path that forgets one does not compile.

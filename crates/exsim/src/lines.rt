@@ -34,9 +34,9 @@ impl<R: Read + Drop> Lines<R> {
         }
     }
 
-    /// The next line, without its line feed, or `None` where no line is left. Of a line of more than
-    /// `LINE_LIMIT` bytes these are the first `LINE_LIMIT + 1`. Past the end the reader isn't asked
-    /// again. After an error what was read of the line is lost.
+    /// The next line, without its line feed, or `None` where no line is left. Of a line of more
+    /// than `LINE_LIMIT` bytes these are the first `LINE_LIMIT + 1`. Past the end the reader isn't
+    /// asked again. After an error what was read of the line is lost.
     pub fn next_line(&mut self) -> io::Result<Option<&[u8]>> {
         self.line.clear();
         if self.is_ended {

@@ -1,8 +1,8 @@
 //! A run over all lines of an input.
 //!
 //! The reader's buffer, the world and the writer's buffer are made before the first line is read.
-//! Replies wait in the writer's buffer, which is written out at the end, however the run ends. Once a
-//! write failed, nothing more is written.
+//! Replies wait in the writer's buffer, which is written out at the end, however the run ends. Once
+//! a write failed, nothing more is written.
 ghost use Rattle.std.specs.Prelude.{◌<◌};
 
 use crate::command::{Command, command_of};

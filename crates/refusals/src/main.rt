@@ -1,6 +1,6 @@
-//! Makes each call that takes memory, and prints what came. Where one request for memory is refused, as
-//! `rt try --fail-alloc N` does, the call that met it has to say so, to give back what it was handed and to leave all
-//! as it was, and the same call made again has to succeed.
+//! Makes each call that takes memory, and prints what came. Where one request for memory is
+//! refused, as `rt try --fail-alloc N` does, the call that met it has to say so, to give back what
+//! it was handed and to leave all as it was, and the same call made again has to succeed.
 #![tactic(auto)]
 
 mod core_calls;

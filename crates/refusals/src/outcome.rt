@@ -1,6 +1,7 @@
 //! What came of the calls.
 
-/// How often each call was refused memory, and the program's own list of steps; and how many answers were wrong.
+/// How often each call was refused memory, and the program's own list of steps; and how many
+/// answers were wrong.
 #[derive(Drop)]
 pub struct Outcome {
     pub cells_spawn: u32,

@@ -27,8 +27,8 @@ pub enum Reply<T> {
     Finished { awaiter: bool },
     /// No handle will give this output; and whether an awaiter came out.
     Unwanted { output: T, awaiter: bool },
-    /// This output came out, and the handle ended: a poll of the handle gave it, or nobody asked for
-    /// it where the handle was detached or dropped.
+    /// This output came out, and the handle ended: a poll of the handle gave it, or nobody asked
+    /// for it where the handle was detached or dropped.
     Output(T),
     /// The future was dropped and gave no output; and whether an awaiter came out.
     Gone { awaiter: bool },
@@ -85,8 +85,8 @@ pub(crate) fn reply_of_output<T>(output: Option<T>) -> Reply<T>
     }
 }
 
-// The reply to the end of a handle that may leave a notice, by whether it did, and by what the handle
-// gave.
+// The reply to the end of a handle that may leave a notice, by whether it did, and by what the
+// handle gave.
 pub(crate) fn reply_of_end<T: Copy>(noticed: bool, output: Option<T>) -> Reply<T>
     ensures { result ≡ end_reply noticed output }
 {

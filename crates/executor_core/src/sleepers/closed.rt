@@ -6,9 +6,9 @@ use std::alloc::Global;
 
 /// Sleepers whose list is closed: the flag was stored for each change of it.
 ///
-/// A lock round this type keeps that law. Whoever has the lock borrows the sleepers once, and changes
-/// them and stores the flag through that borrow. To end it between the two, and so to give the lock
-/// up there, is refused, since the list is open.
+/// A lock round this type keeps that law. Whoever has the lock borrows the sleepers once, and
+/// changes them and stores the flag through that borrow. To end it between the two, and so to give
+/// the lock up there, is refused, since the list is open.
 #[derive(Drop)]
 pub struct ClosedSleepers<W> {
     /// The sleepers, which are changed in their place.

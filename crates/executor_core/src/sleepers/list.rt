@@ -199,8 +199,8 @@ impl<W> Sleepers<W> {
     /// Takes the sleeper of this number out, and the number is free again.
     ///
     /// It leaves its waker, or the notice where it was notified, or neither where the number is not
-    /// in use: then nothing changed. The list has to be closed, and is open afterwards in each case.
-    /// It takes no memory.
+    /// in use: then nothing changed. The list has to be closed, and is open afterwards in each
+    /// case. It takes no memory.
     pub fn remove(&mut self, id: usize) -> Change<Removed<W>>
         requires { self.old.is_open ≡ false }
         ensures list { self.new ≡ after_remove self.old id }
@@ -231,8 +231,8 @@ impl<W> Sleepers<W> {
     }
 
     /// Takes the waker of the one who went to sleep last, to be woken; that number is notified from
-    /// now on. There is none where nobody sleeps, or where somebody is notified already: then nothing
-    /// changed. The list has to be closed, and stays so. It takes no memory.
+    /// now on. There is none where nobody sleeps, or where somebody is notified already: then
+    /// nothing changed. The list has to be closed, and stays so. It takes no memory.
     pub fn notify(&mut self, pick: Pick) -> Option<Wakeup<W>>
         requires { self.old.is_open ≡ false }
         ensures list { self.new ≡ after_notify self.old }
@@ -248,7 +248,8 @@ impl<W> Sleepers<W> {
         Some(Wakeup { waker })
     }
 
-    /// Whether nobody sleeps, or somebody was notified and has not answered: what the flag is to say.
+    /// Whether nobody sleeps, or somebody was notified and has not answered: what the flag is to
+    /// say.
     pub fn is_notified(&self) -> bool
         ensures answer { result ≡ is_notified self.now }
         ensures law { SleeperLaw self.now }

@@ -1,7 +1,7 @@
 //! The cell of one task, and what each call makes of it.
 //!
-//! Each function here reads one cell, changes it in its place, or ends a removed one, and gives what
-//! comes out of it.
+//! Each function here reads one cell, changes it in its place, or ends a removed one, and gives
+//! what comes out of it.
 ghost use Rattle.std.specs.Prelude.{◌≡◌, ◌||◌, true, false, Some, None, cond};
 ghost use Rattle.executor_core.specs.Cell.{is_idle, is_scheduled, is_held, is_undropped};
 ghost use Rattle.executor_core.specs.Cell.Changes.{new_cell, state_woken, woken, takes_back, taken, pended, readied, awaited, cancelled_cell, detached, disposed, wakeup_of, output_of, is_finished_state};

@@ -39,6 +39,8 @@ pub trait Future<W>: Drop {
 }
 
 /// A future on the heap is polled there, and only its address is moved.
+///
+/// Example: `uses::boxes`.
 impl<W, F: Future<W>> Future<W> for Box<F> {
     type Output = F::Output;
 

@@ -1,8 +1,8 @@
 //! What is asked of a task through its handle.
 //!
-//! A handle is there from the spawn until it was detached or dropped, or until a poll of it gave its
-//! last answer. A call finds the cell by number and slot, so the id of a task whose cell is gone
-//! never reaches the task that has the slot now.
+//! A handle is there from the spawn until it was detached or dropped, or until a poll of it gave
+//! its last answer. A call finds the cell by number and slot, so the id of a task whose cell is
+//! gone never reaches the task that has the slot now.
 ghost use Rattle.std.specs.Prelude.{◌≡◌, is_some, not};
 ghost use Rattle.executor_core.specs.Cells.Calls.{after_cancel, cancel_queues, after_detach, detach_answer, after_poll_handle, poll_answer, finished_in, undropped_in, cell_at};
 
@@ -48,11 +48,11 @@ impl<P, T, W> Cells<P, T, W> {
     }
 
     /// Marks a task cancelled, so that its future is dropped and not polled again, and schedules an
-    /// idle one at the global end. It stands for `async_task::Task::cancel`, whose answer comes here
-    /// from later polls of the handle.
+    /// idle one at the global end. It stands for `async_task::Task::cancel`, whose answer comes
+    /// here from later polls of the handle.
     ///
-    /// The notice is there exactly where the task was idle. A task whose future was dropped stays as
-    /// it was, and so does one whose handle is there no more. It takes no memory.
+    /// The notice is there exactly where the task was idle. A task whose future was dropped stays
+    /// as it was, and so does one whose handle is there no more. It takes no memory.
     pub fn cancel(&mut self, id: TaskId) -> Option<Notice>
         ensures table { self.new ≡ after_cancel self.old id }
         ensures notice { is_some result ≡ cancel_queues self.old id }
@@ -70,8 +70,8 @@ impl<P, T, W> Cells<P, T, W> {
     /// `async_task::Task::detach`.
     ///
     /// The output of a finished task comes out, whose cell is removed, and so does the waker that a
-    /// poll of the handle left. Where the handle is there no more, nothing changes and nothing comes
-    /// out. It takes no memory.
+    /// poll of the handle left. Where the handle is there no more, nothing changes and nothing
+    /// comes out. It takes no memory.
     pub fn detach(&mut self, id: TaskId) -> (Option<T>, Option<W>)
         ensures table { self.new ≡ after_detach self.old id }
         ensures answer { result ≡ detach_answer (cell_at self.old id) }
@@ -110,8 +110,8 @@ impl<P, T, W> Cells<P, T, W> {
         self.cell_at(id).is_none_or(is_finished_cell)
     }
 
-    /// Whether the task's future was dropped, so that its handle has its last answer. A task that was
-    /// cancelled has not ended while its future is there.
+    /// Whether the task's future was dropped, so that its handle has its last answer. A task that
+    /// was cancelled has not ended while its future is there.
     ///
     /// It looks at the cell and not at the handle. Of a task without a cell it is true.
     pub fn is_ended(&self, id: TaskId) -> bool

@@ -177,9 +177,9 @@ impl<P, T, W> Cells<P, T, W> {
 
     /// The end of a task that was cancelled, whose future was dropped unfinished.
     ///
-    /// It asks for the `Held` of a disposal, or the one that `end_pending` gave back with the future.
-    /// Whoever polled the handle in vain comes out, to be woken. A `Held` of other cells changes
-    /// nothing, and gives nothing. It takes no memory.
+    /// It asks for the `Held` of a disposal, or the one that `end_pending` gave back with the
+    /// future. Whoever polled the handle in vain comes out, to be woken. A `Held` of other cells
+    /// changes nothing, and gives nothing. It takes no memory.
     pub fn end_dropped(&mut self, held: Held) -> Option<Wakeup<W>>
         requires { held.to_drop ≡ true }
         ensures table { self.new ≡ after_end_dropped self.old held.id }

@@ -206,6 +206,10 @@ fn each_task_of_four_threads_ends_once(rt: HostRuntime) -> Result<(), Fail> {
         }
     });
     assert_eq!(rt; all.record.times(Moment::FutureDrop), 40_000);
+    assert_eq!(rt;
+        all.record.times(Moment::OutputDrop),
+        all.record.times(Moment::FuturePoll)
+    );
     assert!(rt; all.ex.is_empty());
     assert!(rt; !all.ex.try_tick());
     Ok(())
