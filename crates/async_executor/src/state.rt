@@ -29,7 +29,7 @@ pub(crate) use announce;
 /// No two of its locks are ever held together, and none while a waker is woken.
 #[derive(Drop)]
 pub struct State<W, R> {
-    cells: Mutex<Cells<(), (), W>>,
+    pub(crate) cells: Mutex<Cells<(), (), W>>,
     sleepers: Mutex<ClosedSleepers<W>>,
     flag: Flag,
     rt: R,

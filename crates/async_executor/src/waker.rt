@@ -1,6 +1,7 @@
 //! The wakers that tasks are polled with.
 ghost use Rattle.std.specs.Prelude.{◌≡◌};
 
+use crate::lock::lock;
 use crate::state::{State, announce};
 use executor_core::task::{OutOfMemory, TaskId, Wake};
 use std::sync::{Arc, Wait};
@@ -42,7 +43,8 @@ impl<W: Wake, R: Wait + Clone + Drop> Wake for TaskWaker<W, R> {
     /// Example: `uses::receives`.
     #[inline(always)]
     fn wake(&self) {
-        let mut cells = self.state.cells();
+        // In place of `State::cells`, since a call that may wait costs its caller a test.
+        let mut cells = lock!(self.state.cells, self.state.rt());
         if let Some(notice) = cells.wake(self.id) {
             drop(cells);
             announce!(self.state, notice);
