@@ -104,11 +104,7 @@ impl<R: Wait + Clone + Drop + Send + Sync> Fixture<R> {
             let Some(task) = self.task(Kind::Ready(i)) else {
                 return;
             };
-            if i % 2 == 0 {
-                task.detach();
-            } else {
-                drop(task);
-            }
+            give_up(task, i % 2 == 0);
             self.ex.try_tick();
         }
         for _ in 0..TURNS {
@@ -138,15 +134,25 @@ impl<R: Wait + Clone + Drop + Send + Sync> Fixture<R> {
     }
 
     // Lets finished tasks go, whose outputs halt in their drop.
-    fn lets_go(&self, tasks: Vec<Task<TaskFuture<R>, TestWaker, R>>) {
-        for (i, task) in tasks.into_iter().enumerate() {
-            if i % 2 == 0 {
-                task.detach();
-            } else {
-                drop(task);
+    fn lets_go(&self, mut tasks: Vec<Task<TaskFuture<R>, TestWaker, R>>) {
+        for i in 0..OUTPUTS {
+            if let Some(task) = tasks.pop() {
+                give_up(task, i % 2 == 0);
             }
         }
         self.done.fetch_add(1, Ordering::SeqCst);
+    }
+}
+
+// Detaches the task, or drops its handle.
+fn give_up<R: Wait + Clone + Drop + Send + Sync>(
+    task: Task<TaskFuture<R>, TestWaker, R>,
+    detaches: bool,
+) {
+    if detaches {
+        task.detach();
+    } else {
+        drop(task);
     }
 }
 
