@@ -9,6 +9,7 @@
 # or its view, which other functions read.
 # Usage: checks/guards.sh [CRATE [FUNCTION..]], anywhere: all guards, or those of a crate, or those
 # of some functions of it. RT names the command rt. Its last line counts the guards.
+# Runs beside the gate.
 set -eu
 . "$(dirname "$0")/edits"
 checks=$top/checks

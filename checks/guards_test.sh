@@ -2,6 +2,7 @@
 # Tests guards.sh on a small repository, which it makes: what counts as the refusal of a guard, and
 # what does not.
 # Usage: checks/guards_test.sh, anywhere. RT names the command rt. Its last line counts the cases.
+# Runs beside the gate.
 set -eu
 . "$(dirname "$0")/edits"
 mkdir -p "$copy/checks/guards" "$copy/crates/sums/src" "$copy/crates/sums/proofs/thrice"

@@ -3,6 +3,7 @@
 # for word, quoted contracts, the calls and clauses that carry a promise, the modules of the map,
 # the worked interleaving of exsim, examples, links, and figures.
 # Usage: checks/readme.sh, anywhere. RT names the command rt. Its last line counts the comparisons.
+# Runs beside the gate.
 set -u
 . "$(dirname "$0")/edits"
 cd "$top" || exit 1

@@ -1,6 +1,7 @@
 #!/bin/sh
 # No crate has unsafe code: by it a value that must be spent could be kept from its end.
 # Usage: checks/unsafe.sh, anywhere. Its last line counts the crates.
+# Runs beside the gate.
 set -u
 cd "$(dirname "$0")/../crates" || exit 1
 passed=0
