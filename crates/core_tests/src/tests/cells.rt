@@ -146,6 +146,11 @@ fn the_last_number_is_never_given(rt: HostRuntime) -> Result<(), Fail> {
         }
         Err(SpawnError::OutOfMemory(_)) => assert!(rt; false, "no number is left"),
     }
+    Ok(())
+}
+
+#[test]
+fn the_number_before_the_last_is_given_once(rt: HostRuntime) -> Result<(), Fail> {
     let mut one = Tasks::first_number(rt.alloc(), u64::MAX - 1)?;
     assert_eq!(rt; spawn(&mut one, 10)?.number(), 18_446_744_073_709_551_614);
     match one.spawn(11) {

@@ -6,7 +6,7 @@ use crate::tests::wakers::{Counter, is_woken, new_counter};
 use executor_core::plain_core::FlagValue;
 use executor_core::sleepers::{ClosedSleepers, Flag, Removed, Sleepers, Update};
 use executor_core::task::{Again, Cells, Pick};
-use std::sync::Mutex;
+use std::sync::{Mutex, Wait};
 use std::test::Fail;
 
 type Tasks = Cells<u8, u64, Counter>;
@@ -88,25 +88,46 @@ fn a_number_that_was_given_back_is_used_next(rt: HostRuntime) -> Result<(), Fail
     Ok(())
 }
 
-#[test]
-fn the_last_to_sleep_is_notified_alone(rt: HostRuntime) -> Result<(), Fail> {
+// What came of two sleepers, and of a pick after each of them went to sleep.
+#[derive(Debug, PartialEq, Eq, Drop)]
+struct Notified {
+    numbers: (Option<usize>, Option<usize>),
+    picks: (bool, bool),
+    wakes: (bool, bool),
+}
+
+// Two go to sleep, a task is queued after each, and both picks are spent at the end.
+fn notify_two(rt: &HostRuntime, one: Counter, two: Counter) -> Result<Notified, Fail> {
     let mut flag = FlagValue::new();
     let mut empty = Tasks::new(rt.alloc())?;
     let mut tasks = Tasks::new(rt.alloc())?;
-    let mut sleepers = three_places(&rt)?;
-    let one = new_counter(&rt)?;
-    let two = new_counter(&rt)?;
-    let ones = one.wakes.clone()?;
-    let twos = two.wakes.clone()?;
+    let mut sleepers = three_places(rt)?;
     let first = sleep(&mut flag, &mut sleepers, &mut empty, one);
     let first_pick = exchange(&mut flag, &mut tasks);
     let second = sleep(&mut flag, &mut sleepers, &mut empty, two);
     let second_pick = exchange(&mut flag, &mut tasks);
-    let are_picks = first_pick.is_some() && second_pick.is_some();
+    let picks = (first_pick.is_some(), second_pick.is_some());
     let woke_first = notify(&mut sleepers, first_pick);
     let woke_second = notify(&mut sleepers, second_pick);
-    assert_eq!(rt; (first, second, are_picks), (Some(1), Some(2), true));
-    assert_eq!(rt; (woke_first, woke_second), (true, false));
+    Ok(Notified {
+        numbers: (first, second),
+        picks,
+        wakes: (woke_first, woke_second),
+    })
+}
+
+#[test]
+fn the_last_to_sleep_is_notified_alone(rt: HostRuntime) -> Result<(), Fail> {
+    let one = new_counter(&rt)?;
+    let two = new_counter(&rt)?;
+    let ones = one.wakes.clone()?;
+    let twos = two.wakes.clone()?;
+    let notified = Notified {
+        numbers: (Some(1), Some(2)),
+        picks: (true, true),
+        wakes: (true, false),
+    };
+    assert_eq!(rt; notify_two(&rt, one, two)?, notified);
     assert_eq!(rt; (ones.get(), twos.get()), (0, 1));
     Ok(())
 }
@@ -143,6 +164,45 @@ fn a_notified_sleeper_sleeps_again_at_the_end(rt: HostRuntime) -> Result<(), Fai
     Ok(())
 }
 
+// Goes to sleep, and stores the flag before the lock is given up.
+fn sleep_under_lock(
+    rt: &impl Wait,
+    flag: &Flag,
+    lock: &Mutex<ClosedSleepers<Counter>>,
+    empty: &mut Tasks,
+    waker: Counter,
+) -> Result<bool, Fail>
+    requires { empty.old.global ≡ [] }
+{
+    let mut guard = lock.lock(rt);
+    let sleepers = &mut guard.sleepers;
+    sleepers.reserve()?;
+    match sleepers.insert(waker) {
+        Ok((_, change)) => {
+            search_in_vain(empty, flag.store(change, sleepers));
+            Ok(true)
+        }
+        Err(_) => Ok(false),
+    }
+}
+
+// Whether the notice of a task that is queued wakes a sleeper.
+fn wakes_sleeper(
+    rt: &impl Wait,
+    flag: &Flag,
+    lock: &Mutex<ClosedSleepers<Counter>>,
+    tasks: &mut Tasks,
+) -> bool {
+    let Ok((_, notice)) = tasks.spawn(0) else {
+        return false;
+    };
+    let wakeup = match flag.exchange(notice) {
+        Some(pick) => lock.lock(rt).sleepers.notify(pick),
+        None => None,
+    };
+    is_woken(wakeup)
+}
+
 #[test]
 fn a_list_change_and_its_store_go_under_one_lock(rt: HostRuntime) -> Result<(), Fail> {
     let flag = Flag::new();
@@ -151,23 +211,14 @@ fn a_list_change_and_its_store_go_under_one_lock(rt: HostRuntime) -> Result<(), 
     let lock = Mutex::new(ClosedSleepers::new(rt.alloc()));
     let waker = new_counter(&rt)?;
     let wakes = waker.wakes.clone()?;
-    assert!(rt; flag.get());
-    {
-        let mut guard = lock.lock(&rt);
-        let sleepers = &mut guard.sleepers;
-        sleepers.reserve()?;
-        match sleepers.insert(waker) {
-            Ok((_, change)) => search_in_vain(&mut empty, flag.store(change, sleepers)),
-            Err(_) => assert!(rt; false),
-        }
-    }
-    assert!(rt; !flag.get());
-    let (_, notice) = tasks.spawn(0)?;
-    let wakeup = match flag.exchange(notice) {
-        Some(pick) => lock.lock(&rt).sleepers.notify(pick),
-        None => None,
-    };
-    assert!(rt; is_woken(wakeup) && flag.get());
+    let was_set = flag.get();
+    let sleeps = sleep_under_lock(&rt, &flag, &lock, &mut empty, waker)?;
+    let is_stored = !flag.get();
+    let is_woken = wakes_sleeper(&rt, &flag, &lock, &mut tasks);
+    assert_eq!(rt;
+        (was_set, sleeps, is_stored, is_woken, flag.get()),
+        (true, true, true, true, true)
+    );
     assert_eq!(rt; wakes.get(), 1);
     Ok(())
 }
