@@ -52,8 +52,6 @@ def page(text, found):
 
 def bar(top, value, scale, colour):
     """One bar, with its value behind it."""
-    if not value.isdigit():
-        return [f'<text x="140" y="{top + 12}">not measured yet</text>']
     width = round(int(value) * scale, 1)
     return [
         f'<rect x="140" y="{top}" width="{width}" height="15" fill="{colour}"/>',
@@ -63,8 +61,8 @@ def bar(top, value, scale, colour):
 
 def chart(found):
     """The rows of the benchmark as bars, beside those of the Rust crate."""
-    rows = found["bench"]
-    scale = 520 / max(int(n) for row in rows for n in row[2:4] if n.isdigit())
+    rows = [row for row in found["bench"] if row[3].isdigit()]
+    scale = 520 / max(int(n) for row in rows for n in row[2:4])
     height = 60 + 46 * len(rows)
     lines = [
         f'<svg xmlns="http://www.w3.org/2000/svg" width="720" height="{height}" '
