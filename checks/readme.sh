@@ -39,7 +39,8 @@ is_there() {
         */* | *.md | *.txt | *.svg) [ -e "$1" ] || [ -e "docs/$1" ] || [ -e "crates/executor_core/src/$1.rt" ] ;;
         [A-Z]*::[a-z]*) stands "fn ${1#*::}\b" ;;
         [A-Z]*) stands "(struct|enum|trait|type|const) $1\b" || stands "^ +$1(\(|,| \{|$)" ;;
-        *) stands "(fn|mod|ensures|pub) $1\b" || stands "codes \"$1\"" || grep -qw "$1" crates.txt ;;
+        *) stands "(fn|mod|ensures|pub) $1\b" || stands "codes \"$1\"" || grep -qw "$1" crates.txt ||
+            grep -q "^$1 " crates/bench/stdout ;;
     esac
 }
 
