@@ -3,7 +3,7 @@ ghost use Rattle.std.specs.Prelude.{◌≡◌, false, IfErr};
 ghost use Rattle.executor_core.specs.SpawnError.{refused_future};
 
 use crate::lock::lock;
-use crate::state::State;
+use crate::state::{APART, CacheLine, State};
 use crate::store::Store;
 use crate::waker::TaskWaker;
 use executor_core::task::{
@@ -77,6 +77,8 @@ pub type OutputIn<H> = <<H as Home>::Future as Future<
 #[derive(Drop)]
 struct Shared<F: Future<TaskWaker<W, R>>, W: Wake, R: Wait + Clone + Drop> {
     state: Arc<State<W, R>>,
+    // The lock of the store is not on the line of the counts of the shares.
+    before_store: CacheLine,
     store: Mutex<Store<F, Arc<State<W, R>>, F::Output>>,
 }
 
@@ -102,7 +104,12 @@ where
             return Err(OutOfMemory);
         };
         let store = Mutex::new(Store::new(alloc));
-        match Arc::new(alloc, Shared { state, store }) {
+        let shared = Shared {
+            state,
+            before_store: APART,
+            store,
+        };
+        match Arc::new(alloc, shared) {
             Ok(shared) => Ok(SharedHome { shared }),
             Err(_) => Err(OutOfMemory),
         }

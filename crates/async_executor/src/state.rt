@@ -26,21 +26,34 @@ pub(crate) use announce;
 /// The table of tasks and the sleepers, each behind a lock, the flag beside them, and the right to
 /// wait for the locks.
 ///
-/// No two of its locks are ever held together, and none while a waker is woken.
+/// No two of its locks are ever held together, and none while a waker is woken. What different
+/// threads write stands on cache lines of its own: the counts of the shares before the state, the
+/// cells with their lock, the sleepers with theirs, and the flag.
 #[derive(Drop)]
 pub struct State<W, R> {
+    before_cells: CacheLine,
     pub(crate) cells: Mutex<Cells<(), (), W>>,
+    before_sleepers: CacheLine,
     sleepers: Mutex<ClosedSleepers<W>>,
+    before_flag: CacheLine,
     flag: Flag,
     rt: R,
 }
+
+/// As many bytes as a cache line has, between fields that different threads write.
+pub(crate) type CacheLine = [u64; 8];
+
+pub(crate) const APART: CacheLine = [0; 8];
 
 impl<W: Wake, R: Wait + Clone + Drop> State<W, R> {
     /// The state of an executor that has no tasks.
     pub(crate) fn new(rt: R, alloc: Global) -> Result<State<W, R>, OutOfMemory> {
         Ok(State {
+            before_cells: APART,
             cells: Mutex::new(Cells::new(alloc)?),
+            before_sleepers: APART,
             sleepers: Mutex::new(ClosedSleepers::new(alloc)),
+            before_flag: APART,
             flag: Flag::new(),
             rt,
         })
