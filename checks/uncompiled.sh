@@ -9,7 +9,6 @@
 # functions. What is judged is taken away, and the rest is tried again. An edit that changes more
 # than a body is tried alone. `--only=` proves nothing: these errors come before any proof.
 # Usage: checks/uncompiled.sh, anywhere. RT names the command rt. Its last line counts the files.
-# Runs beside the gate.
 set -eu
 . "$(dirname "$0")/edits"
 copy_sources
@@ -21,7 +20,7 @@ edits=$top/checks/uncompiled
 # the crate compiles: rt would go on to prove the crates below. Where some errors are not reported,
 # the last line may have more of them, and is left out where it is not the only one.
 find_errors() {
-    (cd "$copy/crates/$1" && timeout 120 "$rt" check --only= 2>&1) | sed '/^only=/q' > "$copy/log"
+    (cd "$copy/crates/$1" && timeout 600 "$rt" check --only= 2>&1) | sed '/^only=/q' > "$copy/log"
     sed -nE 's/^([^ :]*):([0-9]*):[0-9]*: error(\[([a-z-]*)\])?.*/\1 \2 \4/p' "$copy/log" |
         sort -u -k1,1 -k2,2n -k3 > "$copy/found"
     is_cut=$(grep -c ' and [0-9]* more errors$' "$copy/log") || return 0
