@@ -11,6 +11,7 @@ pub mod SleeperCallLemmas
 pub mod SleeperListLemmas
 pub mod SleeperNumberLemmas
 pub mod SleeperPairLemmas
+pub mod SleeperUseLemmas
 pub mod SlotLemmas
 pub mod SpawnLemmas
 pub mod StateLemmas

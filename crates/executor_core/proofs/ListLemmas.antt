@@ -1,6 +1,9 @@
 -- Lists by index: a read after a write or a push.
-use Rattle.std.proofs.Common.{◌≡◌, ◌≢◌, ℕ, zero, suc, ◌+◌, ◌<◌, List, [], ◌∷◌, ◌++◌, length, Some, None, refl, sym, ap, ◌∙◌, arith}
-use Rattle.std.specs.Prelude.{slice_get, slice_set}
+use Rattle.std.proofs.Common.{◌≡◌, ◌≢◌, ℕ, zero, suc, ◌+◌, ◌<◌, ◌≤◌, ◌||◌, Bool, true, false, cond, List, [], ◌∷◌, ◌++◌, length, Some, None, refl, sym, ap, ◌∙◌, arith}
+use Rattle.std.proofs.lemmas.Bool.{or_left, or_right, false≢true}
+use Rattle.std.proofs.lemmas.List.Sums.{sum_by-cons}
+use Rattle.std.specs.List.{list_any}
+use Rattle.std.specs.Prelude.{slice_get, slice_set, sum_by, count_by}
 
 module _ {X : Type 0} where
   pub get-set_same : (xs : List X) (i : ℕ) (v w : X) → slice_get xs i ≡ Some w → slice_get (slice_set xs i v) i ≡ Some v
@@ -66,3 +69,81 @@ module _ {X : Type 0} where
   -- a push after a growth
   pub push_items : (xs ys zs : List X) (x : X) → zs ≡ ys ++ x ∷ [] → ys ≡ xs → zs ≡ xs ++ x ∷ []
   push_items xs ys zs x a b = a ∙ ap (λ l. l ++ x ∷ []) b
+
+count_step : (a b : Bool) (c d : ℕ) → (a ≡ true → b ≡ true) → c ≤ d → cond a 1 0 + c ≤ cond b 1 0 + d
+count_step true true c d gives most = omega arith
+count_step true false c d gives most = absurd (false≢true (gives refl))
+count_step false true c d gives most = omega arith
+count_step false false c d gives most = omega arith
+
+-- what a write makes of a sum, and of a test of each item
+module _ {X : Type 0} where
+  pub sum_by-set : (f : X → ℕ) (xs : List X) (k : ℕ) (x y : X) → slice_get xs k ≡ Some x → sum_by f (slice_set xs k y) + f x ≡ sum_by f xs + f y
+  sum_by-set f [] k x y is = absurd (cc)
+  sum_by-set f (z ∷ zs) zero x y is =
+      let same : z ≡ x = cc in
+      let item : f z ≡ f x = ap f same in
+      let before = sum_by-cons f z zs in
+      let after = sum_by-cons f y zs in
+      omega arith
+  sum_by-set f (z ∷ zs) (suc k) x y is =
+      let inner = sum_by-set f zs k x y is in
+      let before = sum_by-cons f z zs in
+      let after = sum_by-cons f z (slice_set zs k y) in
+      omega arith
+
+  pub sum_by-at : (f : X → ℕ) (xs : List X) (k : ℕ) (x : X) → slice_get xs k ≡ Some x → f x ≤ sum_by f xs
+  sum_by-at f [] k x is = absurd (cc)
+  sum_by-at f (z ∷ zs) zero x is =
+      let same : z ≡ x = cc in
+      let item : f z ≡ f x = ap f same in
+      let all = sum_by-cons f z zs in
+      omega arith
+  sum_by-at f (z ∷ zs) (suc k) x is = let inner = sum_by-at f zs k x is in let all = sum_by-cons f z zs in omega arith
+
+  pub any-at : (f : X → Bool) (xs : List X) (k : ℕ) (x : X) → slice_get xs k ≡ Some x → f x ≡ true → list_any f xs ≡ true
+  any-at f [] k x is passes = absurd (cc)
+  any-at f (z ∷ zs) zero x is passes = let same : z ≡ x = cc in or_left (f z) _ (ap f same ∙ passes)
+  any-at f (z ∷ zs) (suc k) x is passes = or_right (f z) _ (any-at f zs k x is passes)
+
+  pub any-set_true : (f : X → Bool) (xs : List X) (k : ℕ) (x y : X) → slice_get xs k ≡ Some x → f y ≡ true → list_any f (slice_set xs k y) ≡ true
+  any-set_true f [] k x y is passes = absurd (cc)
+  any-set_true f (z ∷ zs) zero x y is passes = or_left (f y) _ passes
+  any-set_true f (z ∷ zs) (suc k) x y is passes = or_right (f z) _ (any-set_true f zs k x y is passes)
+
+  pub any-set_same : (f : X → Bool) (xs : List X) (k : ℕ) (x y : X) → slice_get xs k ≡ Some x → f y ≡ f x → list_any f (slice_set xs k y) ≡ list_any f xs
+  any-set_same f [] k x y is same = refl
+  any-set_same f (z ∷ zs) zero x y is same = let item : z ≡ x = cc in ap (λ b. b || list_any f zs) (same ∙ sym (ap f item))
+  any-set_same f (z ∷ zs) (suc k) x y is same = ap (λ b. f z || b) (any-set_same f zs k x y is same)
+
+  pub any-push : (f : X → Bool) (xs : List X) (y : X) → f y ≡ false → list_any f (xs ++ y ∷ []) ≡ list_any f xs
+  any-push f [] y fails = ap (λ b. b || false) fails
+  any-push f (z ∷ zs) y fails = ap (λ b. f z || b) (any-push f zs y fails)
+
+  -- no more items pass the first test, where each that does passes the second
+  pub count_most : (f g : X → Bool) (xs : List X) → ((j : ℕ) (x : X) → slice_get xs j ≡ Some x → f x ≡ true → g x ≡ true) → count_by f xs ≤ count_by g xs
+  count_most f g [] gives = omega arith
+  count_most f g (z ∷ zs) gives =
+      let rest = count_most f g zs (λ j x is. gives (suc j) x is) in
+      let step = count_step (f z) (g z) _ _ (gives 0 z refl) rest in
+      let a = sum_by-cons (λ x. cond (f x) 1 0) z zs in
+      let b = sum_by-cons (λ x. cond (g x) 1 0) z zs in
+      omega arith
+
+  -- and fewer, where one passes the second alone
+  pub count_fewer : (f g : X → Bool) (xs : List X) → ((j : ℕ) (x : X) → slice_get xs j ≡ Some x → f x ≡ true → g x ≡ true) → (k : ℕ) (x : X) → slice_get xs k ≡ Some x → f x ≡ false → g x ≡ true → count_by f xs < count_by g xs
+  count_fewer f g [] gives k x is fails passes = absurd (cc)
+  count_fewer f g (z ∷ zs) gives zero x is fails passes =
+      let same : z ≡ x = cc in
+      let rest = count_most f g zs (λ j x is. gives (suc j) x is) in
+      let none : ◌≡◌ {A = ℕ} (cond (f z) 1 0) 0 = ap (λ b. cond b 1 0) (ap f same ∙ fails) in
+      let one : ◌≡◌ {A = ℕ} (cond (g z) 1 0) 1 = ap (λ b. cond b 1 0) (ap g same ∙ passes) in
+      let a = sum_by-cons (λ x. cond (f x) 1 0) z zs in
+      let b = sum_by-cons (λ x. cond (g x) 1 0) z zs in
+      omega arith
+  count_fewer f g (z ∷ zs) gives (suc k) x is fails passes =
+      let rest = count_fewer f g zs (λ j x is. gives (suc j) x is) k x is fails passes in
+      let step = count_step (f z) (g z) (count_by f zs + 1) (count_by g zs) (gives 0 z refl) (omega arith) in
+      let a = sum_by-cons (λ x. cond (f x) 1 0) z zs in
+      let b = sum_by-cons (λ x. cond (g x) 1 0) z zs in
+      omega arith

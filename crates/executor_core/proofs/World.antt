@@ -12,3 +12,5 @@ pub mod Spawns
 pub mod Spends
 pub mod Status
 pub mod Steps
+pub mod TickerSteps
+pub mod Tickers

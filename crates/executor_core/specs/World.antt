@@ -4,19 +4,24 @@ pub mod Entries
 pub mod Log
 pub mod Promises
 pub mod Steps
+pub mod Tickers
 pub mod View
-use Rattle.std.specs.Prelude.{◌≡◌, ℕ, zero, suc, Bool, List, refl, true, false, ◌⊎◌}
+use Rattle.std.specs.Prelude.{◌≡◌, ℕ, zero, suc, Bool, List, Option, refl, true, false, ◌⊎◌}
 use Rattle.std.proofs.Common.{inl, inr}
-use Rattle.std.specs.Coded.{Coded, code_by, coded×, coded⊎, coded_ℕ, coded_list, coded_bool}
+use Rattle.std.specs.Coded.{Coded, code_by, coded×, coded⊎, coded_ℕ, coded_list, coded_option, coded_bool}
 use Rattle.executor_core.specs.Sleepers.{SleeperList, sleeper_list_code}
 use Rattle.executor_core.specs.declared.interleave.event.Purpose.{Purpose}
 use Rattle.executor_core.specs.declared.interleave.event.Purpose.TheVariants.{ToPoll, ToDrop}
 use Rattle.executor_core.specs.declared.interleave.entry.TaskInfo.{TaskInfo}
+use Rattle.executor_core.specs.declared.interleave.ticker.ListChange.TheVariants.{Slept, Woke, Dropped as LetGo}
+use Rattle.executor_core.specs.declared.interleave.ticker.Phase.{Phase}
+use Rattle.executor_core.specs.declared.interleave.ticker.Phase.TheVariants.{Rest, Search, Sleep, Wake, Store, Ended}
+use Rattle.executor_core.specs.declared.interleave.ticker.Ticker.{Ticker}
 use Rattle.executor_core.specs.declared.interleave.event.Event.{Event}
 use Rattle.executor_core.specs.declared.interleave.event.Event.TheVariants.{Spawned, Woken, Cancelled, Took, Returned, Finished, Dropped, Got}
 
 -- the log, how many steps were accepted and may be, the global queue, how many notices and picks float, the flag and the
--- sleepers, and by number what the log does not say of a task
+-- sleepers, by number what the log does not say of a task and of a ticker, and the ticker that holds the sleepers' lock
 pub record Execution (T : Type 0) : Type 0 where
   pub log : List (Event T)
   pub accepted : ℕ
@@ -27,6 +32,8 @@ pub record Execution (T : Type 0) : Type 0 where
   pub flag : Bool
   pub sleepers : SleeperList (Unit {0})
   pub tasks : List TaskInfo
+  pub tickers : List Ticker
+  pub holder : Option ℕ
 
 purpose_bool : Purpose → Bool
 purpose_bool ToPoll = true
@@ -84,6 +91,46 @@ info_code =
     (λ q. record { slot = q.0; has_handle = q.1.0; awaited = q.1.1.0; to_drop = q.1.1.1 })
     (λ _. refl)
 
+pub phase_parts : Phase → ℕ × Bool
+phase_parts Rest = (0, false)
+phase_parts Search = (1, false)
+phase_parts Sleep = (2, false)
+phase_parts Wake = (3, false)
+phase_parts Ended = (4, false)
+phase_parts (Store Slept) = (5, false)
+phase_parts (Store (Woke notified)) = (6, notified)
+phase_parts (Store (LetGo notified)) = (7, notified)
+
+numbered_phase : ℕ → Bool → Phase
+numbered_phase zero b = Rest
+numbered_phase (suc zero) b = Search
+numbered_phase (suc (suc zero)) b = Sleep
+numbered_phase (suc (suc (suc zero))) b = Wake
+numbered_phase (suc (suc (suc (suc zero)))) b = Ended
+numbered_phase (suc (suc (suc (suc (suc zero))))) b = Store Slept
+numbered_phase (suc (suc (suc (suc (suc (suc zero)))))) b = Store (Woke b)
+numbered_phase (suc (suc (suc (suc (suc (suc (suc k))))))) b = Store (LetGo b)
+
+pub parts_phase : ℕ × Bool → Phase
+parts_phase p = numbered_phase p.0 p.1
+
+pub parts_phase-phase_parts : (p : Phase) → parts_phase (phase_parts p) ≡ p
+unfolding phase_parts parts_phase numbered_phase
+parts_phase-phase_parts Rest = refl
+parts_phase-phase_parts Search = refl
+parts_phase-phase_parts Sleep = refl
+parts_phase-phase_parts Wake = refl
+parts_phase-phase_parts Ended = refl
+parts_phase-phase_parts (Store Slept) = refl
+parts_phase-phase_parts (Store (Woke notified)) = refl
+parts_phase-phase_parts (Store (LetGo notified)) = refl
+
+abbrev pub phase_code : Coded Phase
+phase_code = code_by (ℕ × Bool) (coded× coded_ℕ coded_bool) phase_parts parts_phase parts_phase-phase_parts
+
+abbrev pub ticker_code : Coded Ticker
+ticker_code = code_by (Phase × ℕ) (coded× phase_code coded_ℕ) (λ t. (t.phase, t.number)) (λ q. record { phase = q.0; number = q.1 }) (λ _. refl)
+
 module _ {T : Type 0} (t : Coded T) where
   abbrev pub event_code : Coded (Event T)
   event_code = code_by ((ℕ × ℕ) ⊎ ((ℕ × Bool) ⊎ ((ℕ × T) ⊎ (ℕ × T)))) (coded⊎ (coded× coded_ℕ coded_ℕ) (coded⊎ (coded× coded_ℕ coded_bool) (coded⊎ (coded× coded_ℕ t) (coded× coded_ℕ t)))) event_parts parts_event parts_event-event_parts
@@ -91,8 +138,8 @@ module _ {T : Type 0} (t : Coded T) where
   abbrev pub execution_code : Coded (Execution T)
   execution_code =
       code_by
-      (List (Event T) × (ℕ × (ℕ × (List ℕ × (ℕ × (ℕ × (Bool × (SleeperList (Unit {0}) × List TaskInfo))))))))
-      (coded× (coded_list event_code) (coded× coded_ℕ (coded× coded_ℕ (coded× (coded_list coded_ℕ) (coded× coded_ℕ (coded× coded_ℕ (coded× coded_bool (coded× (sleeper_list_code unit_code) (coded_list info_code)))))))))
-      (λ s. (s.log, (s.accepted, (s.limit, (s.global, (s.notices, (s.picks, (s.flag, (s.sleepers, s.tasks)))))))))
-      (λ q. record { log = q.0; accepted = q.1.0; limit = q.1.1.0; global = q.1.1.1.0; notices = q.1.1.1.1.0; picks = q.1.1.1.1.1.0; flag = q.1.1.1.1.1.1.0; sleepers = q.1.1.1.1.1.1.1.0; tasks = q.1.1.1.1.1.1.1.1 })
+      (List (Event T) × (ℕ × (ℕ × (List ℕ × (ℕ × (ℕ × (Bool × (SleeperList (Unit {0}) × (List TaskInfo × (List Ticker × Option ℕ))))))))))
+      (coded× (coded_list event_code) (coded× coded_ℕ (coded× coded_ℕ (coded× (coded_list coded_ℕ) (coded× coded_ℕ (coded× coded_ℕ (coded× coded_bool (coded× (sleeper_list_code unit_code) (coded× (coded_list info_code) (coded× (coded_list ticker_code) (coded_option coded_ℕ)))))))))))
+      (λ s. (s.log, (s.accepted, (s.limit, (s.global, (s.notices, (s.picks, (s.flag, (s.sleepers, (s.tasks, (s.tickers, s.holder)))))))))))
+      (λ q. record { log = q.0; accepted = q.1.0; limit = q.1.1.0; global = q.1.1.1.0; notices = q.1.1.1.1.0; picks = q.1.1.1.1.1.0; flag = q.1.1.1.1.1.1.0; sleepers = q.1.1.1.1.1.1.1.0; tasks = q.1.1.1.1.1.1.1.1.0; tickers = q.1.1.1.1.1.1.1.1.1.0; holder = q.1.1.1.1.1.1.1.1.1.1 })
       (λ _. refl)

@@ -1,20 +1,26 @@
 //! A world: the steps of all parties of an executor in any order, and the log of what they did.
 //!
 //! A party may spawn, wake, take a task, end its poll, say that its future was dropped, poll,
-//! cancel, detach or drop its handle, exchange the flag, or notify a sleeper. A `World` takes any
-//! list of such steps, of all parties, with steps of others between a take and the end of its poll.
-//! It makes each on its `Core`, and logs what happened to which task. A step that is not enabled is
-//! answered and changes nothing.
+//! cancel, detach or drop its handle, exchange the flag, or notify a sleeper. A ticker may be made,
+//! polled and dropped, and while it is polled it searches for a task, goes to sleep, removes its
+//! number and stores the flag, each by a step of its own. A `World` takes any list of such steps, of
+//! all parties, with steps of others between any two of one party. It makes each on its `Core`, and
+//! logs what happened to which task. A step that is not enabled is answered and changes nothing.
 //!
 //! The notices and the picks that the steps leave to be spent are kept as counts. They float: any
-//! party may spend one, at any time, a notice by an exchange, a pick by a notification.
+//! party may spend one, at any time, a notice by an exchange, a pick by a notification. A ticker
+//! keeps the notice of the task that it found while it still has to remove its number; that, and
+//! what stands in a change of the sleepers' list, is said by its phase.
+//!
+//! The lock of the sleepers is there as the *holder*: the one ticker that has changed the list and
+//! has still to store the flag. While there is one, nobody else changes the list or notifies.
 //!
 //! The log alone says where a task stands: whether it was dropped, is held, is owed a poll or a
 //! drop, or is idle is read off the events. The contracts of `World::step` and `World::run` say
 //! that the queue and the futures that are out agree with the log after every list of steps, and
 //! that no notice is lost: where a task is queued and somebody sleeps, one is notified, or a notice
-//! or a pick is out.
-ghost use Rattle.std.specs.Prelude.{◌≡◌, ◌≢◌, ◌≤◌, ◌||◌, ◌↔◌, length, IfOk, OnErr};
+//! or a pick is out, or a ticker has still to search. They do not say that anybody ever runs.
+ghost use Rattle.std.specs.Prelude.{◌≡◌, ◌≢◌, ◌≤◌, ◌||◌, ◌↔◌, length, slice_get, option_map, IfOk, OnErr};
 ghost use Rattle.executor_core.specs.World.Agreement.{CellsAgree, HandlesAgree};
 ghost use Rattle.executor_core.specs.Cells.Calls.{AllDropped};
 ghost use Rattle.executor_core.specs.World.Log.{held, owed, idle, EachDropped};
@@ -27,6 +33,7 @@ pub(crate) mod reply;
 pub(crate) mod request;
 pub(crate) mod script;
 pub(crate) mod steps;
+pub(crate) mod ticker;
 
 use crate::plain_core::Core;
 use crate::task::{Cells, OutOfMemory};
@@ -36,12 +43,14 @@ pub use reply::Reply;
 pub use request::Step;
 use std::alloc::Global;
 use std::marker::Model;
+use ticker::Ticker;
+pub use ticker::{ListChange, Phase};
 
 /// All parties of an executor, and the log of what they did.
 ///
 /// Futures are of type P and outputs of type T; wakers are units. A contract sees it as an
 /// `Execution`: the log, the global queue, what is out to be spent, the flag and the sleepers, and
-/// what the log does not say of a task.
+/// what the log does not say of a task and of a ticker.
 ///
 /// Example: `uses::interleaves`.
 #[derive(Drop)]
@@ -54,6 +63,8 @@ pub struct World<P, T> {
     entries: Vec<TaskEntry<P>>,
     notices: u32,
     picks: u32,
+    tickers: Vec<Ticker>,
+    holder: Option<usize>,
 }
 
 impl<P, T> Model for World<P, T> {
@@ -92,6 +103,8 @@ impl<P: Drop, T: Copy> World<P, T> {
             entries: Vec::new(alloc),
             notices: 0,
             picks: 0,
+            tickers: Vec::new(alloc),
+            holder: None,
         })
     }
 
@@ -124,6 +137,14 @@ impl<P: Drop, T: Copy> World<P, T> {
             Step::Dropped(n) => self.dropped(n),
             Step::Exchange => self.exchange(),
             Step::Notify => self.notify(),
+            Step::Tick => self.tick(),
+            Step::Poll(k) => self.poll(k),
+            Step::Search(k, _) => self.search(k),
+            Step::Sleep(k) => self.sleep(k),
+            Step::Yield(k) => self.yield_now(k),
+            Step::Remove(k) => self.remove(k),
+            Step::Store(k) => self.store(k),
+            Step::Drop(k) => self.drop_ticker(k),
         }
     }
 
@@ -132,9 +153,9 @@ impl<P: Drop, T: Copy> World<P, T> {
     /// # Errors
     ///
     /// The reply is `LogFull` exactly where the world took as many steps as it may; else `NotNow`
-    /// exactly where the step is not enabled; else, at a spawn alone, `OutOfMemory` where a growth
-    /// was refused, and then the future was dropped. Such a step changes nothing and is not
-    /// counted. Only a spawn takes memory.
+    /// exactly where the step is not enabled; else, at a spawn or where a ticker is made,
+    /// `OutOfMemory` where a growth was refused, and then the future was dropped. Such a step
+    /// changes nothing and is not counted. No other step takes memory.
     pub fn step(&mut self, step: Step<P, T>) -> Reply<T>
         ensures step { StepTo self.old step result self.new }
         ensures promises { KeepsPromises self.new }
@@ -214,11 +235,33 @@ impl<P: Drop, T: Copy> World<P, T> {
         &self.log
     }
 
-    /// How many notices are out, still to be spent by an exchange of the flag.
+    /// How many notices are out, still to be spent by an exchange of the flag: those that float,
+    /// those that tickers keep, and those in the changes that they have still to store.
     pub fn notices(&self) -> u32
         ensures { result ≡ notices_out self.now }
     {
-        self.notices
+        let mut notices = self.notices;
+        for ticker in &self.tickers {
+            notices += ticker.phase.notices();
+        }
+        notices
+    }
+
+    /// The ticker that holds the sleepers' lock, since it has the flag to store.
+    pub fn holder(&self) -> Option<usize>
+        ensures { result ≡ self.now.holder }
+    {
+        self.holder
+    }
+
+    /// Which step of the ticker comes next. `None` where it was not made.
+    pub fn phase(&self, k: usize) -> Option<Phase>
+        ensures { result ≡ option_map (λ t. t.phase) (slice_get self.now.tickers k) }
+    {
+        match self.tickers.get(k) {
+            Some(ticker) => Some(ticker.phase),
+            None => None,
+        }
     }
 
     /// How many picks are out, still to be spent by a notification of the sleepers.

@@ -6,10 +6,10 @@
 //! one change of the list of sleepers, one exchange or one store of the flag, or one notification;
 //! in between, any other party may take its own. Each contract is one equation: the state with the
 //! part that the step is about changed.
-ghost use Rattle.std.specs.Prelude.{◌≡◌, [], true, false, not, is_some, IsErr, IfOk, IfErr, OnErr, IfNone, IfSome};
+ghost use Rattle.std.specs.Prelude.{◌≡◌, [], true, false, not, is_some, IsErr, IfOk, IfErr, OnOk, OnErr, IfNone, IfSome};
 ghost use Rattle.executor_core.specs.Cells.Calls.{empty_table, after_spawn, IsFree, wakes, after_wake, after_cancel, cancel_queues, after_detach, detach_answer, after_poll_handle, poll_answer, after_end_pending, EndsPending, after_end_ready, ready_answer, after_end_dropped, dropped_answer, after_take, TakesFront, cell_at};
 ghost use Rattle.executor_core.specs.SpawnError.{last_number, Refuses};
-ghost use Rattle.executor_core.specs.Sleepers.Calls.{no_sleepers, closed, after_insert, insert_answer, after_update, update_answer, after_remove, remove_answer, after_notify, notify_answer};
+ghost use Rattle.executor_core.specs.Sleepers.Calls.{no_sleepers, closed, after_reserve, after_release, after_insert, insert_answer, after_update, update_answer, after_remove, remove_answer, after_notify, notify_answer};
 
 mod flag_value;
 
@@ -175,6 +175,21 @@ impl<P, T, W> Core<P, T, W> {
         ensures carried { result ≡ change.carried }
     {
         self.flag.store(change, &mut self.sleepers)
+    }
+
+    /// `Sleepers::reserve`, with its refusal.
+    pub fn reserve(&mut self) -> Result<(), OutOfMemory>
+        ensures ok { OnOk result (self.new ≡ record self.old { sleepers = after_reserve self.old.sleepers }) }
+        ensures refused { OnErr result (self.new ≡ self.old) }
+    {
+        self.sleepers.reserve()
+    }
+
+    /// `Sleepers::release`.
+    pub fn release(&mut self)
+        ensures { self.new ≡ record self.old { sleepers = after_release self.old.sleepers } }
+    {
+        self.sleepers.release()
     }
 
     /// `Sleepers::insert`, with its answer and its refusal.

@@ -109,6 +109,14 @@ is_word (Step (step.DropHandle n)) = word_by_letters _ refl
 is_word (Step (step.Dropped n)) = word_by_letters _ refl
 is_word (Step step.Exchange) = word_by_letters _ refl
 is_word (Step step.Notify) = word_by_letters _ refl
+is_word (Step step.Tick) = word_by_letters _ refl
+is_word (Step (step.Poll k)) = word_by_letters _ refl
+is_word (Step (step.Search k word)) = word_by_letters _ refl
+is_word (Step (step.Sleep k)) = word_by_letters _ refl
+is_word (Step (step.Yield k)) = word_by_letters _ refl
+is_word (Step (step.Remove k)) = word_by_letters _ refl
+is_word (Step (step.Store k)) = word_by_letters _ refl
+is_word (Step (step.Drop k)) = word_by_letters _ refl
 
 -- the numbers of each command are arguments
 pub arguments_for : (command : Command) → (a : Arguments) × (listed a ≡ numbers_of command)
@@ -125,3 +133,11 @@ arguments_for (Step (step.DropHandle n)) = (arguments.One n, refl)
 arguments_for (Step (step.Dropped n)) = (arguments.One n, refl)
 arguments_for (Step step.Exchange) = (arguments.None, refl)
 arguments_for (Step step.Notify) = (arguments.None, refl)
+arguments_for (Step step.Tick) = (arguments.None, refl)
+arguments_for (Step (step.Poll k)) = (arguments.One k, refl)
+arguments_for (Step (step.Search k word)) = (arguments.Two k word, refl)
+arguments_for (Step (step.Sleep k)) = (arguments.One k, refl)
+arguments_for (Step (step.Yield k)) = (arguments.One k, refl)
+arguments_for (Step (step.Remove k)) = (arguments.One k, refl)
+arguments_for (Step (step.Store k)) = (arguments.One k, refl)
+arguments_for (Step (step.Drop k)) = (arguments.One k, refl)

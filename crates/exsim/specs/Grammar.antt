@@ -24,6 +24,14 @@ word_of (Step (step.DropHandle _)) = codes "drophandle"
 word_of (Step (step.Dropped _)) = codes "dropped"
 word_of (Step step.Exchange) = codes "exchange"
 word_of (Step step.Notify) = codes "notify"
+word_of (Step step.Tick) = codes "tick"
+word_of (Step (step.Poll _)) = codes "poll"
+word_of (Step (step.Search _ _)) = codes "search"
+word_of (Step (step.Sleep _)) = codes "sleep"
+word_of (Step (step.Yield _)) = codes "yield"
+word_of (Step (step.Remove _)) = codes "remove"
+word_of (Step (step.Store _)) = codes "store"
+word_of (Step (step.Drop _)) = codes "drop"
 
 -- the numbers behind it
 abbrev pub numbers_of : Command → List ℕ
@@ -40,6 +48,14 @@ numbers_of (Step (step.DropHandle n)) = n ∷ []
 numbers_of (Step (step.Dropped n)) = n ∷ []
 numbers_of (Step step.Exchange) = []
 numbers_of (Step step.Notify) = []
+numbers_of (Step step.Tick) = []
+numbers_of (Step (step.Poll k)) = k ∷ []
+numbers_of (Step (step.Search k word)) = k ∷ word ∷ []
+numbers_of (Step (step.Sleep k)) = k ∷ []
+numbers_of (Step (step.Yield k)) = k ∷ []
+numbers_of (Step (step.Remove k)) = k ∷ []
+numbers_of (Step (step.Store k)) = k ∷ []
+numbers_of (Step (step.Drop k)) = k ∷ []
 
 -- each number in decimal, after one space
 abbrev pub spaced : List ℕ → List ℕ

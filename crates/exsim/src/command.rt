@@ -54,6 +54,14 @@ fn command_from(word: &str, arguments: Arguments) -> Option<Command>
         ("dropped", Arguments::One(n)) => Step::Dropped(n),
         ("exchange", Arguments::None) => Step::Exchange,
         ("notify", Arguments::None) => Step::Notify,
+        ("tick", Arguments::None) => Step::Tick,
+        ("poll", Arguments::One(k)) => Step::Poll(k as usize),
+        ("search", Arguments::Two(k, word)) => Step::Search(k as usize, word),
+        ("sleep", Arguments::One(k)) => Step::Sleep(k as usize),
+        ("yield", Arguments::One(k)) => Step::Yield(k as usize),
+        ("remove", Arguments::One(k)) => Step::Remove(k as usize),
+        ("store", Arguments::One(k)) => Step::Store(k as usize),
+        ("drop", Arguments::One(k)) => Step::Drop(k as usize),
         _ => return None,
     };
     Some(Command::Step(step))

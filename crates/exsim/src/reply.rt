@@ -1,9 +1,16 @@
 //! The text of what is answered.
-ghost use Rattle.std.specs.Prelude.{Some};
-ghost use Rattle.exsim.specs.Replies.{reply_text};
+ghost use Rattle.std.specs.Prelude.{◌≡◌, Some};
+ghost use Rattle.exsim.specs.Replies.{awaiter_text, reply_text};
 
 use executor_core::interleave::{Reply, World};
 use std::fmt;
+
+// Said where an awaiter came out.
+fn awaiter_suffix(awaiter: bool) -> &'static str
+    ensures { result.now ≡ awaiter_text awaiter }
+{
+    if awaiter { " awaiter" } else { "" }
+}
 
 /// A reply as it is printed.
 #[derive(Drop)]
@@ -22,24 +29,26 @@ impl fmt::Display for ReplyText {
             Reply::NoTask => f.write_str("none"),
             Reply::Idle(n) => write!(f, "idle {n}"),
             Reply::Queued(n) => write!(f, "queued {n}"),
-            Reply::Finished { awaiter: false } => f.write_str("finished"),
-            Reply::Finished { awaiter: true } => f.write_str("finished awaiter"),
-            Reply::Unwanted {
-                output,
-                awaiter: false,
-            } => write!(f, "unwanted {output}"),
-            Reply::Unwanted {
-                output,
-                awaiter: true,
-            } => write!(f, "unwanted {output} awaiter"),
-            Reply::Gone { awaiter: false } => f.write_str("gone"),
-            Reply::Gone { awaiter: true } => f.write_str("gone awaiter"),
+            Reply::Finished { awaiter } => write!(f, "finished{}", awaiter_suffix(awaiter)),
+            Reply::Unwanted { output, awaiter } => {
+                write!(f, "unwanted {output}{}", awaiter_suffix(awaiter))
+            }
+            Reply::Gone { awaiter } => write!(f, "gone{}", awaiter_suffix(awaiter)),
             Reply::Pick => f.write_str("pick"),
             Reply::Sleeper(i) => write!(f, "sleeper {i}"),
             Reply::Nobody => f.write_str("nobody"),
             Reply::Output(output) => write!(f, "output {output}"),
             Reply::Cancelled => f.write_str("cancelled"),
             Reply::Pending => f.write_str("pending"),
+            Reply::Ticker(k) => write!(f, "ticker {k}"),
+            Reply::Done => f.write_str("done"),
+            Reply::Number(i) => write!(f, "number {i}"),
+            Reply::Again => f.write_str("again"),
+            Reply::Parked => f.write_str("parked"),
+            Reply::Notified => f.write_str("notified"),
+            Reply::Unnotified => f.write_str("unnotified"),
+            Reply::Stored(flag) => write!(f, "{flag}"),
+            Reply::Awake => f.write_str("awake"),
             Reply::LogFull => f.write_str("log full"),
             Reply::NotNow => f.write_str("not now"),
             Reply::OutOfMemory => f.write_str("out of memory"),

@@ -1,4 +1,6 @@
 //! Whole runs over readers and writers in memory, which may fail.
+mod tickers;
+
 use crate::run_lines;
 use std::alloc::Global;
 use std::io;
@@ -178,7 +180,7 @@ fn runs_print_their_replies_however_the_input_is_cut(rt: HostRuntime) {
     }
 }
 
-const NO_STEPS: [&[u8]; 39] = [
+const NO_STEPS: [&[u8]; 43] = [
     b"",
     b"\r",
     b"spwan",
@@ -217,6 +219,10 @@ const NO_STEPS: [&[u8]; 39] = [
     b"ready 0  0",
     b"ready 0 0 0",
     b"cancel",
+    b"poll",
+    b"poll 0 0",
+    b"search 0",
+    b"tick 0",
     b"close",
 ];
 

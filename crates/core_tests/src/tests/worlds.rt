@@ -1,6 +1,48 @@
 //! Steps of a world.
-use executor_core::interleave::{Event, Reply, Step, World};
+use executor_core::interleave::{Event, ListChange, Phase, Reply, Step, World};
+use std::process::Abort;
 use std::test::Fail;
+
+// Takes the step, which has to get this reply.
+fn take(rt: &impl Abort, world: &mut World<u8, u64>, step: Step<u8, u64>, reply: Reply<u64>) {
+    assert!(rt; world.step(step) == reply);
+}
+
+// Expects the next step of ticker 0, the holder of the lock, and how many notices are out.
+fn expect(
+    rt: &impl Abort,
+    world: &World<u8, u64>,
+    phase: Phase,
+    holder: Option<usize>,
+    notices: u32,
+) {
+    assert!(rt; world.phase(0) == Some(phase));
+    assert!(rt; world.holder() == holder);
+    assert!(rt; world.notices() == notices);
+}
+
+// Ticker 0 is made, and sleeps under the number 1.
+fn park(rt: &impl Abort, world: &mut World<u8, u64>) {
+    take(rt, world, Step::Tick, Reply::Ticker(0));
+    expect(rt, world, Phase::Rest, None, 0);
+    take(rt, world, Step::Poll(0), Reply::Done);
+    take(rt, world, Step::Search(0, 7), Reply::NoTask);
+    expect(rt, world, Phase::Sleep, None, 0);
+    take(rt, world, Step::Sleep(0), Reply::Number(1));
+    expect(rt, world, Phase::Store(ListChange::Slept), Some(0), 0);
+    take(rt, world, Step::Store(0), Reply::Stored(false));
+    expect(rt, world, Phase::Search, None, 0);
+    take(rt, world, Step::Search(0, 7), Reply::NoTask);
+    take(rt, world, Step::Sleep(0), Reply::Parked);
+}
+
+// A task is spawned, and ticker 0 is notified.
+fn notify(rt: &impl Abort, world: &mut World<u8, u64>) {
+    take(rt, world, Step::Spawn(10), Reply::Task(0));
+    take(rt, world, Step::Exchange, Reply::Pick);
+    take(rt, world, Step::Notify, Reply::Sleeper(1));
+    expect(rt, world, Phase::Rest, None, 0);
+}
 
 #[test]
 fn a_world_takes_no_more_steps_than_its_limit(rt: HostRuntime) -> Result<(), Fail> {
@@ -44,5 +86,35 @@ fn a_run_is_the_list_of_its_steps(rt: HostRuntime) -> Result<(), Fail> {
     assert!(rt; !world.is_out(0) && world.keeps(0));
     assert_eq!(rt; (world.notices(), world.picks()), (3, 0));
     assert_eq!(rt; world.cells().undropped(), 1);
+    Ok(())
+}
+
+#[test]
+fn a_notified_ticker_takes_the_task(rt: HostRuntime) -> Result<(), Fail> {
+    let mut world = World::<u8, u64>::new(rt.alloc(), 20)?;
+    park(&rt, &mut world);
+    notify(&rt, &mut world);
+    take(&rt, &mut world, Step::Poll(0), Reply::Done);
+    take(&rt, &mut world, Step::Search(0, 7), Reply::Poll(0));
+    expect(&rt, &world, Phase::Wake, None, 1);
+    take(&rt, &mut world, Step::Remove(0), Reply::Notified);
+    let woke = Phase::Store(ListChange::Woke { notified: true });
+    expect(&rt, &world, woke, Some(0), 2);
+    take(&rt, &mut world, Step::Store(0), Reply::Stored(true));
+    expect(&rt, &world, Phase::Ended, None, 1);
+    Ok(())
+}
+
+#[test]
+fn a_dropped_ticker_passes_its_notice_on(rt: HostRuntime) -> Result<(), Fail> {
+    let mut world = World::<u8, u64>::new(rt.alloc(), 20)?;
+    assert!(rt; world.phase(0).is_none());
+    park(&rt, &mut world);
+    notify(&rt, &mut world);
+    take(&rt, &mut world, Step::Drop(0), Reply::Notified);
+    let dropped = Phase::Store(ListChange::Dropped { notified: true });
+    expect(&rt, &world, dropped, Some(0), 1);
+    take(&rt, &mut world, Step::Store(0), Reply::Stored(true));
+    expect(&rt, &world, Phase::Ended, None, 1);
     Ok(())
 }

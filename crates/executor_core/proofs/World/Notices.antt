@@ -1,64 +1,108 @@
 -- No notice is lost.
-use Rattle.std.proofs.Common.{◌≡◌, ℕ, ◌+◌, ◌-◌, ◌<◌, Bool, true, ◌||◌, not, ◌⊎◌, inl, inr, cond, length, sym, ap, subst, ◌∙◌, length-take, arith}
-use Rattle.std.proofs.lemmas.Bool.{cases_Bool, cases_lt, lt-ltb, ltb-true, eq-eqb, eqb-true, eqb-false, or_left, or_right, or_cases}
-use Rattle.std.specs.Prelude.{nat_lt, ◌==◌}
+use Rattle.std.proofs.Common.{◌≡◌, ℕ, ◌+◌, ◌-◌, ◌<◌, ◌≤◌, Bool, true, false, ◌||◌, not, ◌⊎◌, inl, inr, cond, [], length, ◌∷◌, ◌++◌, Option, Some, None, refl, sym, ap, subst, ◌∙◌, length-take, arith}
+use Rattle.std.proofs.lemmas.Bool.{cases_Bool, cases_lt, cases_eq, lt-ltb, ltb-true, eq-eqb, eqb-true, eqb-false, or_left, or_right, or_cases, true≢false, false≢true}
+use Rattle.std.proofs.lemmas.List.Sums.{sum_by_push}
+use Rattle.std.specs.List.{list_any}
+use Rattle.std.specs.Prelude.{nat_lt, ◌==◌, slice_get, slice_set}
 use Rattle.std.specs.FinSet as set
 use Rattle.std.specs.Ordering.{nat_cmp}
 use Rattle.executor_core.specs.Sleepers.{SleeperList, SleeperLaw, is_notified}
 use Rattle.executor_core.specs.Sleepers.Calls.{no_sleepers, all_unnotified, after_notify}
 use Rattle.executor_core.specs.World.{Execution}
-use Rattle.executor_core.specs.World.Promises.{some_notified, notices_out, is_obliged, NoNoticeLost}
+use Rattle.executor_core.specs.World.Promises.{some_notified, kept_notices, notices_out, some_search, is_obliged, holder_spends, holds, HolderStores, FlagLaw, Covered, NoNoticeLost}
+use Rattle.executor_core.specs.World.Tickers.{in_store, notices_in, has_to_search, has_to_spend, ticker_or, new_ticker}
+use Rattle.executor_core.proofs.ListLemmas.{sum_by-set, sum_by-at, any-at, any-set_true, any-set_same, any-push, get-set_same, get-set_other, get-push_last, get-push_other, get_past}
+use Rattle.executor_core.specs.declared.interleave.ticker.Ticker.{Ticker}
 
 positive : (n : ℕ) → 0 < n → nat_lt 0 n ≡ true
 positive n h = lt-ltb 0 n h
 
 -- a notice is out
-noticed_obliges : {T : Type 0} (w : Execution T) → 0 < w.notices → (b : Bool) → b || is_obliged w ≡ true
-noticed_obliges w out b = or_right b _ (ap (λ t. t || nat_lt 0 w.picks) (positive w.notices out))
+noticed_obliges : {T : Type 0} (w : Execution T) → 0 < notices_out w → (b : Bool) → b || is_obliged w ≡ true
+noticed_obliges w out b = or_right b _ (or_left _ (some_search w) (or_left _ (nat_lt 0 w.picks) (positive (notices_out w) out)))
 
 -- a pick is out
 picked_obliges : {T : Type 0} (w : Execution T) → 0 < w.picks → (b : Bool) → b || is_obliged w ≡ true
-picked_obliges w out b = or_right b _ (or_right (nat_lt 0 (notices_out w)) _ (positive w.picks out))
+picked_obliges w out b = or_right b _ (or_left _ (some_search w) (or_right (nat_lt 0 (notices_out w)) _ (positive w.picks out)))
+
+-- a ticker has still to search
+searching_obliges : {T : Type 0} (w : Execution T) → some_search w ≡ true → (b : Bool) → b || is_obliged w ≡ true
+searching_obliges w some b = or_right b _ (or_right (nat_lt 0 (notices_out w) || nat_lt 0 w.picks) _ some)
+
+-- where somebody is obliged, a notice or a pick is out, or a ticker has still to search
+abbrev Obliges : {T : Type 0} → Execution T → Type 0
+Obliges w = (0 < notices_out w) ⊎ ((0 < w.picks) ⊎ (some_search w ≡ true))
+
+obliged_by : {T : Type 0} (w : Execution T) → is_obliged w ≡ true → Obliges w
+obliged_by w is = elim (or_cases (nat_lt 0 (notices_out w) || nat_lt 0 w.picks) (some_search w) is) [
+  | inl out ↦ elim (or_cases (nat_lt 0 (notices_out w)) (nat_lt 0 w.picks) out) [ inl notice ↦ inl (ltb-true 0 _ notice) | inr pick ↦ inr (inl (ltb-true 0 _ pick)) ]
+  | inr seeks ↦ inr (inr seeks)
+]
+
+obliges : {T : Type 0} (w : Execution T) → Obliges w → (b : Bool) → b || is_obliged w ≡ true
+obliges w (inl out) b = noticed_obliges w out b
+obliges w (inr (inl out)) b = picked_obliges w out b
+obliges w (inr (inr seeks)) b = searching_obliges w seeks b
+
+-- the one who holds the sleepers' lock has something to spend, and so somebody is obliged
+holder_obliges : {T : Type 0} (w : Execution T) → holder_spends w.holder w.tickers ≡ true → Obliges w
+holder_obliges w spends = by_holder w.holder spends
+  where
+    at : (k : ℕ) (o : Option Ticker) → slice_get w.tickers k ≡ o → has_to_spend (ticker_or o).phase ≡ true → Obliges w
+    at k None here spends = absurd (false≢true spends)
+    at k (Some t) here spends = elim (or_cases (nat_lt 0 (notices_in t.phase)) (has_to_search t.phase) spends) [
+      | inl notice ↦ let most = sum_by-at (λ (t : Ticker). notices_in t.phase) w.tickers k t here in let some = ltb-true 0 _ notice in inl (omega arith)
+      | inr seeks ↦ inr (inr (any-at (λ (t : Ticker). has_to_search t.phase) w.tickers k t here seeks))
+    ]
+
+    by_holder : (h : Option ℕ) → holder_spends h w.tickers ≡ true → Obliges w
+    by_holder None spends = absurd (false≢true spends)
+    by_holder (Some k) spends = at k (slice_get w.tickers k) refl spends
 
 -- one is notified, where somebody is there to be
-some_in_use : {W : Type 0} (s : SleeperList W) → is_notified s ≡ true → 0 < set.len s.used → some_notified s ≡ true
+pub some_in_use : {W : Type 0} (s : SleeperList W) → is_notified s ≡ true → 0 < set.len s.used → some_notified s ≡ true
 some_in_use s notified asleep = elim (or_cases (set.len s.used == 0) (nat_lt (length s.unnotified) (set.len s.used)) notified) [
   | inl none ↦ let nobody = eqb-true _ _ none in absurd (omega arith)
   | inr some ↦ some
 ]
 
+-- the flag is true
+abbrev Turned : {T : Type 0} → Execution T → Type 0
+Turned w = is_notified w.sleepers || nat_lt 0 w.picks || holder_spends w.holder w.tickers ≡ true
+
 module _ {T : Type 0} {w v : Execution T} (law : NoNoticeLost w) where
-  -- flag, sleepers and picks are as before: a notice is out, or the queue and the notices are as before too
-  pub notices_again : v.flag ≡ w.flag → v.sleepers ≡ w.sleepers → v.picks ≡ w.picks → (0 < v.notices) ⊎ ((v.global ≡ w.global) × (v.notices ≡ w.notices)) → NoNoticeLost v
-  notices_again flag sleepers picks or =
+  -- flag, sleepers, picks and tickers are as before: a notice is out, or the queue and the notices are as before too
+  pub notices_again : v.flag ≡ w.flag → v.sleepers ≡ w.sleepers → v.picks ≡ w.picks → v.tickers ≡ w.tickers → v.holder ≡ w.holder → (0 < v.notices) ⊎ ((v.global ≡ w.global) × (v.notices ≡ w.notices)) → NoNoticeLost v
+  notices_again flag sleepers picks tickers holder or =
       record {
-        flag_law = λ on. rw (sleepers, picks) (law.flag_law (sym flag ∙ on));
+        flag_law = λ on. rw (sleepers, picks, tickers, holder) (law.flag_law (sym flag ∙ on));
         covered = λ queued asleep. elim or [
-          | inl out ↦ noticed_obliges v out (some_notified v.sleepers)
-          | inr same ↦ rw (sleepers, picks, same.1) (law.covered (λ none. queued (same.0 ∙ none)) (subst (λ s. 0 < set.len s.used) sleepers asleep))
+          | inl out ↦ noticed_obliges v (omega arith) (some_notified v.sleepers)
+          | inr same ↦ rw (sleepers, picks, tickers, same.1) (law.covered (λ none. queued (same.0 ∙ none)) (subst (λ s. 0 < set.len s.used) sleepers asleep))
         ];
-        closed = ap (λ s. s.is_open) sleepers ∙ law.closed;
       }
 
   -- a notice was spent: where the flag was false, a pick is out
-  pub notices_exchanged : v.sleepers ≡ w.sleepers → v.picks ≡ cond (not w.flag) (w.picks + 1) w.picks → NoNoticeLost v
-  notices_exchanged sleepers picks = elim (cases_Bool w.flag) [
+  pub notices_exchanged : v.sleepers ≡ w.sleepers → v.tickers ≡ w.tickers → v.holder ≡ w.holder → v.picks ≡ cond (not w.flag) (w.picks + 1) w.picks → NoNoticeLost v
+  notices_exchanged sleepers tickers holder picks = elim (cases_Bool w.flag) [
     | inl on ↦
         let same : v.picks ≡ w.picks = picks ∙ ap (λ b. cond (not b) (w.picks + 1) w.picks) on in
+        let turned : Turned v = rw (sleepers, same, tickers, holder) (law.flag_law on) in
         record {
-          flag_law = λ _. rw (sleepers, same) (law.flag_law on);
-          covered = λ queued asleep. elim (or_cases (is_notified w.sleepers) (nat_lt 0 w.picks) (law.flag_law on)) [
-            | inl notified ↦ or_left _ (is_obliged v) (ap some_notified sleepers ∙ some_in_use w.sleepers notified (subst (λ s. 0 < set.len s.used) sleepers asleep))
-            | inr out ↦ picked_obliges v (let some = ltb-true 0 w.picks out in omega arith) (some_notified v.sleepers)
+          flag_law = λ _. turned;
+          covered = λ queued asleep. elim (or_cases (is_notified v.sleepers || nat_lt 0 v.picks) (holder_spends v.holder v.tickers) turned) [
+            | inl other ↦ elim (or_cases (is_notified v.sleepers) (nat_lt 0 v.picks) other) [
+              | inl notified ↦ or_left _ (is_obliged v) (some_in_use v.sleepers notified asleep)
+              | inr out ↦ picked_obliges v (ltb-true 0 v.picks out) (some_notified v.sleepers)
+            ]
+            | inr spends ↦ obliges v (holder_obliges v spends) (some_notified v.sleepers)
           ];
-          closed = ap (λ s. s.is_open) sleepers ∙ law.closed;
         }
     | inr off ↦
         let more : v.picks ≡ w.picks + 1 = picks ∙ ap (λ b. cond (not b) (w.picks + 1) w.picks) off in
         record {
-          flag_law = λ _. or_right _ _ (positive v.picks (omega arith));
+          flag_law = λ _. or_left _ (holder_spends v.holder v.tickers) (or_right (is_notified v.sleepers) _ (positive v.picks (omega arith)));
           covered = λ _ _. picked_obliges v (omega arith) (some_notified v.sleepers);
-          closed = ap (λ s. s.is_open) sleepers ∙ law.closed;
         }
   ]
 
@@ -66,9 +110,8 @@ module _ {T : Type 0} {w v : Execution T} (law : NoNoticeLost w) where
   pub notices_notified : SleeperLaw w.sleepers → v.sleepers ≡ after_notify w.sleepers → NoNoticeLost v
   notices_notified lawful sleepers =
       record {
-        flag_law = λ _. or_left _ (nat_lt 0 v.picks) (ap is_notified sleepers ∙ notified_after);
+        flag_law = λ _. or_left _ (holder_spends v.holder v.tickers) (or_left _ (nat_lt 0 v.picks) (ap is_notified sleepers ∙ notified_after));
         covered = λ queued asleep. or_left _ (is_obliged v) (ap some_notified sleepers ∙ some_after (subst (λ s. 0 < set.len s.used) sleepers asleep));
-        closed = ap (λ s. s.is_open) sleepers ∙ law.closed;
       }
     where
       some_after : 0 < set.len w.sleepers.used → some_notified (after_notify w.sleepers) ≡ true
@@ -89,12 +132,89 @@ module _ {T : Type 0} {w v : Execution T} (law : NoNoticeLost w) where
         | inr none ↦ or_left _ _ (eq-eqb (set.len w.sleepers.used) 0 (omega arith))
       ]
 
+-- what a step of a ticker at this number makes of the law, piece by piece
+module _ {T : Type 0} (w v : Execution T) (law : NoNoticeLost w) (k : ℕ) (t u : Ticker) (found : slice_get w.tickers k ≡ Some t) (change : v.tickers ≡ slice_set w.tickers k u) where
+  here : slice_get v.tickers k ≡ Some u
+  here = ap (λ l. slice_get l k) change ∙ get-set_same w.tickers k u t found
+
+  pub kept_is : kept_notices v + notices_in t.phase ≡ kept_notices w + notices_in u.phase
+  kept_is = rw change (sum_by-set (λ (t : Ticker). notices_in t.phase) w.tickers k t u found)
+
+  -- who has to search obliges somebody
+  pub covered_searching : has_to_search u.phase ≡ true → Covered v
+  covered_searching seeks queued asleep = searching_obliges v (rw change (any-set_true (λ (t : Ticker). has_to_search t.phase) w.tickers k t u found seeks)) (some_notified v.sleepers)
+
+  -- a notice is out
+  pub covered_noticed : 0 < notices_out v → Covered v
+  covered_noticed out queued asleep = noticed_obliges v out (some_notified v.sleepers)
+
+  -- nothing is queued
+  pub covered_empty : v.global ≡ [] → Covered v
+  covered_empty none queued asleep = absurd (queued none)
+
+  -- the ticker had nothing to search, and all else is as before, or more
+  pub covered_quiet : v.global ≡ w.global → v.picks ≡ w.picks → notices_out w ≤ notices_out v → has_to_search t.phase ≡ false → set.len v.sleepers.used ≤ set.len w.sleepers.used → (some_notified w.sleepers ≡ true → some_notified v.sleepers ≡ true) → Covered v
+  covered_quiet queue picks more quiet fewer keeps queued asleep =
+      elim (or_cases (some_notified w.sleepers) (is_obliged w) (law.covered (λ none. queued (queue ∙ none)) (omega arith))) [
+        | inl notified ↦ or_left _ (is_obliged v) (keeps notified)
+        | inr obliged ↦ elim (obliged_by w obliged) [
+          | inl notice ↦ noticed_obliges v (omega arith) (some_notified v.sleepers)
+          | inr other ↦ elim other [
+            | inl pick ↦ picked_obliges v (omega arith) (some_notified v.sleepers)
+            | inr seeks ↦ elim (cases_Bool (has_to_search u.phase)) [
+              | inl now ↦ covered_searching now queued asleep
+              | inr never ↦ searching_obliges v (rw change (any-set_same (λ (t : Ticker). has_to_search t.phase) w.tickers k t u found (never ∙ sym quiet) ∙ seeks)) (some_notified v.sleepers)
+            ]
+          ]
+        ]
+      ]
+
+  -- the ticker holds the lock, and has something to spend
+  pub flag_held : v.holder ≡ Some k → has_to_spend u.phase ≡ true → FlagLaw v
+  flag_held holder spends on = or_right (is_notified v.sleepers || nat_lt 0 v.picks) _ (rw (holder, here) spends)
+
+  -- the flag is what the list says
+  pub flag_stored : v.flag ≡ is_notified v.sleepers → FlagLaw v
+  flag_stored says on = or_left _ (holder_spends v.holder v.tickers) (or_left _ (nat_lt 0 v.picks) (sym says ∙ on))
+
+  -- the ticker does not hold the lock, and all else is as before
+  pub flag_quiet : HolderStores w.holder w.tickers → in_store t.phase ≡ false → v.flag ≡ w.flag → is_notified v.sleepers ≡ is_notified w.sleepers → v.picks ≡ w.picks → v.holder ≡ w.holder → FlagLaw v
+  flag_quiet stores apart flag notified picks holder on = rw (notified, picks, holder, change) (rw (by_holder w.holder refl) (law.flag_law (sym flag ∙ on)))
+    where
+      not_held : holds k w.holder ≡ false
+      not_held = sym (stores k) ∙ ap (λ o. in_store (ticker_or o).phase) found ∙ apart
+
+      by_holder : (h : Option ℕ) → w.holder ≡ h → holder_spends h (slice_set w.tickers k u) ≡ holder_spends h w.tickers
+      by_holder None is = refl
+      by_holder (Some q) is = elim (cases_eq q k) [
+        | inl same ↦ absurd (true≢false (sym (eq-eqb q k same) ∙ sym (ap (holds k) is) ∙ not_held))
+        | inr far ↦ ap (λ o. has_to_spend (ticker_or o).phase) (get-set_other w.tickers k q u far)
+      ]
+
+-- a ticker at rest was made
+pub notices_added : {T : Type 0} (w v : Execution T) → NoNoticeLost w → v.tickers ≡ w.tickers ++ new_ticker ∷ [] → v.flag ≡ w.flag → v.picks ≡ w.picks → v.notices ≡ w.notices → v.global ≡ w.global → v.holder ≡ w.holder → v.sleepers.used ≡ w.sleepers.used → v.sleepers.unnotified ≡ w.sleepers.unnotified → NoNoticeLost v
+notices_added w v law tickers flag picks notices queue holder used unnotified =
+    let kept : kept_notices v ≡ kept_notices w = rw tickers (sum_by_push (λ (t : Ticker). notices_in t.phase) w.tickers new_ticker ∙ omega arith) in
+    let seeks : some_search v ≡ some_search w = ap (list_any (λ (t : Ticker). has_to_search t.phase)) tickers ∙ any-push (λ (t : Ticker). has_to_search t.phase) w.tickers new_ticker refl in
+    record {
+      flag_law = λ on. rw (used, unnotified, picks, holder, tickers) (rw (by_holder w.holder) (law.flag_law (sym flag ∙ on)));
+      covered = λ queued asleep. rw (used, unnotified, notices, kept, picks, seeks) (law.covered (λ none. queued (queue ∙ none)) (subst (λ u. 0 < set.len u) used asleep));
+    }
+  where
+    by_holder : (h : Option ℕ) → holder_spends h (w.tickers ++ new_ticker ∷ []) ≡ holder_spends h w.tickers
+    by_holder None = refl
+    by_holder (Some q) = elim (cases_eq q (length w.tickers)) [
+      | inl same ↦
+          ap (λ j. has_to_spend (ticker_or (slice_get (w.tickers ++ new_ticker ∷ []) j)).phase) same ∙ ap (λ o. has_to_spend (ticker_or o).phase) (get-push_last w.tickers new_ticker)
+          ∙ sym (ap (λ j. has_to_spend (ticker_or (slice_get w.tickers j)).phase) same ∙ ap (λ o. has_to_spend (ticker_or o).phase) (get_past w.tickers))
+      | inr far ↦ ap (λ o. has_to_spend (ticker_or o).phase) (get-push_other w.tickers new_ticker q far)
+    ]
+
 -- nobody sleeps before the first step
 pub notices_opening : {T : Type 0} (w : Execution T) → w.sleepers ≡ no_sleepers → NoNoticeLost w
 notices_opening w nobody =
     let unused : set.len w.sleepers.used ≡ 0 = ap (λ s. set.len s.used) nobody ∙ set.len-empty nat_cmp in
     record {
-      flag_law = λ _. or_left _ (nat_lt 0 w.picks) (or_left _ _ (eq-eqb (set.len w.sleepers.used) 0 unused));
+      flag_law = λ _. or_left _ (holder_spends w.holder w.tickers) (or_left _ (nat_lt 0 w.picks) (or_left _ _ (eq-eqb (set.len w.sleepers.used) 0 unused)));
       covered = λ _ asleep. absurd (omega arith);
-      closed = ap (λ s. s.is_open) nobody;
     }

@@ -10,14 +10,14 @@ use Rattle.executor_core.specs.Cell.{is_held}
 use Rattle.executor_core.specs.Cells.Calls.{cell_at, cancelled_in, woken_in, takes_back_in, with_cell, without_cell, queued_if, IsTaken, TakesFront, after_take, take_first, with_taken_at, after_end_pending, end_pending_at, after_end_ready, end_ready_at, ready_answer, after_end_dropped, end_dropped_at, dropped_answer}
 use Rattle.executor_core.specs.Cell.Changes.{taken, takes_back, pended, wakeup_of}
 use Rattle.executor_core.specs.World.{Execution}
-use Rattle.executor_core.specs.World.Entries.{infos, is_out, is_unpolled, is_unpolled_future, PolledAgrees}
+use Rattle.executor_core.specs.World.Entries.{infos, is_out, is_unpolled, is_unpolled_future, PolledAgrees, out_entry}
 use Rattle.executor_core.specs.World.Log.{unfollowed, is_cancel, is_take, cancelled, held, woken}
 use Rattle.executor_core.specs.World.Promises.{MayFollow, InOrder}
-use Rattle.executor_core.specs.World.Steps.{info, info_or, purpose_of, row, take_reply, take_row, return_reply, pend_row, ready_reply, ready_row, dropped_row}
+use Rattle.executor_core.specs.World.Steps.{info, info_or, purpose_of, row, counted, noticed, taking, take_reply, take_row, return_reply, pend_row, ready_reply, ready_row, dropped_row}
 use Rattle.executor_core.specs.World.View.{execution_of, IsWorld}
 use Rattle.executor_core.specs.World.Agreement.{Status, status, FewPollsFor, IsUndropped, StateAgrees, NumberAgrees, Agree}
 use Rattle.executor_core.proofs.BoolLemmas.{not-not, or-without_last}
-use Rattle.executor_core.proofs.ListLemmas.{within_get, length-push, length-slice_set, set-here, set_again}
+use Rattle.executor_core.proofs.ListLemmas.{within_get, get_within, length-push, length-slice_set, set-here, set_again}
 use Rattle.executor_core.proofs.World.Entries.{infos-set, entry_of, info_at}
 use Rattle.executor_core.proofs.World.Room.{length-push_if}
 use Rattle.executor_core.proofs.World.Steps.{stepped, Done, stepped_sound}
@@ -261,6 +261,10 @@ taken_within {P} {T} {table} {w} {entries} sound {task} taken = by_entry (slice_
     by_entry (Some e) found h = within_get entries task.id.number e found
     by_entry None found h = absurd (subst (λ x. NumberAgrees x (status task.id.number w.log) None) taken.found (subst (λ x. NumberAgrees (map.get table.cells task.id.number) (status task.id.number w.log) x) found h))
 
+-- the cells alone changed
+pub cells_alone : {P T : Type 0} (core later : Core P T (Unit {0})) (table : Table P T (Unit {0})) → later ≡ record core { cells = table } → later ≡ record core { cells = later.cells }
+cells_alone core later table is = is ∙ ap (λ t. record core { cells = t }) (sym (ap (λ c. c.cells) is))
+
 module _ {P T : Type 0} (a : Inside P T) (sound : IsWorld (execution_of a) a.core.cells a.entries.items (vec_capacity a.log)) {w : Execution T} (view : execution_of a ≡ w) (far : w.accepted ≢ w.limit) where
   -- there was no task to take
   pub take_none : {core : Core P T (Unit {0})} → a.core.cells.global ≡ [] → core ≡ record a.core { cells = after_take a.core.cells } → Done (stepped a (a.accepted + 1) core a.log.items a.entries.items a.notices a.picks) core.cells a.entries.items (vec_capacity a.log) (take_row w.global w) NoTask
@@ -275,29 +279,53 @@ module _ {P T : Type 0} (a : Inside P T) (sound : IsWorld (execution_of a) a.cor
       by_row : (queue : List ℕ) → queue ≡ [] → row (take_row queue (execution_of a)) NoTask (record (execution_of a) { accepted = a.accepted + 1 })
       by_row queue is = rw is (refl, refl)
 
-  -- the front of the queue was taken
-  pub take_done : {task : Taken P} {core : Core P T (Unit {0})} → TakesFront a.core.cells core.cells.global task → {i : TaskInfo} → slice_get (infos a.entries.items) task.id.number ≡ Some i → {accepted : ℕ} → accepted ≡ a.accepted + 1 → core ≡ record a.core { cells = after_take a.core.cells }
-      → {j : TaskInfo} → j ≡ record i { to_drop = task.cancelled } → {entries : List (TaskEntry P)} → entries ≡ slice_set a.entries.items task.id.number (record { info = j; out = Some (Unpolled task.future) }) → {purpose : Purpose} → purpose ≡ purpose_of task.cancelled
-      → {log : List (Event T)} → log ≡ a.log.items ++ Took task.id.number purpose ∷ [] → {notices : ℕ} → notices ≡ a.notices + 1 → {room : ℕ} → room ≡ vec_capacity a.log → {answer : Reply T} → answer ≡ take_reply task.id.number task.cancelled
-      → Done (stepped a accepted core log entries notices a.picks) core.cells entries room (take_row w.global w) answer
-  take_done {task} {core} takes {i} found counted core_is info_is entries_is purpose_is log_is noticed capacity answers =
+  -- the front of the queue was taken, and its future put out
+  pub record TookFront (table : Table P T (Unit {0})) (n : ℕ) (cancel : Bool) (entries : List (TaskEntry P)) (log : List (Event T)) : Type 0 where
+    pub agree : Agree table log entries
+    pub front : a.core.cells.global ≡ n ∷ table.global
+    pub cancelled : cancelled n a.log.items ≡ cancel
+    pub world : record (execution_of a) { log = log; global = table.global; tasks = infos entries } ≡ taking n table.global (execution_of a)
+    pub tasks : length entries ≡ length a.entries.items
+    pub events : length log ≡ length a.log.items + 1
+
+  pub took_front : {task : Taken P} {table : Table P T (Unit {0})} → TakesFront a.core.cells table.global task → table ≡ after_take a.core.cells
+      → {entries : List (TaskEntry P)} → ((e : TaskEntry P) → slice_get a.entries.items task.id.number ≡ Some e → entries ≡ slice_set a.entries.items task.id.number (out_entry e task))
+      → {log : List (Event T)} → log ≡ a.log.items ++ Took task.id.number (purpose_of task.cancelled) ∷ [] → TookFront table task.id.number task.cancelled entries log
+  took_front {task} {table} takes table_is {entries} entries_are log_is =
       let n = task.id.number in
-      let at = entry_of a.entries.items n i found in
+      let at = get_within a.entries.items n (taken_within sound takes.taken) in
+      let e : TaskEntry P = at.0 in
       let cell : Slotted P T (Unit {0}) = record { slot = task.id.slot; cell = takes.taken.cell } in
-      let queue = rest_front sound.agree n _ at.1 core.cells.global cell task.future takes.front takes.taken.found takes.taken.future in
-      let cancel : cancelled n a.log.items ≡ task.cancelled = sym (cancelled_front sound.agree n _ at.1 core.cells.global cell task.future takes.front takes.taken.found takes.taken.future) ∙ sym takes.taken.cancelled in
-      let holds = take_holds sound.agree n _ at.1 core.cells.global cell task.future takes.front takes.taken.found takes.taken.future task.cancelled (sym takes.taken.cancelled) in
-      let does = by_row n i found a.core.cells.global core.cells.global takes.front task.cancelled cancel in
+      let cancel : cancelled n a.log.items ≡ task.cancelled = sym (cancelled_front sound.agree n e at.1 table.global cell task.future takes.front takes.taken.found takes.taken.future) ∙ sym takes.taken.cancelled in
+      let holds = take_holds sound.agree n e at.1 table.global cell task.future takes.front takes.taken.found takes.taken.future task.cancelled (sym takes.taken.cancelled) in
+      let are = entries_are e at.1 in
+      record {
+        agree = rw (table_is, are, log_is) holds;
+        front = takes.front;
+        cancelled = cancel;
+        world = rw (are, log_is, infos-set a.entries.items n (out_entry e task), info_at a.entries.items n e at.1, cancel) refl;
+        tasks = ap length are ∙ length-slice_set a.entries.items n (out_entry e task);
+        events = ap length log_is ∙ length-push a.log.items (Took n (purpose_of task.cancelled));
+      }
+
+  -- trytick took it
+  pub take_done : {n : ℕ} {cancel : Bool} {core : Core P T (Unit {0})} {entries : List (TaskEntry P)} {log : List (Event T)} → TookFront core.cells n cancel entries log → core ≡ record a.core { cells = after_take a.core.cells }
+      → {notices : ℕ} → notices ≡ a.notices + 1 → {room : ℕ} → room ≡ vec_capacity a.log → {answer : Reply T} → answer ≡ take_reply n cancel
+      → Done (stepped a (a.accepted + 1) core log entries notices a.picks) core.cells entries room (take_row w.global w) answer
+  take_done {n} {cancel} {core} {entries} {log} took core_is more capacity answers =
       let far = rw (← view) at far in
-      let does = rw (← queue) at does in
-      rw (← view, counted, core_is, entries_is, info_is, log_is, purpose_is, noticed, capacity, answers) (record {
-        sound = stepped_sound a sound refl far true _ _ _ (λ never. absurd (cc)) (let long = length-slice_set a.entries.items n (record { info = record i { to_drop = task.cancelled }; out = Some (Unpolled task.future) }) in omega arith) (let long = length-push a.log.items (Took n (purpose_of task.cancelled)) in omega arith) holds;
-        does = rw (infos-set a.entries.items n (record { info = record i { to_drop = task.cancelled }; out = Some (Unpolled task.future) })) does;
+      let does = by_row a.core.cells.global took.front in
+      let tasks = took.tasks in
+      let events = took.events in
+      let same = cells_alone a.core core (after_take a.core.cells) core_is in
+      rw (← view, same, more, capacity, answers) (record {
+        sound = stepped_sound a sound refl far true core.cells log entries (λ never. absurd (cc)) (omega arith) (omega arith) took.agree;
+        does = does;
       })
     where
-      by_row : (n : ℕ) (i : TaskInfo) → slice_get (infos a.entries.items) n ≡ Some i → (queue rest : List ℕ) → queue ≡ n ∷ rest → (b : Bool) → cancelled n a.log.items ≡ b
-          → row (take_row queue (execution_of a)) (take_reply n b) (record (execution_of a) { log = a.log.items ++ Took n (purpose_of b) ∷ []; accepted = a.accepted + 1; global = rest; notices = a.notices + 1; tasks = slice_set (infos a.entries.items) n (record i { to_drop = b }) })
-      by_row n i found queue rest front b is = rw (front, is, found) (refl, refl)
+      by_row : (queue : List ℕ) → queue ≡ n ∷ core.cells.global
+          → row (take_row queue (execution_of a)) (take_reply n cancel) (record (execution_of a) { log = log; accepted = a.accepted + 1; global = core.cells.global; notices = a.notices + 1; tasks = infos entries })
+      by_row queue front = rw front (ap (take_reply n) (sym took.cancelled), ap (λ (x : Execution T). counted (noticed x)) took.world)
 
 module _ {P T : Type 0} (a : Inside P T) (sound : IsWorld (execution_of a) a.core.cells a.entries.items (vec_capacity a.log)) {w : Execution T} (view : execution_of a ≡ w) (far : w.accepted ≢ w.limit) (n : ℕ) {i : TaskInfo} (found : slice_get (infos a.entries.items) n ≡ Some i) where
   module _ (b : Bool) (enabled : held n w.log && b ≡ true) where

@@ -1,8 +1,9 @@
 -- There is room for what the steps to come add.
 use Rattle.std.proofs.Common.{◌≡◌, ◌≢◌, ℕ, ◌+◌, ◌<◌, ◌≤◌, Fits, w32, Bool, true, false, cond, List, [], ◌∷◌, ◌++◌, length, ap, arith}
-use Rattle.std.specs.Prelude.{Result, Ok, Err, OnOk, is_err}
+use Rattle.std.specs.Prelude.{Result, Ok, Err, OnOk, OnErr, is_err}
 use Rattle.executor_core.specs.World.{Execution}
 use Rattle.executor_core.specs.declared.interleave.event.Event.{Event}
+use Rattle.executor_core.specs.World.Promises.{notices_out}
 use Rattle.executor_core.specs.World.View.{HasRoom}
 use Rattle.executor_core.proofs.ListLemmas.{length-push}
 
@@ -44,7 +45,7 @@ module _ {T : Type 0} {w : Execution T} {room : ℕ} (has : HasRoom w room) wher
         omega arith
 
     -- a step leaves one thing more to be spent, one task more and two events more, at most
-    pub room_again : (u : Execution T) → u.accepted ≡ w.accepted + 1 → u.limit ≡ w.limit → u.picks + u.notices ≤ w.picks + w.notices + 1 → length u.tasks ≤ length w.tasks + 1 → length u.log ≤ length w.log + 2 → HasRoom u room
+    pub room_again : (u : Execution T) → u.accepted ≡ w.accepted + 1 → u.limit ≡ w.limit → u.picks + notices_out u ≤ w.picks + notices_out w + 1 → length u.tasks ≤ length w.tasks + 1 → length u.log ≤ length w.log + 2 → HasRoom u room
     room_again u counted same unspent tasks events =
         let h1 = is_below in
         let h2 = has.few_unspent in
@@ -58,3 +59,12 @@ module _ {T : Type 0} {w : Execution T} {room : ℕ} (has : HasRoom w room) wher
 pub reserved_fits : {A E : Type 0} (r : Result A E) {count capacity : ℕ} → OnOk r (count + 1 ≤ capacity) → is_err r ≡ false → count < capacity
 reserved_fits (Ok x) fits is = omega arith
 reserved_fits (Err e) fits is = absurd (cc)
+
+-- what holds where a call was not refused, and where it was
+pub on_ok : {A E P : Type 0} (r : Result A E) → OnOk r P → is_err r ≡ false → P
+on_ok (Ok x) holds is = holds
+on_ok (Err e) holds is = absurd (cc)
+
+pub on_err : {A E P : Type 0} (r : Result A E) → OnErr r P → is_err r ≡ true → P
+on_err (Ok x) holds is = absurd (cc)
+on_err (Err e) holds is = holds

@@ -1,7 +1,7 @@
 -- A task is spawned; and the world before its first step.
 use Rattle.std.proofs.Common.{◌≡◌, ◌≢◌, ℕ, ◌+◌, ◌*◌, ◌≤◌, ◌||◌, not, true, List, [], ◌∷◌, ◌++◌, length, Option, Some, None, refl, sym, ap, subst, ◌∙◌, inl, inr, arith}
 use Rattle.std.proofs.lemmas.Bool.{cases_eq}
-use Rattle.std.specs.Prelude.{slice_get}
+use Rattle.std.specs.Prelude.{slice_get, sum_by}
 use Rattle.std.specs.Ordering.{nat_cmp}
 use Rattle.std.specs.FinMap as map
 use Rattle.std.specs.Vec.{vec_capacity}
@@ -22,9 +22,12 @@ use Rattle.executor_core.proofs.World.Log.{on_spawn, order-push, status_other}
 use Rattle.executor_core.proofs.World.Entries.{infos-push, length-infos, entry_of}
 use Rattle.executor_core.proofs.World.Agreement.{number_agrees_by, cell_or_none}
 use Rattle.executor_core.proofs.World.Notices.{notices_opening}
+use Rattle.executor_core.specs.World.Tickers.{notices_in}
 use Rattle.executor_core.proofs.World.Steps.{stepped, stepped_sound}
+use Rattle.executor_core.proofs.World.Tickers.{tied_opening}
 use Rattle.executor_core.specs.declared.plain_core.Core.{Core}
 use Rattle.executor_core.specs.declared.interleave.World.TheInside.{Inside}
+use Rattle.executor_core.specs.declared.interleave.ticker.Ticker.{Ticker}
 use Rattle.executor_core.specs.declared.interleave.entry.TaskInfo.{TaskInfo}
 use Rattle.executor_core.specs.declared.interleave.entry.TaskEntry.{TaskEntry}
 use Rattle.executor_core.specs.declared.interleave.event.Event.{Event}
@@ -97,13 +100,15 @@ module _ {P T : Type 0} (a : Inside P T) (sound : IsWorld (execution_of a) a.cor
       )
 
 -- before the first step
-pub opening_sound : {P T : Type 0} {w : Execution T} {table : Table P T (Unit {0})} {entries : List (TaskEntry P)} {room : ℕ} → table ≡ empty_table 0 → w.sleepers ≡ no_sleepers → w.log ≡ [] → w.tasks ≡ [] → w.accepted ≡ 0 → w.limit ≤ 1000000 → w.picks + w.notices ≡ 0 → room ≡ 3 * w.limit → entries ≡ [] → IsWorld w table entries room
-opening_sound {P} {T} {w} {table} {entries} cells_are nobody no_events no_tasks none bounded unspent capacity no_entries =
+pub opening_sound : {P T : Type 0} {w : Execution T} {table : Table P T (Unit {0})} {entries : List (TaskEntry P)} {room : ℕ} → table ≡ empty_table 0 → w.sleepers ≡ no_sleepers → w.tickers ≡ [] → w.holder ≡ None → w.log ≡ [] → w.tasks ≡ [] → w.accepted ≡ 0 → w.limit ≤ 1000000 → w.picks + w.notices ≡ 0 → room ≡ 3 * w.limit → entries ≡ [] → IsWorld w table entries room
+opening_sound {P} {T} {w} {table} {entries} cells_are nobody no_tickers free no_events no_tasks none bounded unspent capacity no_entries =
     let tasks = ap length no_tasks in
     let events = ap length no_events in
+    let none_kept = ap (sum_by (λ (t : Ticker). notices_in t.phase)) no_tickers in
     record {
       agree = rw (cells_are, no_events, no_entries) opening_agrees;
       notices = notices_opening w nobody;
+      tickers = record { tied = rw (no_tickers, nobody) tied_opening; stores = λ k. rw (no_tickers, free) refl; opened = rw (nobody, free) refl };
       room = record { within = omega arith; bounded = bounded; few_unspent = omega arith; few_tasks = omega arith; few_events = omega arith; enough = omega arith };
     }
   where

@@ -1,6 +1,7 @@
 -- A notice or a pick is spent.
-use Rattle.std.proofs.Common.{◌≡◌, ◌≢◌, ℕ, zero, suc, ◌+◌, ◌-◌, ◌<◌, ◌≤◌, Bool, true, false, not, cond, List, [], ◌∷◌, length, Option, Some, None, is_some, refl, sym, ap, ◌∙◌, arith}
-use Rattle.std.specs.Prelude.{slice_get, option_map}
+use Rattle.std.proofs.Common.{◌≡◌, ◌≢◌, ℕ, zero, suc, ◌+◌, ◌-◌, ◌<◌, ◌≤◌, Bool, true, false, not, ◌&&◌, cond, List, [], ◌∷◌, length, Option, Some, None, is_some, refl, sym, ap, ◌∙◌, arith}
+use Rattle.std.proofs.lemmas.Bool.{and_parts, ltb-true, not-true}
+use Rattle.std.specs.Prelude.{nat_lt, slice_get, option_map}
 use Rattle.std.specs.Map.{keys_of}
 use Rattle.std.specs.Vec.{vec_capacity}
 use Rattle.executor_core.specs.Sleepers.{SleeperLaw}
@@ -13,6 +14,7 @@ use Rattle.executor_core.proofs.SleeperPairLemmas.{length-keys}
 use Rattle.executor_core.proofs.World.Notices.{notices_exchanged, notices_notified}
 use Rattle.executor_core.proofs.World.Room.{room_again}
 use Rattle.executor_core.proofs.World.Steps.{stepped, Done}
+use Rattle.executor_core.proofs.World.Tickers.{tied_notified}
 use Rattle.executor_core.specs.declared.plain_core.Core.{Core}
 use Rattle.executor_core.specs.declared.task.values.Wakeup.{Wakeup}
 use Rattle.executor_core.specs.declared.interleave.World.TheInside.{Inside}
@@ -48,8 +50,9 @@ module _ {P T : Type 0} (a : Inside P T) (sound : IsWorld (execution_of a) a.cor
       rw (← view, core_is, answers, keeps, picks_is, picked_is) (record {
         sound = record {
           agree = sound.agree;
-          notices = notices_exchanged sound.notices refl refl;
-          room = room_again sound.room refl far _ refl refl (fewer (not a.core.flag) a.picks a.notices floats) (omega arith) (omega arith);
+          notices = notices_exchanged sound.notices refl refl refl refl;
+          tickers = sound.tickers;
+          room = room_again sound.room refl far _ refl refl (let less = fewer (not a.core.flag) a.picks a.notices floats in omega arith) (omega arith) (omega arith);
         };
         does = (refl, refl);
       })
@@ -58,16 +61,25 @@ module _ {P T : Type 0} (a : Inside P T) (sound : IsWorld (execution_of a) a.cor
       fewer true picks notices h = omega arith
       fewer false picks notices h = omega arith
 
-  pub notify_done : 0 < w.picks → SleeperLaw a.core.sleepers → {core : Core P T (Unit {0})} → core ≡ record a.core { sleepers = after_notify a.core.sleepers } → {last : Option ℕ} → last ≡ last_of (keys_of a.core.sleepers.unnotified)
+  -- nobody holds the sleepers' lock, so the list is closed
+  pub list_closed : (b : Bool) → b && not (is_some w.holder) ≡ true → a.core.sleepers.is_open ≡ false
+  list_closed b enabled =
+      let free = (and_parts b (not (is_some a.holder)) (ap (λ w. b && not (is_some w.holder)) view ∙ enabled)).1 in
+      sound.tickers.opened ∙ not-true (is_some a.holder) free
+
+  pub notify_done : (nat_lt 0 w.picks && not (is_some w.holder)) ≡ true → SleeperLaw a.core.sleepers → {core : Core P T (Unit {0})} → core ≡ record a.core { sleepers = after_notify a.core.sleepers } → {last : Option ℕ} → last ≡ last_of (keys_of a.core.sleepers.unnotified)
       → {wakeup : Option (Wakeup (Unit {0}))} → wakeup ≡ notify_answer a.core.sleepers → {notified : Bool} → notified ≡ is_some wakeup → {answer : Reply T} → answer ≡ sleeper_reply notified last
       → Done (stepped a (a.accepted + 1) core a.log.items a.entries.items a.notices (a.picks - 1)) core.cells a.entries.items (vec_capacity a.log) (notify_row w) answer
   notify_done out lawful core_is last_is wakeup_is notified_is answers =
       let far = rw (← view) at far in
       let out = rw (← view) at out in
+      let free = and_parts (nat_lt 0 a.picks) (not (is_some a.holder)) out in
+      let some = ltb-true 0 a.picks free.0 in
       rw (← view, core_is, answers, notified_is, wakeup_is, last_is) (record {
         sound = record {
           agree = sound.agree;
           notices = notices_notified sound.notices lawful refl;
+          tickers = record { tied = tied_notified sound.tickers.tied; stores = sound.tickers.stores; opened = sound.tickers.opened };
           room = room_again sound.room refl far _ refl refl (omega arith) (omega arith) (omega arith);
         };
         does = (by_list (all_unnotified a.core.sleepers), refl);

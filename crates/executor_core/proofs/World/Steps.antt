@@ -24,7 +24,7 @@ use Rattle.executor_core.specs.declared.interleave.reply.Reply.TheVariants as re
 module _ {P T : Type 0} where
   -- the world after a step, by its parts
   abbrev pub stepped : Inside P T → ℕ → Core P T (Unit {0}) → List (Event T) → List (TaskEntry P) → ℕ → ℕ → Execution T
-  stepped a accepted core log entries notices picks = record { log = log; accepted = accepted; limit = a.limit; global = core.cells.global; notices = notices; picks = picks; flag = core.flag; sleepers = core.sleepers; tasks = infos entries }
+  stepped a accepted core log entries notices picks = record { log = log; accepted = accepted; limit = a.limit; global = core.cells.global; notices = notices; picks = picks; flag = core.flag; sleepers = core.sleepers; tasks = infos entries; tickers = a.tickers.items; holder = a.holder }
 
   -- what a step left fits together, and is what its row says
   pub record Done (later : Execution T) (table : Table P T (Unit {0})) (entries : List (TaskEntry P)) (room : ℕ) (r : Reply T × Execution T) (answer : Reply T) : Type 0 where
@@ -38,21 +38,22 @@ module _ {P T : Type 0} (a : Inside P T) (sound : IsWorld (execution_of a) a.cor
   stepped_sound queues table log entries same tasks events agree =
       record {
         agree = agree;
-        notices = notices_again sound.notices refl refl refl (noticed queues same);
-        room = room_again sound.room view far _ refl refl (one_more queues) (let before = length-infos a.entries.items in let after = length-infos entries in omega arith) events;
+        notices = notices_again sound.notices refl refl refl refl refl (noticed queues same);
+        tickers = sound.tickers;
+        room = room_again sound.room view far _ refl refl (let more = one_more queues in omega arith) (let before = length-infos a.entries.items in let after = length-infos entries in omega arith) events;
       }
     where
       noticed : (q : Bool) → (q ≡ false → table.global ≡ a.core.cells.global) → (0 < cond q (a.notices + 1) a.notices) ⊎ ((table.global ≡ a.core.cells.global) × (cond q (a.notices + 1) a.notices ≡ a.notices))
       noticed true same = inl (omega arith)
       noticed false same = inr (same refl, refl)
 
-      one_more : (q : Bool) → a.picks + cond q (a.notices + 1) a.notices ≤ a.picks + a.notices + 1
+      one_more : (q : Bool) → cond q (a.notices + 1) a.notices ≤ a.notices + 1
       one_more true = omega arith
       one_more false = omega arith
 
 -- what holds of every world
 pub promises : {P T : Type 0} {w : Execution T} {table : Table P T (Unit {0})} {entries : List (TaskEntry P)} {room : ℕ} → IsWorld w table entries room → OnePlace w.log w.global → KeepsPromises w
-promises {w = w} sound one = record { one_place = one; in_order = sound.agree.order; few_polls = few_polls sound.agree; flag_law = sound.notices.flag_law; covered = sound.notices.covered }
+promises {w = w} sound one = record { one_place = one; in_order = sound.agree.order; few_polls = few_polls sound.agree; flag_law = sound.notices.flag_law; covered = sound.notices.covered; tickers = sound.tickers }
 
 module _ {P T : Type 0} (step : Step P T) (old : Execution T) where
   pub step_full : old.accepted ≡ old.limit → StepTo old step reply.LogFull old

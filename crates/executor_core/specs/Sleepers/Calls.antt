@@ -44,6 +44,9 @@ module _ {W : Type 0} where
 
 -- the places
 module _ {W : Type 0} where
+  abbrev pub after_reserve : SleeperList W → SleeperList W
+  after_reserve s = record s { places = s.places + 1 }
+
   abbrev pub after_release : SleeperList W → SleeperList W
   after_release s = record s { places = cond (has_place s) (s.places - 1) s.places }
 

@@ -2,6 +2,7 @@
 use Rattle.std.specs.Prelude.{◌≡◌, Bool, true, false, List, Option, Some, None, is_some, map}
 use Rattle.executor_core.specs.declared.interleave.entry.TaskInfo.{TaskInfo}
 use Rattle.executor_core.specs.declared.interleave.entry.TaskEntry.{TaskEntry}
+use Rattle.executor_core.specs.declared.task.values.Taken.{Taken}
 use Rattle.executor_core.specs.declared.interleave.entry.FutureOut.{FutureOut}
 use Rattle.executor_core.specs.declared.interleave.entry.FutureOut.TheVariants.{Unpolled, Polled}
 
@@ -30,3 +31,7 @@ module _ {P : Type 0} where
   PolledAgrees None to_drop = Unit {0}
   PolledAgrees (Some (Unpolled p)) to_drop = Unit {0}
   PolledAgrees (Some (Polled p)) to_drop = to_drop ≡ true
+
+  -- the entry of a task that was taken
+  abbrev pub out_entry : TaskEntry P → Taken P → TaskEntry P
+  out_entry e task = record { info = record e.info { to_drop = task.cancelled }; out = Some (Unpolled task.future) }

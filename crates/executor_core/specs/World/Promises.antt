@@ -1,10 +1,13 @@
 -- What holds of every world: of its log, and of the queue, the flag and the sleepers beside it.
-use Rattle.std.specs.Prelude.{◌≡◌, ◌≢◌, ℕ, ◌+◌, ◌<◌, ◌≤◌, nat_lt, Bool, true, false, ◌||◌, List, [], ◌∷◌, ◌++◌, length, cond}
+use Rattle.std.specs.Prelude.{◌≡◌, ◌≢◌, ℕ, ◌+◌, ◌==◌, ◌<◌, ◌≤◌, nat_lt, Bool, true, false, not, ◌||◌, List, [], ◌∷◌, ◌++◌, length, map, sum_by, count_by, Option, Some, None, is_some, slice_get, cond}
+use Rattle.std.specs.List.{list_any}
 use Rattle.std.specs.FinSet as set
 use Rattle.executor_core.specs.Numbers.{times}
 use Rattle.executor_core.specs.Sleepers.{SleeperList, is_notified}
 use Rattle.executor_core.specs.World.{Execution}
+use Rattle.executor_core.specs.World.Tickers.{is_awake, in_wake, in_store, has_ended, gave_up, notices_in, has_to_search, has_to_spend, ticker_or}
 use Rattle.executor_core.specs.World.Log.{cancelled, held, dropped, owed, outputs, given, polls, wakes}
+use Rattle.executor_core.specs.declared.interleave.ticker.Ticker.{Ticker}
 use Rattle.executor_core.specs.declared.interleave.event.Purpose.TheVariants.{ToPoll, ToDrop}
 use Rattle.executor_core.specs.declared.interleave.event.Event.{Event}
 use Rattle.executor_core.specs.declared.interleave.event.Event.TheVariants.{Took, Finished, Dropped, Got}
@@ -40,6 +43,11 @@ module _ {W : Type 0} where
   abbrev pub some_notified : SleeperList W → Bool
   some_notified sleepers = nat_lt (length sleepers.unnotified) (set.len sleepers.used)
 
+-- the one who holds the sleepers' lock, if there is one, has a notice or a search to make
+abbrev pub holder_spends : Option ℕ → List Ticker → Bool
+holder_spends None tickers = false
+holder_spends (Some k) tickers = has_to_spend (ticker_or (slice_get tickers k)).phase
+
 module _ {T : Type 0} where
   -- the numbers of all queues together
   abbrev pub all_queues : Execution T → List ℕ
@@ -49,28 +57,67 @@ module _ {T : Type 0} where
   abbrev pub floating_notices : Execution T → ℕ
   floating_notices w = w.notices
 
+  -- the notices that tickers keep, and those in their changes
+  abbrev pub kept_notices : Execution T → ℕ
+  kept_notices w = sum_by (λ t. notices_in t.phase) w.tickers
+
   -- the notices that are out, whoever has them
   abbrev pub notices_out : Execution T → ℕ
-  notices_out w = floating_notices w
+  notices_out w = floating_notices w + kept_notices w
 
-  -- somebody has still to exchange the flag or to notify a sleeper: a notice or a pick is out
+  -- a ticker has still to search
+  abbrev pub some_search : Execution T → Bool
+  some_search w = list_any (λ t. has_to_search t.phase) w.tickers
+
+  -- somebody has still to exchange the flag, to notify a sleeper or to search: a notice or a pick is out, or a search to be
+  -- made
   abbrev pub is_obliged : Execution T → Bool
-  is_obliged w = nat_lt 0 (notices_out w) || nat_lt 0 w.picks
+  is_obliged w = nat_lt 0 (notices_out w) || nat_lt 0 w.picks || some_search w
 
-  -- where the flag is true, no number is in use, or one is notified, or a pick is out
+  -- where the flag is true, no number is in use, or one is notified, or a pick is out, or the holder has something to spend
   abbrev pub FlagLaw : Execution T → Type 0
-  FlagLaw w = w.flag ≡ true → is_notified w.sleepers || nat_lt 0 w.picks ≡ true
+  FlagLaw w = w.flag ≡ true → is_notified w.sleepers || nat_lt 0 w.picks || holder_spends w.holder w.tickers ≡ true
 
   -- where the global queue is not empty and a number is in use, one is notified, or an obligation is out
   abbrev pub Covered : Execution T → Type 0
   Covered w = w.global ≢ [] → 0 < set.len w.sleepers.used → some_notified w.sleepers || is_obliged w ≡ true
 
-  -- no notice is lost; and the list of sleepers is open exactly where somebody holds them: no step makes a holder yet
+  -- no notice is lost
   pub record NoNoticeLost (w : Execution T) : Type 0 where
     pub flag_law : FlagLaw w
     pub covered : Covered w
-    pub closed : w.sleepers.is_open ≡ false
 
+-- the tie between the tickers and the list of sleepers
+-- the numbers of the tickers, 0 being that of one that is awake
+abbrev pub numbers_of : List Ticker → List ℕ
+numbers_of tickers = map (λ t. t.number) tickers
+
+-- this ticker holds the sleepers' lock
+abbrev pub holds : ℕ → Option ℕ → Bool
+holds k None = false
+holds k (Some holder) = holder == k
+
+module _ {W : Type 0} where
+  -- each number in use is one ticker's, and each place that of one which has not ended
+  pub record NumbersTied (tickers : List Ticker) (s : SleeperList W) : Type 0 where
+    pub numbers : (i : ℕ) → 0 < i → times i (numbers_of tickers) ≡ cond (set.contains s.used i) 1 0
+    pub sleeping : set.len s.used ≡ count_by (λ t. not (is_awake t)) tickers
+    pub places : s.places ≡ count_by (λ t. not (has_ended t.phase)) tickers
+    pub awake : (k : ℕ) (t : Ticker) → slice_get tickers k ≡ Some t → gave_up t.phase ≡ true → t.number ≡ 0
+    pub asleep : (k : ℕ) (t : Ticker) → slice_get tickers k ≡ Some t → in_wake t.phase ≡ true → is_awake t ≡ false
+
+-- a ticker holds the lock exactly where it has the flag to store
+abbrev pub HolderStores : Option ℕ → List Ticker → Type 0
+HolderStores holder tickers = (k : ℕ) → in_store (ticker_or (slice_get tickers k)).phase ≡ holds k holder
+
+module _ {W : Type 0} where
+  pub record TickersTied (tickers : List Ticker) (holder : Option ℕ) (s : SleeperList W) : Type 0 where
+    pub tied : NumbersTied tickers s
+    pub stores : HolderStores holder tickers
+    -- the list is open exactly where somebody holds the lock
+    pub opened : s.is_open ≡ is_some holder
+
+module _ {T : Type 0} where
   -- what holds of every world
   pub record KeepsPromises (w : Execution T) : Type 0 where
     pub one_place : OnePlace w.log (all_queues w)
@@ -78,3 +125,4 @@ module _ {T : Type 0} where
     pub few_polls : FewPolls w.log
     pub flag_law : FlagLaw w
     pub covered : Covered w
+    pub tickers : TickersTied w.tickers w.holder w.sleepers

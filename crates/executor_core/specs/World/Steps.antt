@@ -1,17 +1,20 @@
 -- Which step a world takes at a request, row by row.
-use Rattle.std.specs.Prelude.{◌≡◌, ◌≢◌, ◌⊎◌, ℕ, ◌+◌, ◌-◌, nat_lt, Bool, true, false, List, [], ◌∷◌, ◌++◌, length, Option, Some, None, cond, ◌&&◌, ◌||◌, not, slice_get, slice_set}
+use Rattle.std.specs.Prelude.{◌≡◌, ◌≢◌, ◌⊎◌, ℕ, ◌+◌, ◌-◌, nat_lt, is_some, Bool, true, false, List, [], ◌∷◌, ◌++◌, length, Option, Some, None, cond, ◌&&◌, ◌||◌, not, slice_get, slice_set}
 use Rattle.executor_core.specs.World.Log.{spawned, dropped, cancelled, held, woken, idle, outputs}
 use Rattle.std.specs.Map.{keys_of}
 use Rattle.executor_core.specs.World.{Execution}
-use Rattle.executor_core.specs.World.Promises.{floating_notices}
-use Rattle.executor_core.specs.Sleepers.Calls.{no_sleepers, last_of, all_unnotified, after_notify}
+use Rattle.executor_core.specs.World.Promises.{floating_notices, holds}
+use Rattle.executor_core.specs.Sleepers.{is_notified, is_notified_number}
+use Rattle.executor_core.specs.Sleepers.Calls.{no_sleepers, closed, last_of, all_unnotified, after_notify, after_reserve, after_release, next_number, after_insert, after_update, after_remove}
+use Rattle.executor_core.specs.World.Tickers.{at_rest, in_search, in_sleep, in_wake, has_ended, notices_in, ticker_or, is_awake, new_ticker, polled, searched, slept, rested, woke, dropped as dropped_ticker, ended, stored}
 use Rattle.executor_core.specs.declared.interleave.entry.TaskInfo.{TaskInfo}
+use Rattle.executor_core.specs.declared.interleave.ticker.Ticker.{Ticker}
 use Rattle.executor_core.specs.declared.interleave.event.Purpose.{Purpose}
 use Rattle.executor_core.specs.declared.interleave.event.Purpose.TheVariants.{ToPoll, ToDrop}
 use Rattle.executor_core.specs.declared.interleave.event.Event.{Event}
 use Rattle.executor_core.specs.declared.interleave.event.Event.TheVariants.{Spawned, Woken, Cancelled, Took, Returned, Finished, Dropped, Got}
 use Rattle.executor_core.specs.declared.interleave.request.Step.{Step}
-use Rattle.executor_core.specs.declared.interleave.request.Step.TheVariants.{Spawn, Wake, TryTick, Pend, Ready, PollHandle, Cancel, Detach, DropHandle, Dropped as DropDone, Exchange, Notify}
+use Rattle.executor_core.specs.declared.interleave.request.Step.TheVariants.{Spawn, Wake, TryTick, Pend, Ready, PollHandle, Cancel, Detach, DropHandle, Dropped as DropDone, Exchange, Notify, Tick, Poll, Search, Sleep, Yield, Remove, Store, Drop}
 use Rattle.executor_core.specs.declared.interleave.reply.Reply.{Reply}
 use Rattle.executor_core.specs.declared.interleave.reply.Reply.TheVariants as reply
 
@@ -29,7 +32,7 @@ new_info slot = record { slot = slot; has_handle = true; awaited = false; to_dro
 
 -- a world before its first step
 abbrev pub opening : {T : Type 0} → ℕ → Execution T
-opening limit = record { log = []; accepted = 0; limit = limit; global = []; notices = 0; picks = 0; flag = true; sleepers = no_sleepers; tasks = [] }
+opening limit = record { log = []; accepted = 0; limit = limit; global = []; notices = 0; picks = 0; flag = true; sleepers = no_sleepers; tasks = []; tickers = []; holder = None }
 
 -- what a task is taken for
 abbrev pub purpose_of : Bool → Purpose
@@ -87,12 +90,16 @@ module _ {T : Type 0} where
   abbrev pub take_reply : ℕ → Bool → Reply T
   take_reply n cancelled = cond cancelled (reply.Drop n) (reply.Poll n)
 
+  -- the front of the global queue is taken, before these
+  abbrev pub taking : ℕ → List ℕ → Execution T → Execution T
+  taking n rest w =
+      let cancel = cancelled n w.log in
+      logged (Took n (purpose_of cancel)) (informed n (record (info n w) { to_drop = cancel }) (record w { global = rest }))
+
   -- trytick: the front of the global queue is taken
   abbrev pub take_row : List ℕ → Execution T → Reply T × Execution T
   take_row [] w = (reply.NoTask, w)
-  take_row (n ∷ rest) w =
-      let cancel = cancelled n w.log in
-      (take_reply n cancel, noticed (logged (Took n (purpose_of cancel)) (informed n (record (info n w) { to_drop = cancel }) (record w { global = rest }))))
+  take_row (n ∷ rest) w = (take_reply n (cancelled n w.log), noticed (taking n rest w))
 
   -- where a future went back, by whether its task was queued
   abbrev pub return_reply : ℕ → Bool → Reply T
@@ -166,6 +173,90 @@ module _ {T : Type 0} where
   notify_row w =
       (cond (all_unnotified w.sleepers) (notify_reply (last_of (keys_of w.sleepers.unnotified))) reply.Nobody, record w { picks = w.picks - 1; sleepers = after_notify w.sleepers })
 
+-- the rows of the tickers
+module _ {T : Type 0} where
+  abbrev pub ticker : ℕ → Execution T → Ticker
+  ticker k w = ticker_or (slice_get w.tickers k)
+
+  -- this stands in the place of what was kept of the ticker
+  abbrev pub with_ticker : ℕ → Ticker → Execution T → Execution T
+  with_ticker k t w = record w { tickers = slice_set w.tickers k t }
+
+  -- the ticker has ended, and its place is given back
+  abbrev pub placed : Execution T → Execution T
+  placed w = record w { sleepers = after_release w.sleepers }
+
+  -- tick: a ticker with a place, at rest
+  abbrev pub tick_row : Execution T → Execution T
+  tick_row w = record w { tickers = w.tickers ++ new_ticker ∷ []; sleepers = after_reserve w.sleepers }
+
+  -- poll k
+  abbrev pub poll_row : ℕ → Execution T → Reply T × Execution T
+  poll_row k w = (reply.Done, with_ticker k (polled (ticker k w)) w)
+
+  -- search k: the front of the global queue is taken; one that is awake has ended then, another one keeps the notice
+  abbrev pub found_row : Bool → ℕ → Execution T → Execution T
+  found_row awake k w = with_ticker k (searched true (ticker k w)) (cond awake (placed (noticed w)) w)
+
+  abbrev pub search_row : ℕ → List ℕ → Execution T → Reply T × Execution T
+  search_row k [] w = (reply.NoTask, with_ticker k (searched false (ticker k w)) w)
+  search_row k (n ∷ rest) w = (take_reply n (cancelled n w.log), found_row (is_awake (ticker k w)) k (taking n rest w))
+
+  -- the lock of the sleepers is held by this ticker
+  abbrev pub held_by : ℕ → Execution T → Execution T
+  held_by k w = record w { holder = Some k }
+
+  -- sleep k of one that is awake: it gets a number
+  abbrev pub insert_row : ℕ → Execution T → Reply T × Execution T
+  insert_row k w =
+      let number = next_number w.sleepers in
+      (reply.Number number, held_by k (with_ticker k (slept number (ticker k w)) (record w { sleepers = after_insert w.sleepers tt })))
+
+  -- sleep k of one that has a number: it goes to sleep again where it was notified, and else sleeps on
+  abbrev pub update_row : ℕ → Execution T → Reply T × Execution T
+  update_row k w =
+      let number = (ticker k w).number in
+      let later = record w { sleepers = after_update w.sleepers number tt } in
+      cond (is_notified_number w.sleepers number) (reply.Again, held_by k (with_ticker k (slept number (ticker k w)) later))
+      (reply.Parked, with_ticker k (rested (ticker k w)) later)
+
+  -- sleep k
+  abbrev pub sleep_row : ℕ → Execution T → Reply T × Execution T
+  sleep_row k w = cond (is_awake (ticker k w)) (insert_row k w) (update_row k w)
+
+  -- yield k
+  abbrev pub yield_row : ℕ → Execution T → Reply T × Execution T
+  yield_row k w = (reply.Done, with_ticker k (rested (ticker k w)) w)
+
+  -- whether the number that was removed was notified
+  abbrev pub removed_reply : Bool → Reply T
+  removed_reply notified = cond notified reply.Notified reply.Unnotified
+
+  -- the ticker's number is removed, and this is kept of it
+  abbrev pub removed_row : (Bool → Ticker → Ticker) → ℕ → Execution T → Reply T × Execution T
+  removed_row change k w =
+      let number = (ticker k w).number in
+      let notified = is_notified_number w.sleepers number in
+      (removed_reply notified, held_by k (with_ticker k (change notified (ticker k w)) (record w { sleepers = after_remove w.sleepers number })))
+
+  -- remove k
+  abbrev pub remove_row : ℕ → Execution T → Reply T × Execution T
+  remove_row k w = removed_row woke k w
+
+  -- drop k: one that is awake has ended
+  abbrev pub drop_row : ℕ → Execution T → Reply T × Execution T
+  drop_row k w = cond (is_awake (ticker k w)) (reply.Awake, placed (with_ticker k (ended (ticker k w)) w)) (removed_row dropped_ticker k w)
+
+  -- a ticker that has ended gives its place back, and its notices float as one
+  abbrev pub settled : Ticker → Execution T → Execution T
+  settled before w = placed (record w { notices = cond (nat_lt 0 (notices_in before.phase)) (w.notices + 1) w.notices })
+
+  -- store k: the flag gets what the list says, and the lock is given up
+  abbrev pub store_row : ℕ → Execution T → Reply T × Execution T
+  store_row k w =
+      let later = with_ticker k (stored (ticker k w)) (record w { flag = is_notified w.sleepers; sleepers = closed w.sleepers; holder = None }) in
+      (reply.Stored (is_notified w.sleepers), cond (has_ended (stored (ticker k w)).phase) (settled (ticker k w) later) later)
+
 -- what a step does
 module _ {T : Type 0} where
   -- no task that is undropped or has its handle has this slot
@@ -177,6 +268,12 @@ module _ {T : Type 0} where
   Spawns old answer new =
       ((answer ≡ reply.OutOfMemory) × (new ≡ old))
       ⊎ ((slot : ℕ) × FreeSlot old slot × (answer ≡ reply.Task (length old.tasks)) × (new ≡ counted (spawn_row slot old)))
+
+  -- memory was refused, or there is a new ticker
+  abbrev pub Ticks : Execution T → Reply T → Execution T → Type 0
+  Ticks old answer new =
+      ((answer ≡ reply.OutOfMemory) × (new ≡ old))
+      ⊎ ((answer ≡ reply.Ticker (length old.tickers)) × (new ≡ counted (tick_row old)))
 
   abbrev pub row : Reply T × Execution T → Reply T → Execution T → Type 0
   row r answer new = (answer ≡ r.0) × (new ≡ counted r.1)
@@ -195,7 +292,15 @@ module _ {P T : Type 0} where
   enabled (DropHandle n) w = (info n w).has_handle
   enabled (DropDone n) w = held n w.log && (info n w).to_drop
   enabled Exchange w = nat_lt 0 (floating_notices w)
-  enabled Notify w = nat_lt 0 w.picks
+  enabled Notify w = nat_lt 0 w.picks && not (is_some w.holder)
+  enabled Tick w = true
+  enabled (Poll k) w = at_rest (ticker k w).phase
+  enabled (Search k word) w = in_search (ticker k w).phase
+  enabled (Sleep k) w = in_sleep (ticker k w).phase && not (is_some w.holder)
+  enabled (Yield k) w = in_sleep (ticker k w).phase
+  enabled (Remove k) w = in_wake (ticker k w).phase && not (is_some w.holder)
+  enabled (Store k) w = holds k w.holder
+  enabled (Drop k) w = at_rest (ticker k w).phase && (is_awake (ticker k w) || not (is_some w.holder))
 
   -- what an enabled step does
   abbrev pub Does : Step P T → Execution T → Reply T → Execution T → Type 0
@@ -211,6 +316,14 @@ module _ {P T : Type 0} where
   Does (DropDone n) old answer new = row (dropped_row n old) answer new
   Does Exchange old answer new = row (exchange_row old) answer new
   Does Notify old answer new = row (notify_row old) answer new
+  Does Tick old answer new = Ticks old answer new
+  Does (Poll k) old answer new = row (poll_row k old) answer new
+  Does (Search k word) old answer new = row (search_row k old.global old) answer new
+  Does (Sleep k) old answer new = row (sleep_row k old) answer new
+  Does (Yield k) old answer new = row (yield_row k old) answer new
+  Does (Remove k) old answer new = row (remove_row k old) answer new
+  Does (Store k) old answer new = row (store_row k old) answer new
+  Does (Drop k) old answer new = row (drop_row k old) answer new
 
   -- a step: refused where the log is full, else where it is not enabled, else done
   pub record StepTo (old : Execution T) (step : Step P T) (answer : Reply T) (new : Execution T) : Type 0 where

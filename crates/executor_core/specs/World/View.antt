@@ -4,7 +4,7 @@ use Rattle.executor_core.specs.Cells.{Table}
 use Rattle.executor_core.specs.World.{Execution}
 use Rattle.executor_core.specs.World.Agreement.{Agree}
 use Rattle.executor_core.specs.World.Entries.{infos}
-use Rattle.executor_core.specs.World.Promises.{NoNoticeLost, notices_out}
+use Rattle.executor_core.specs.World.Promises.{NoNoticeLost, TickersTied, notices_out}
 use Rattle.executor_core.specs.declared.interleave.entry.TaskEntry.{TaskEntry}
 use Rattle.executor_core.specs.declared.interleave.World.TheInside.{Inside}
 
@@ -20,10 +20,11 @@ module _ {T : Type 0} where
 
 module _ {P T : Type 0} where
   abbrev pub execution_of : Inside P T → Execution T
-  execution_of a = record { log = a.log.items; accepted = a.accepted; limit = a.limit; global = a.core.cells.global; notices = a.notices; picks = a.picks; flag = a.core.flag; sleepers = a.core.sleepers; tasks = infos a.entries.items }
+  execution_of a = record { log = a.log.items; accepted = a.accepted; limit = a.limit; global = a.core.cells.global; notices = a.notices; picks = a.picks; flag = a.core.flag; sleepers = a.core.sleepers; tasks = infos a.entries.items; tickers = a.tickers.items; holder = a.holder }
 
   -- what is seen, the cells, what is kept of the tasks, and the room of the log fit together
   pub record IsWorld (w : Execution T) (table : Table P T (Unit {0})) (entries : List (TaskEntry P)) (capacity : ℕ) : Type 0 where
     pub agree : Agree table w.log entries
     pub notices : NoNoticeLost w
+    pub tickers : TickersTied w.tickers w.holder w.sleepers
     pub room : HasRoom w capacity

@@ -1,6 +1,6 @@
 //! What a world answers to a step.
 ghost use Rattle.std.specs.Prelude.{◌≡◌, is_some};
-ghost use Rattle.executor_core.specs.World.Steps.{notice_reply, take_reply, return_reply, ready_reply, output_reply, end_reply, pick_reply, sleeper_reply};
+ghost use Rattle.executor_core.specs.World.Steps.{notice_reply, take_reply, return_reply, ready_reply, output_reply, end_reply, pick_reply, sleeper_reply, removed_reply};
 
 use crate::task::{EndReady, Wakeup};
 
@@ -42,6 +42,24 @@ pub enum Reply<T> {
     Sleeper(u64),
     /// Nobody was notified.
     Nobody,
+    /// The ticker of this number was made.
+    Ticker(usize),
+    /// It was done.
+    Done,
+    /// The ticker went to sleep under this number.
+    Number(usize),
+    /// The ticker, which was notified, went to sleep again.
+    Again,
+    /// The ticker sleeps on, as nobody notified it.
+    Parked,
+    /// The ticker's number was removed, and it was notified.
+    Notified,
+    /// The ticker's number was removed, and it was not notified.
+    Unnotified,
+    /// The flag has this value from now on.
+    Stored(bool),
+    /// The ticker that was dropped had no number.
+    Awake,
     /// Refused: the world took as many steps as it may.
     LogFull,
     /// Refused: the step is not enabled.
@@ -143,5 +161,16 @@ pub(crate) fn reply_of_sleeper<T>(notified: bool, last: Option<usize>) -> Reply<
     match last {
         Some(number) if notified => Reply::Sleeper(number as u64),
         _ => Reply::Nobody,
+    }
+}
+
+// The reply that says whether a number that was removed was notified.
+pub(crate) fn reply_of_removal<T>(notified: bool) -> Reply<T>
+    ensures { result ≡ removed_reply notified }
+{
+    if notified {
+        Reply::Notified
+    } else {
+        Reply::Unnotified
     }
 }

@@ -27,4 +27,21 @@ pub enum Step<P, T> {
     Exchange,
     /// A pick is spent: a sleeper is notified.
     Notify,
+    /// A ticker is made, which is at rest.
+    Tick,
+    /// This ticker is polled.
+    Poll(usize),
+    /// This ticker searches for a task. The word says where a walk over local queues starts, which
+    /// a ticker without a local queue does not make.
+    Search(usize, u64),
+    /// This ticker goes to sleep.
+    Sleep(usize),
+    /// This ticker found no task, and is to be polled again without going to sleep.
+    Yield(usize),
+    /// This ticker found a task, and its number is removed.
+    Remove(usize),
+    /// This ticker changed the list of sleepers, and stores the flag.
+    Store(usize),
+    /// This ticker is dropped.
+    Drop(usize),
 }

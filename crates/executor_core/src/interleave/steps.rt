@@ -7,6 +7,7 @@ pub(crate) mod handles;
 pub(crate) mod notices;
 pub(crate) mod polls;
 pub(crate) mod tasks;
+pub(crate) mod tickers;
 
 use crate::interleave::entry::{TaskEntry, TaskInfo};
 

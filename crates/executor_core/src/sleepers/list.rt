@@ -4,7 +4,7 @@ ghost use Rattle.std.specs.FinSet as set;
 ghost use Rattle.std.specs.Map.{keys_of, lookup, remove_entry, set_value};
 ghost use Rattle.std.specs.Vec.{vec_capacity};
 ghost use Rattle.executor_core.specs.Sleepers.{SleeperLaw, is_notified, notified_number};
-ghost use Rattle.executor_core.specs.Sleepers.Calls.{last_of, all_but_last, no_sleepers, closed, change_of, after_release, after_insert, insert_answer, after_update, update_answer, after_remove, remove_answer, after_notify, notify_answer};
+ghost use Rattle.executor_core.specs.Sleepers.Calls.{last_of, all_but_last, no_sleepers, closed, change_of, after_reserve, after_release, after_insert, insert_answer, after_update, update_answer, after_remove, remove_answer, after_notify, notify_answer};
 
 use crate::task::error::OutOfMemory;
 use crate::task::values::{Again, Change, Notice, Pick, Wakeup};
@@ -131,7 +131,7 @@ impl<W> Sleepers<W> {
     ///
     /// `OutOfMemory` where a growth was refused. Nothing else changed.
     pub fn reserve(&mut self) -> Result<(), OutOfMemory>
-        ensures ok { OnOk result (self.new ≡ record self.old { places = self.old.places + 1 }) }
+        ensures ok { OnOk result (self.new ≡ after_reserve self.old) }
         ensures refused { OnErr result (self.new ≡ self.old) }
         ensures law { SleeperLaw self.new }
     {
@@ -290,6 +290,13 @@ impl<W> Sleepers<W> {
             Some(pair) => Some(pair.0),
             None => None,
         }
+    }
+
+    // The law of the numbers, which every call keeps. It does nothing.
+    pub(crate) fn law_holds(&self)
+        ensures { SleeperLaw self.now }
+    {
+        self.is_notified();
     }
 
     // What the change is about, with what the flag is to say of the list as it is now.

@@ -51,6 +51,17 @@ impl<X> Change<X> {
     {
         self.notified
     }
+
+    // A world has the open list of the sleepers in place of the change.
+    pub(crate) fn into_carried(self) -> X
+        ensures { result ≡ self.carried }
+    {
+        let Change {
+            notified: _,
+            carried,
+        } = self;
+        carried
+    }
 }
 
 /// A waker that is still to be woken.

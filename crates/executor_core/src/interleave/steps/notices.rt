@@ -1,5 +1,5 @@
 //! The steps of those who have a notice or a pick to spend, and the counts of both.
-ghost use Rattle.std.specs.Prelude.{◌≡◌, ◌≢◌, ◌+◌, ◌<◌, cond, is_some};
+ghost use Rattle.std.specs.Prelude.{◌≡◌, ◌≢◌, ◌+◌, ◌<◌, ◌&&◌, nat_lt, not, true, cond, is_some};
 ghost use Rattle.std.specs.Map.{keys_of};
 ghost use Rattle.executor_core.specs.Sleepers.{SleeperLaw};
 ghost use Rattle.executor_core.specs.Sleepers.Calls.{last_of};
@@ -10,6 +10,16 @@ use crate::interleave::World;
 use crate::interleave::reply::{Reply, has_awaiter, reply_of_pick, reply_of_sleeper};
 use crate::sleepers::Sleepers;
 use crate::task::{Notice, Pick};
+
+// Counts one more, where this holds.
+pub(crate) fn count_if(count: &mut u32, holds: bool)
+    requires { count.old < u32.MAX }
+    ensures { count.new ≡ cond holds (count.old + 1) count.old }
+{
+    if holds {
+        *count += 1;
+    }
+}
 
 // Counts the notice, if there is one, and says whether there was.
 pub(crate) fn keep_notice(notices: &mut u32, notice: Option<Notice>) -> bool
@@ -65,7 +75,7 @@ impl<P: Drop, T: Copy> World<P, T> {
 
     pub(crate) fn notify(&mut self) -> Reply<T>
         requires room { self.old.accepted ≢ self.old.limit }
-        requires enabled { 0 < self.old.picks }
+        requires enabled { (nat_lt 0 self.old.picks && not (is_some self.old.holder)) ≡ true }
         ensures { row (notify_row self.old) result self.new }
     {
         self.accepted += 1;

@@ -1,7 +1,9 @@
 //! The steps of those who take tasks and poll them.
-ghost use Rattle.std.specs.Prelude.{◌≡◌, ◌≢◌, ◌&&◌, not, true};
+ghost use Rattle.std.specs.Prelude.{◌≡◌, ◌≢◌, ◌<◌, ◌&&◌, ◌++◌, ◌∷◌, [], not, true, Some, length, slice_get, slice_set};
+ghost use Rattle.std.specs.Vec.{vec_capacity};
+ghost use Rattle.executor_core.specs.World.Entries.{out_entry};
 ghost use Rattle.executor_core.specs.World.Log.{held};
-ghost use Rattle.executor_core.specs.World.Steps.{info, row, take_row, pend_row, ready_row, dropped_row};
+ghost use Rattle.executor_core.specs.World.Steps.{info, purpose_of, take_reply, row, take_row, pend_row, ready_row, dropped_row};
 
 use crate::interleave::World;
 use crate::interleave::entry::{FutureOut, TaskEntry, set_entry, take_unpolled};
@@ -12,30 +14,46 @@ use crate::interleave::steps::begin;
 use crate::interleave::steps::notices::keep_notice;
 use crate::task::{EndPending, Held, Taken};
 
+// Logs that the task was taken, and keeps its future as one that is out.
+pub(crate) fn put_out<P: Drop, T: Copy>(
+    entries: &mut Vec<TaskEntry<P>>,
+    log: &mut Vec<Event<T>>,
+    taken: Taken<P>,
+) -> Reply<T>
+    requires spawned { taken.id.number < length entries.old.items }
+    requires room { length log.old.items < vec_capacity log.old }
+    ensures entries { (e : TaskEntry P) → slice_get entries.old.items taken.id.number ≡ Some e
+        → entries.new.items ≡ slice_set entries.old.items taken.id.number (out_entry e taken) }
+    ensures log { log.new.items ≡ log.old.items ++ Event.Took taken.id.number (purpose_of taken.cancelled) ∷ [] }
+    ensures capacity { vec_capacity log.new ≡ vec_capacity log.old }
+    ensures reply { result ≡ take_reply taken.id.number taken.cancelled }
+{
+    let Taken {
+        id,
+        future,
+        cancelled,
+        held,
+    } = taken;
+    let Held { id: _, to_drop: _ } = held;
+    let n = id.number;
+    let info = entries[n as usize].info.with_to_drop(cancelled);
+    let out = Some(FutureOut::Unpolled(future));
+    set_entry(entries, n, TaskEntry { info, out });
+    log.push_reserved(Event::Took(n, Purpose::of(cancelled)));
+    reply_of_take(n, cancelled)
+}
+
 impl<P: Drop, T: Copy> World<P, T> {
     pub(crate) fn try_tick(&mut self) -> Reply<T>
         requires room { self.old.accepted ≢ self.old.limit }
         ensures { row (take_row self.old.global self.old) result self.new }
     {
+        self.accepted += 1;
         let Some((taken, notice)) = self.core.take_global(None) else {
-            self.accepted += 1;
             return Reply::NoTask;
         };
-        let Taken {
-            id,
-            future,
-            cancelled,
-            held,
-        } = taken;
-        let Held { id: _, to_drop: _ } = held;
-        let n = id.number;
-        let info = begin(&mut self.accepted, &self.entries, n).with_to_drop(cancelled);
-        let out = Some(FutureOut::Unpolled(future));
-        set_entry(&mut self.entries, n, TaskEntry { info, out });
         keep_notice(&mut self.notices, Some(notice));
-        self.log
-            .push_reserved(Event::Took(n, Purpose::of(cancelled)));
-        reply_of_take(n, cancelled)
+        put_out(&mut self.entries, &mut self.log, taken)
     }
 
     pub(crate) fn pend(&mut self, n: u64) -> Reply<T>

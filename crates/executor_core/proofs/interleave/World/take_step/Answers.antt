@@ -76,7 +76,55 @@ pub returns-in-Exchange : goal.returns-in-Exchange
 returns-in-Exchange g c = step_done _ _ _ c.in-Exchange.is _ _ (subst (λ w. w.accepted ≢ w.limit) c.self.view_is c.if-self.false) (sym c.is_enabled.ensures ∙ c.if-not-is_enabled.false) c.exchange.ensures
 
 pub notify-requires : goal.notify-requires
-notify-requires g c = record { room = (subst (λ w. w.accepted ≢ w.limit) c.self.view_is c.if-self.false); enabled = ltb-true _ _ (step_enabled _ _ c.in-Notify.is (sym c.is_enabled.ensures ∙ c.if-not-is_enabled.false)) }
+notify-requires g c = record { room = (subst (λ w. w.accepted ≢ w.limit) c.self.view_is c.if-self.false); enabled = step_enabled _ _ c.in-Notify.is (sym c.is_enabled.ensures ∙ c.if-not-is_enabled.false) }
 
 pub returns-in-Notify : goal.returns-in-Notify
 returns-in-Notify g c = step_done _ _ _ c.in-Notify.is _ _ (subst (λ w. w.accepted ≢ w.limit) c.self.view_is c.if-self.false) (sym c.is_enabled.ensures ∙ c.if-not-is_enabled.false) c.notify.ensures
+
+pub tick-requires : goal.tick-requires
+tick-requires g c = record { room = (subst (λ w. w.accepted ≢ w.limit) c.self.view_is c.if-self.false) }
+
+pub returns-in-Tick : goal.returns-in-Tick
+returns-in-Tick g c = step_done _ _ _ c.in-Tick.is _ _ (subst (λ w. w.accepted ≢ w.limit) c.self.view_is c.if-self.false) (sym c.is_enabled.ensures ∙ c.if-not-is_enabled.false) c.tick.ensures
+
+pub poll-requires : goal.poll-requires
+poll-requires g c = record { room = (subst (λ w. w.accepted ≢ w.limit) c.self.view_is c.if-self.false); enabled = step_enabled _ _ c.in-Poll.is (sym c.is_enabled.ensures ∙ c.if-not-is_enabled.false) }
+
+pub returns-in-Poll : goal.returns-in-Poll
+returns-in-Poll g c = step_done _ _ _ c.in-Poll.is _ _ (subst (λ w. w.accepted ≢ w.limit) c.self.view_is c.if-self.false) (sym c.is_enabled.ensures ∙ c.if-not-is_enabled.false) c.poll.ensures
+
+pub search-requires : goal.search-requires
+search-requires g c = record { room = (subst (λ w. w.accepted ≢ w.limit) c.self.view_is c.if-self.false); enabled = step_enabled _ _ c.in-Search.is (sym c.is_enabled.ensures ∙ c.if-not-is_enabled.false) }
+
+pub returns-in-Search : goal.returns-in-Search
+returns-in-Search g c = step_done _ _ _ c.in-Search.is _ _ (subst (λ w. w.accepted ≢ w.limit) c.self.view_is c.if-self.false) (sym c.is_enabled.ensures ∙ c.if-not-is_enabled.false) c.search.ensures
+
+pub sleep-requires : goal.sleep-requires
+sleep-requires g c = record { room = (subst (λ w. w.accepted ≢ w.limit) c.self.view_is c.if-self.false); enabled = step_enabled _ _ c.in-Sleep.is (sym c.is_enabled.ensures ∙ c.if-not-is_enabled.false) }
+
+pub returns-in-Sleep : goal.returns-in-Sleep
+returns-in-Sleep g c = step_done _ _ _ c.in-Sleep.is _ _ (subst (λ w. w.accepted ≢ w.limit) c.self.view_is c.if-self.false) (sym c.is_enabled.ensures ∙ c.if-not-is_enabled.false) c.sleep.ensures
+
+pub yield_now-requires : goal.yield_now-requires
+yield_now-requires g c = record { room = (subst (λ w. w.accepted ≢ w.limit) c.self.view_is c.if-self.false); enabled = step_enabled _ _ c.in-Yield.is (sym c.is_enabled.ensures ∙ c.if-not-is_enabled.false) }
+
+pub returns-in-Yield : goal.returns-in-Yield
+returns-in-Yield g c = step_done _ _ _ c.in-Yield.is _ _ (subst (λ w. w.accepted ≢ w.limit) c.self.view_is c.if-self.false) (sym c.is_enabled.ensures ∙ c.if-not-is_enabled.false) c.yield_now.ensures
+
+pub remove-requires : goal.remove-requires
+remove-requires g c = record { room = (subst (λ w. w.accepted ≢ w.limit) c.self.view_is c.if-self.false); enabled = step_enabled _ _ c.in-Remove.is (sym c.is_enabled.ensures ∙ c.if-not-is_enabled.false) }
+
+pub returns-in-Remove : goal.returns-in-Remove
+returns-in-Remove g c = step_done _ _ _ c.in-Remove.is _ _ (subst (λ w. w.accepted ≢ w.limit) c.self.view_is c.if-self.false) (sym c.is_enabled.ensures ∙ c.if-not-is_enabled.false) c.remove.ensures
+
+pub store-requires : goal.store-requires
+store-requires g c = record { room = (subst (λ w. w.accepted ≢ w.limit) c.self.view_is c.if-self.false); enabled = step_enabled _ _ c.in-Store.is (sym c.is_enabled.ensures ∙ c.if-not-is_enabled.false) }
+
+pub returns-in-Store : goal.returns-in-Store
+returns-in-Store g c = step_done _ _ _ c.in-Store.is _ _ (subst (λ w. w.accepted ≢ w.limit) c.self.view_is c.if-self.false) (sym c.is_enabled.ensures ∙ c.if-not-is_enabled.false) c.store.ensures
+
+pub drop_ticker-requires : goal.drop_ticker-requires
+drop_ticker-requires g c = record { room = (subst (λ w. w.accepted ≢ w.limit) c.self.view_is c.if-self.false); enabled = step_enabled _ _ c.in-Drop.is (sym c.is_enabled.ensures ∙ c.if-not-is_enabled.false) }
+
+pub returns-in-Drop : goal.returns-in-Drop
+returns-in-Drop g c = step_done _ _ _ c.in-Drop.is _ _ (subst (λ w. w.accepted ≢ w.limit) c.self.view_is c.if-self.false) (sym c.is_enabled.ensures ∙ c.if-not-is_enabled.false) c.drop_ticker.ensures

@@ -1,0 +1,12 @@
+use Rattle.executor_core.proofs.World.Room.{count_fits}
+use Rattle.executor_core.proofs.World.TickerSteps.{poll_done}
+use Rattle.executor_core.proofs.interleave.World.poll.Goals as goal
+
+pub overflow_add-self : goal.overflow_add-self
+overflow_add-self g c = count_fits c.self.invariant.room c.self.view_is c.requires.room
+
+pub invariant_of-self : goal.invariant_of-self
+invariant_of-self g c = (poll_done c.self.inside c.self.invariant c.self.view_is c.requires.room c.args.k c.requires.enabled c.ticker_at-ticker.ensures c.polled.ensures c.set_ticker.ensures).sound
+
+pub returns : goal.returns
+returns g c = (poll_done c.self.inside c.self.invariant c.self.view_is c.requires.room c.args.k c.requires.enabled c.ticker_at-ticker.ensures c.polled.ensures c.set_ticker.ensures).does

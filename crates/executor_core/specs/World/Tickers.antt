@@ -1,0 +1,104 @@
+-- A ticker's own part of each of its steps, and what it has to spend.
+use Rattle.std.specs.Prelude.{ℕ, ◌+◌, ◌==◌, nat_lt, Bool, true, false, ◌||◌, Option, Some, None, cond}
+use Rattle.executor_core.specs.declared.interleave.ticker.ListChange.TheVariants.{Slept, Woke, Dropped}
+use Rattle.executor_core.specs.declared.interleave.ticker.Phase.{Phase}
+use Rattle.executor_core.specs.declared.interleave.ticker.Phase.TheVariants.{Rest, Search, Sleep, Wake, Store, Ended}
+use Rattle.executor_core.specs.declared.interleave.ticker.Ticker.{Ticker}
+
+-- the phases
+abbrev pub at_rest : Phase → Bool
+at_rest Rest = true
+at_rest _ = false
+
+abbrev pub in_search : Phase → Bool
+in_search Search = true
+in_search _ = false
+
+abbrev pub in_sleep : Phase → Bool
+in_sleep Sleep = true
+in_sleep _ = false
+
+abbrev pub in_wake : Phase → Bool
+in_wake Wake = true
+in_wake _ = false
+
+abbrev pub in_store : Phase → Bool
+in_store (Store _) = true
+in_store _ = false
+
+abbrev pub has_ended : Phase → Bool
+has_ended Ended = true
+has_ended _ = false
+
+-- its number was removed for good
+abbrev pub gave_up : Phase → Bool
+gave_up (Store (Woke _)) = true
+gave_up (Store (Dropped _)) = true
+gave_up Ended = true
+gave_up _ = false
+
+-- the notices that it keeps, and those in its change
+abbrev pub notices_in : Phase → ℕ
+notices_in Wake = 1
+notices_in (Store (Woke notified)) = 1 + cond notified 1 0
+notices_in (Store (Dropped notified)) = cond notified 1 0
+notices_in _ = 0
+
+-- it has still to search: an `Again` stands in its change, or is out of it
+abbrev pub has_to_search : Phase → Bool
+has_to_search Search = true
+has_to_search (Store Slept) = true
+has_to_search _ = false
+
+-- it has a notice, or a search to make
+abbrev pub has_to_spend : Phase → Bool
+has_to_spend phase = nat_lt 0 (notices_in phase) || has_to_search phase
+
+-- what is kept of a ticker, and of one that was not made
+abbrev pub ticker_or : Option Ticker → Ticker
+ticker_or None = record { phase = Ended; number = 0 }
+ticker_or (Some t) = t
+
+-- one that was just made
+abbrev pub new_ticker : Ticker
+new_ticker = record { phase = Rest; number = 0 }
+
+-- it has no number
+abbrev pub is_awake : Ticker → Bool
+is_awake t = t.number == 0
+
+-- poll: it has to search
+abbrev pub polled : Ticker → Ticker
+polled t = record t { phase = Search }
+
+-- search, by whether a task was found: one that is awake has ended then, another one has to remove its number
+abbrev pub searched : Bool → Ticker → Ticker
+searched found t = record t { phase = cond found (cond (is_awake t) Ended Wake) Sleep }
+
+-- sleep: it stands at the list's end under this number
+abbrev pub slept : ℕ → Ticker → Ticker
+slept number t = record { phase = Store Slept; number = number }
+
+-- sleep where it stands in the list already, or yield
+abbrev pub rested : Ticker → Ticker
+rested t = record t { phase = Rest }
+
+-- remove, by whether the number was notified
+abbrev pub woke : Bool → Ticker → Ticker
+woke notified t = record { phase = Store (Woke notified); number = 0 }
+
+-- drop of one that has a number, by whether the number was notified
+abbrev pub dropped : Bool → Ticker → Ticker
+dropped notified t = record { phase = Store (Dropped notified); number = 0 }
+
+-- drop of one that is awake
+abbrev pub ended : Ticker → Ticker
+ended t = record t { phase = Ended }
+
+-- store: one that went to sleep searches once more, another one has ended
+abbrev pub after_store : Phase → Phase
+after_store (Store Slept) = Search
+after_store _ = Ended
+
+abbrev pub stored : Ticker → Ticker
+stored t = record t { phase = after_store t.phase }

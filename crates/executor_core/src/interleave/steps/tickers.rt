@@ -1,0 +1,226 @@
+//! The steps of the tickers.
+//!
+//! A ticker's step is one call on the tasks or one on the sleepers. What a change of the sleepers'
+//! list carries stands in the ticker's phase until the store. The list is not changed in between,
+//! since the ticker holds it, so the flag that is stored is that of the change.
+ghost use Rattle.std.specs.Prelude.{◌≡◌, ◌≢◌, ◌&&◌, ◌||◌, true, false, not, is_some};
+ghost use Rattle.executor_core.specs.Sleepers.{SleeperLaw, is_notified_number};
+ghost use Rattle.executor_core.specs.Sleepers.Calls.{after_remove};
+ghost use Rattle.executor_core.specs.World.Promises.{holds};
+ghost use Rattle.executor_core.specs.World.Tickers.{at_rest, in_search, in_sleep, in_wake, is_awake};
+ghost use Rattle.executor_core.specs.World.Steps.{ticker, row, Ticks, poll_row, search_row, sleep_row, insert_row, update_row, yield_row, remove_row, store_row, drop_row};
+
+use crate::interleave::World;
+use crate::interleave::reply::{Reply, reply_of_removal};
+use crate::interleave::steps::notices::{count_if, keep_notice};
+use crate::interleave::steps::polls::put_out;
+use crate::interleave::ticker::{Ticker, set_ticker, ticker_at};
+use crate::plain_core::Core;
+use crate::sleepers::{Removed, Update};
+use crate::task::Change;
+
+// Takes a sleeper out, and says whether it was notified.
+fn remove_number<P, T>(core: &mut Core<P, T, ()>, number: usize) -> bool
+    requires { core.old.sleepers.is_open ≡ false }
+    ensures state { core.new ≡ record core.old { sleepers = after_remove core.old.sleepers number } }
+    ensures notified { result ≡ is_notified_number core.old.sleepers number }
+    ensures law { SleeperLaw core.old.sleepers }
+{
+    core.sleepers.law_holds();
+    let Removed { notice, waker: _ } = core.remove(number).into_carried();
+    match notice {
+        Some(notice) => {
+            notice.keep();
+            true
+        }
+        None => false,
+    }
+}
+
+impl<P: Drop, T: Copy> World<P, T> {
+    pub(crate) fn tick(&mut self) -> Reply<T>
+        requires room { self.old.accepted ≢ self.old.limit }
+        ensures { Ticks self.old result self.new }
+    {
+        if self.tickers.try_reserve(1).is_err() {
+            return Reply::OutOfMemory;
+        }
+        if self.core.reserve().is_err() {
+            return Reply::OutOfMemory;
+        }
+        let k = self.tickers.len();
+        self.accepted += 1;
+        self.tickers.push_reserved(Ticker::new());
+        Reply::Ticker(k)
+    }
+
+    pub(crate) fn poll(&mut self, k: usize) -> Reply<T>
+        requires room { self.old.accepted ≢ self.old.limit }
+        requires enabled { at_rest (ticker k self.old).phase ≡ true }
+        ensures { row (poll_row k self.old) result self.new }
+    {
+        self.accepted += 1;
+        let ticker = ticker_at(&self.tickers, k);
+        set_ticker(&mut self.tickers, k, ticker.polled());
+        Reply::Done
+    }
+
+    pub(crate) fn search(&mut self, k: usize) -> Reply<T>
+        requires room { self.old.accepted ≢ self.old.limit }
+        requires enabled { in_search (ticker k self.old).phase ≡ true }
+        ensures { row (search_row k self.old.global self.old) result self.new }
+    {
+        self.accepted += 1;
+        let ticker = ticker_at(&self.tickers, k);
+        let Some((taken, notice)) = self.core.take_global(None) else {
+            set_ticker(&mut self.tickers, k, ticker.searched(false));
+            return Reply::NoTask;
+        };
+        set_ticker(&mut self.tickers, k, ticker.searched(true));
+        let reply = put_out(&mut self.entries, &mut self.log, taken);
+        if !ticker.is_awake() {
+            // Its phase says that it keeps the notice.
+            notice.keep();
+            return reply;
+        }
+        keep_notice(&mut self.notices, Some(notice));
+        self.core.release();
+        reply
+    }
+
+    pub(crate) fn sleep(&mut self, k: usize) -> Reply<T>
+        requires room { self.old.accepted ≢ self.old.limit }
+        requires enabled { (in_sleep (ticker k self.old).phase && not (is_some self.old.holder)) ≡ true }
+        ensures { row (sleep_row k self.old) result self.new }
+    {
+        if ticker_at(&self.tickers, k).is_awake() {
+            self.insert(k)
+        } else {
+            self.update(k)
+        }
+    }
+
+    fn insert(&mut self, k: usize) -> Reply<T>
+        requires room { self.old.accepted ≢ self.old.limit }
+        requires enabled { (in_sleep (ticker k self.old).phase && not (is_some self.old.holder)) ≡ true }
+        requires awake { is_awake (ticker k self.old) ≡ true }
+        ensures { row (insert_row k self.old) result self.new }
+    {
+        self.accepted += 1;
+        let ticker = ticker_at(&self.tickers, k);
+        self.core.sleepers.law_holds();
+        let Ok((number, change)) = self.core.insert(()) else {
+            unreachable!()
+        };
+        change.into_carried().spend();
+        set_ticker(&mut self.tickers, k, ticker.slept(number));
+        self.holder = Some(k);
+        Reply::Number(number)
+    }
+
+    fn update(&mut self, k: usize) -> Reply<T>
+        requires room { self.old.accepted ≢ self.old.limit }
+        requires enabled { (in_sleep (ticker k self.old).phase && not (is_some self.old.holder)) ≡ true }
+        requires asleep { is_awake (ticker k self.old) ≡ false }
+        ensures { row (update_row k self.old) result self.new }
+    {
+        self.accepted += 1;
+        let ticker = ticker_at(&self.tickers, k);
+        match self.core.update(ticker.number, ()) {
+            Update::Asleep(()) => {
+                set_ticker(&mut self.tickers, k, ticker.rested());
+                Reply::Parked
+            }
+            Update::WasNotified(change) => {
+                change.into_carried().spend();
+                set_ticker(&mut self.tickers, k, ticker.slept(ticker.number));
+                self.holder = Some(k);
+                Reply::Again
+            }
+            Update::Unknown(()) => unreachable!(),
+        }
+    }
+
+    pub(crate) fn yield_now(&mut self, k: usize) -> Reply<T>
+        requires room { self.old.accepted ≢ self.old.limit }
+        requires enabled { in_sleep (ticker k self.old).phase ≡ true }
+        ensures { row (yield_row k self.old) result self.new }
+    {
+        self.accepted += 1;
+        let ticker = ticker_at(&self.tickers, k);
+        set_ticker(&mut self.tickers, k, ticker.rested());
+        Reply::Done
+    }
+
+    pub(crate) fn remove(&mut self, k: usize) -> Reply<T>
+        requires room { self.old.accepted ≢ self.old.limit }
+        requires enabled { (in_wake (ticker k self.old).phase && not (is_some self.old.holder)) ≡ true }
+        ensures { row (remove_row k self.old) result self.new }
+    {
+        self.accepted += 1;
+        let ticker = ticker_at(&self.tickers, k);
+        let notified = remove_number(&mut self.core, ticker.number);
+        set_ticker(&mut self.tickers, k, ticker.woke(notified));
+        self.holder = Some(k);
+        reply_of_removal(notified)
+    }
+
+    pub(crate) fn store(&mut self, k: usize) -> Reply<T>
+        requires room { self.old.accepted ≢ self.old.limit }
+        requires enabled { holds k self.old.holder ≡ true }
+        ensures { row (store_row k self.old) result self.new }
+    {
+        self.accepted += 1;
+        let ticker = ticker_at(&self.tickers, k);
+        let notified = self.core.sleepers.is_notified();
+        let carried = ();
+        self.core.store(Change { notified, carried });
+        self.holder = None;
+        set_ticker(&mut self.tickers, k, ticker.stored());
+        if !ticker.stored().phase.has_ended() {
+            return Reply::Stored(notified);
+        }
+        count_if(&mut self.notices, ticker.phase.notices() > 0);
+        self.core.release();
+        Reply::Stored(notified)
+    }
+
+    pub(crate) fn drop_ticker(&mut self, k: usize) -> Reply<T>
+        requires room { self.old.accepted ≢ self.old.limit }
+        requires enabled { (at_rest (ticker k self.old).phase && (is_awake (ticker k self.old) || not (is_some self.old.holder))) ≡ true }
+        ensures { row (drop_row k self.old) result self.new }
+    {
+        if ticker_at(&self.tickers, k).is_awake() {
+            self.drop_awake(k)
+        } else {
+            self.drop_asleep(k)
+        }
+    }
+
+    fn drop_awake(&mut self, k: usize) -> Reply<T>
+        requires room { self.old.accepted ≢ self.old.limit }
+        requires enabled { at_rest (ticker k self.old).phase ≡ true }
+        requires awake { is_awake (ticker k self.old) ≡ true }
+        ensures { row (drop_row k self.old) result self.new }
+    {
+        self.accepted += 1;
+        let ticker = ticker_at(&self.tickers, k);
+        set_ticker(&mut self.tickers, k, ticker.ended());
+        self.core.release();
+        Reply::Awake
+    }
+
+    fn drop_asleep(&mut self, k: usize) -> Reply<T>
+        requires room { self.old.accepted ≢ self.old.limit }
+        requires enabled { (at_rest (ticker k self.old).phase && not (is_some self.old.holder)) ≡ true }
+        requires asleep { is_awake (ticker k self.old) ≡ false }
+        ensures { row (drop_row k self.old) result self.new }
+    {
+        self.accepted += 1;
+        let ticker = ticker_at(&self.tickers, k);
+        let notified = remove_number(&mut self.core, ticker.number);
+        set_ticker(&mut self.tickers, k, ticker.dropped(notified));
+        self.holder = Some(k);
+        reply_of_removal(notified)
+    }
+}

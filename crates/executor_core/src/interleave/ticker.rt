@@ -1,0 +1,202 @@
+//! What a world keeps of each ticker: which of its steps comes next, and the number under which it
+//! sleeps.
+//!
+//! A ticker searches for a task. While it finds none it goes to sleep, and searches once more
+//! before it rests. Where it finds one it removes its number, which it has where it slept before.
+//!
+//! | phase | the next step |
+//! |---|---|
+//! | `Rest` | a poll, or its drop |
+//! | `Search` | a search |
+//! | `Sleep` | going to sleep, or a yield |
+//! | `Wake` | the removal of its number |
+//! | `Store` | the store of the flag |
+//! | `Ended` | none |
+
+ghost use Rattle.std.specs.Prelude.{◌≡◌, nat_lt, slice_get, slice_set};
+ghost use Rattle.executor_core.specs.World.Tickers.{is_awake, has_ended, notices_in, ticker_or, new_ticker, polled, searched, slept, rested, woke, dropped, ended, stored};
+
+/// Which step of a ticker comes next.
+#[derive(Debug, Clone, Copy, PartialEq)]
+pub enum Phase {
+    /// It waits to be polled or dropped.
+    Rest,
+    /// It has still to search for a task.
+    Search,
+    /// It found no task, and has still to go to sleep, or to yield.
+    Sleep,
+    /// It found a task while it has a number, and has still to remove that. It keeps the notice of
+    /// the task.
+    Wake,
+    /// It changed the list of sleepers, and has still to store the flag.
+    Store(ListChange),
+    /// It found a task and is awake, or was dropped.
+    Ended,
+}
+
+/// How a ticker changed the list of sleepers, and what it has with the change.
+#[derive(Debug, Clone, Copy, PartialEq)]
+pub enum ListChange {
+    /// It went to sleep. The change carries an `Again`.
+    Slept,
+    /// It found a task, and its number is removed. It keeps the notice of the task, and the change
+    /// carries another one where the number was notified.
+    Woke { notified: bool },
+    /// It was dropped, and its number is removed. The change carries a notice where the number was
+    /// notified.
+    Dropped { notified: bool },
+}
+
+/// What a world keeps of a ticker.
+#[derive(Debug, Clone, Copy, PartialEq)]
+pub struct Ticker {
+    /// Which of its steps comes next.
+    pub(crate) phase: Phase,
+    /// The number under which it sleeps, or 0 where it is awake.
+    pub(crate) number: usize,
+}
+
+impl Phase {
+    // How many notices the ticker keeps, with those in its change.
+    pub(crate) fn notices(self) -> u32
+        ensures { result ≡ notices_in self }
+    {
+        match self {
+            Phase::Wake => 1,
+            Phase::Store(ListChange::Woke { notified }) => 1 + u32::from(notified),
+            Phase::Store(ListChange::Dropped { notified }) => u32::from(notified),
+            _ => 0,
+        }
+    }
+
+    // Whether the ticker takes no step any more.
+    pub(crate) fn has_ended(self) -> bool
+        ensures { result ≡ has_ended self }
+    {
+        matches!(self, Phase::Ended)
+    }
+}
+
+impl Ticker {
+    // One that was just made.
+    pub(crate) fn new() -> Ticker
+        ensures { result ≡ new_ticker }
+    {
+        Ticker {
+            phase: Phase::Rest,
+            number: 0,
+        }
+    }
+
+    // Whether it has no number.
+    pub(crate) fn is_awake(self) -> bool
+        ensures { result ≡ is_awake self }
+    {
+        self.number == 0
+    }
+
+    // The same after a poll.
+    pub(crate) fn polled(self) -> Ticker
+        ensures { result ≡ polled self }
+    {
+        Ticker {
+            phase: Phase::Search,
+            ..self
+        }
+    }
+
+    // The same after a search, by whether it found a task.
+    pub(crate) fn searched(self, found: bool) -> Ticker
+        ensures { result ≡ searched found self }
+    {
+        let phase = match (found, self.is_awake()) {
+            (false, _) => Phase::Sleep,
+            (true, true) => Phase::Ended,
+            (true, false) => Phase::Wake,
+        };
+        Ticker { phase, ..self }
+    }
+
+    // The same after it went to sleep under this number.
+    pub(crate) fn slept(self, number: usize) -> Ticker
+        ensures { result ≡ slept number self }
+    {
+        Ticker {
+            phase: Phase::Store(ListChange::Slept),
+            number,
+        }
+    }
+
+    // The same at rest.
+    pub(crate) fn rested(self) -> Ticker
+        ensures { result ≡ rested self }
+    {
+        Ticker {
+            phase: Phase::Rest,
+            ..self
+        }
+    }
+
+    // The same, awake, after its number was removed, since it found a task.
+    pub(crate) fn woke(self, notified: bool) -> Ticker
+        ensures { result ≡ woke notified self }
+    {
+        Ticker {
+            phase: Phase::Store(ListChange::Woke { notified }),
+            number: 0,
+        }
+    }
+
+    // The same, awake, after its number was removed, since it is dropped.
+    pub(crate) fn dropped(self, notified: bool) -> Ticker
+        ensures { result ≡ dropped notified self }
+    {
+        Ticker {
+            phase: Phase::Store(ListChange::Dropped { notified }),
+            number: 0,
+        }
+    }
+
+    // The same after it was dropped while it is awake.
+    pub(crate) fn ended(self) -> Ticker
+        ensures { result ≡ ended self }
+    {
+        Ticker {
+            phase: Phase::Ended,
+            ..self
+        }
+    }
+
+    // The same after the store of its change.
+    pub(crate) fn stored(self) -> Ticker
+        ensures { result ≡ stored self }
+    {
+        let phase = match self.phase {
+            Phase::Store(ListChange::Slept) => Phase::Search,
+            _ => Phase::Ended,
+        };
+        Ticker { phase, ..self }
+    }
+}
+
+// What is kept of this ticker. One that was not made is as one that has ended.
+pub(crate) fn ticker_at(tickers: &Vec<Ticker>, k: usize) -> Ticker
+    ensures { result ≡ ticker_or (slice_get tickers.now.items k) }
+{
+    match tickers.get(k) {
+        Some(ticker) => *ticker,
+        None => Ticker {
+            phase: Phase::Ended,
+            number: 0,
+        },
+    }
+}
+
+// Puts this in the place of what was kept of the ticker.
+pub(crate) fn set_ticker(tickers: &mut Vec<Ticker>, k: usize, ticker: Ticker)
+    ensures { tickers.new.items ≡ slice_set tickers.old.items k ticker }
+{
+    if k < tickers.len() {
+        tickers[k] = ticker;
+    }
+}
