@@ -3,8 +3,8 @@
 #
 # The program refusals prints which of its calls met the refusal: one call each time, no answer may
 # be wrong, and in the end each call has to have met one. exsim answers `out of memory`: at its
-# start with status 2 and nothing more, or at a spawn, after which it has to show what it showed
-# before, and to go on as if that spawn had not been asked for.
+# start with status 2 and nothing more, or at a spawn or where a ticker is made, after which it has
+# to show what it showed before, and to go on as if that step had not been asked for.
 #
 # The programs are those that the gate built, or are built by `rt run` where a source is newer. The
 # library of fail_nth.c counts their requests, and says whether it refused one. The last request of
@@ -86,33 +86,39 @@ read_line 1
 echo "refusals, request $n, by rt try: $call"
 passed=$((passed + 1))
 
+# Runs exsim on two steps of this name, with each of its requests refused in turn.
+refuse_steps() {
+    printf 'show\n%s\nshow\n%s\nshow\n' "$1" "$1" > "$work/steps"
+    whole=$("$program" < "$work/steps")
+    starts=0
+    steps=0
+    for n in $(seq 1 999); do
+        run_refused < "$work/steps"
+        is_refused || break
+        case "$status $out" in
+            "2 out of memory") starts=$((starts + 1)) ;;
+            "0 "*)
+                kept=$(printf '%s\n' "$out" | awk '
+                    /^out of memory$/ { refused++; getline; wrong = wrong || $0 != shown; next }
+                    { shown = $0; print }
+                    END { if (refused != 1 || wrong) print "wrong" }')
+                case "$whole" in
+                    "$kept"*) steps=$((steps + 1)) ;;
+                    *) give_up "exsim, $1, request $n: $out" ;;
+                esac
+                ;;
+            *) give_up "exsim, $1, request $n, status $status: $out" ;;
+        esac
+        echo "exsim, $1, request $n: status $status"
+        passed=$((passed + 1))
+    done
+    ! is_refused || give_up "exsim has more than $n requests"
+    [ "$status $out" = "0 $whole" ] || give_up "exsim, $1, none refused, status $status: $out"
+    echo "exsim, refused at its start: $starts, at a $1: $steps"
+    [ "$starts" -gt 0 ] && [ "$steps" -gt 0 ] || give_up "not each place of exsim met a refusal"
+}
+
 find_program exsim
-printf 'show\nspawn\nshow\nspawn\nshow\n' > "$work/steps"
-whole=$("$program" < "$work/steps")
-starts=0
-spawns=0
-for n in $(seq 1 999); do
-    run_refused < "$work/steps"
-    is_refused || break
-    case "$status $out" in
-        "2 out of memory") starts=$((starts + 1)) ;;
-        "0 "*)
-            kept=$(printf '%s\n' "$out" | awk '
-                /^out of memory$/ { refused++; getline; wrong = wrong || $0 != shown; next }
-                { shown = $0; print }
-                END { if (refused != 1 || wrong) print "wrong" }')
-            case "$whole" in
-                "$kept"*) spawns=$((spawns + 1)) ;;
-                *) give_up "exsim, request $n: $out" ;;
-            esac
-            ;;
-        *) give_up "exsim, request $n, status $status: $out" ;;
-    esac
-    echo "exsim, request $n: status $status"
-    passed=$((passed + 1))
-done
-! is_refused || give_up "exsim has more than $n requests"
-[ "$status $out" = "0 $whole" ] || give_up "exsim, with no request refused, status $status: $out"
-echo "exsim, refused at its start: $starts, at a spawn: $spawns"
-[ "$starts" -gt 0 ] && [ "$spawns" -gt 0 ] || give_up "not each place of exsim met a refusal"
+refuse_steps spawn
+refuse_steps tick
 echo "$passed passed, 0 failed"

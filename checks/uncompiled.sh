@@ -1,5 +1,5 @@
 #!/bin/sh
-# Misuse that must not compile. A file NAME.rt.txt is a crate above executor_core: each line that
+# Misuse that must not compile. A file NAME.rt.txt is a crate above async_executor: each line that
 # ends in '//~ ERROR' has to be refused with that error, and no other line. A file NAME.edit changes
 # a crate of the repository, which then has to be refused with the error that it names, in the
 # function that it changes, and nowhere else.
@@ -13,7 +13,7 @@ set -eu
 . "$(dirname "$0")/edits"
 copy_sources
 mkdir -p "$copy/crates/misuse/src"
-echo 'misuse: executor_core' >> "$copy/crates.txt"
+echo 'misuse: executor_core async_executor' >> "$copy/crates.txt"
 edits=$top/checks/uncompiled
 
 # Checks a crate of the copy, and keeps its errors as 'FILE LINE ERROR'. The line 'only=' says that

@@ -3,6 +3,7 @@ use crate::home::SharedHome;
 use crate::scheduler::ExecutorIn;
 pub use crate::task::Cancelled;
 use crate::task::{CancelIn, FallibleTaskIn, TaskIn};
+use crate::ticker::TickIn;
 pub use crate::waker::TaskWaker;
 
 /// An executor of futures of the type F, whose handles are awaited by wakers of the type W, and
@@ -39,3 +40,11 @@ pub type Cancel<F, W, R> = CancelIn<SharedHome<F, W, R>>;
 ///
 /// Example: `uses::falls_back`, `uses::lets_go`.
 pub type FallibleTask<F, W, R> = FallibleTaskIn<SharedHome<F, W, R>>;
+
+/// A future that runs one task of an executor, and sleeps while none is scheduled.
+///
+/// Where it is dropped asleep, it leaves the sleepers, and if it was notified, another sleeper is
+/// woken in its place. It stands for the future that `Executor::tick` of the Rust crate gives.
+///
+/// Example: `uses::sleeps`, and on threads that park `uses::parks`.
+pub type Tick<'a, F, W, R> = TickIn<'a, SharedHome<F, W, R>>;

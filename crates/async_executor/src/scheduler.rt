@@ -10,8 +10,9 @@ ghost use Rattle.executor_core.specs.SpawnError.{refused_future};
 
 use crate::home::{Home, OutputIn};
 use crate::poller::TaskPoller;
-use crate::state::announce;
+use crate::state::{State, announce};
 use crate::task::TaskIn;
+use crate::ticker::TickIn;
 use crate::waker::TaskWaker;
 use executor_core::task::{
     EndPending, Held, OutOfMemory, Ran, SpawnError, Taken, TaskId, run_taken,
@@ -80,9 +81,29 @@ impl<H: Home> ExecutorIn<H> {
         true
     }
 
-    // Polls the future of a taken task once, or drops it where the task was cancelled, and ends the
-    // task.
-    fn run_task(&self, taken: Taken<()>)
+    /// A future that runs one task, and sleeps while none is scheduled. The place in which it
+    /// sleeps is reserved here, and given back once it has ended or was dropped.
+    ///
+    /// # Errors
+    ///
+    /// `OutOfMemory` where memory for that place is refused. All is as before.
+    ///
+    /// Example: `uses::sleeps`.
+    pub fn tick(&self) -> Result<TickIn<'_, H>, OutOfMemory>
+        ensures { IfOk result (λ tick. tick.rest ≡ record { number = 0; ended = false }) }
+    {
+        self.state().reserve_sleeper()?;
+        Ok(TickIn::new(self))
+    }
+
+    /// What the executor shares with its handles and its wakers.
+    pub(crate) fn state(&self) -> &State<H::Waker, H::Runtime> {
+        self.home.state()
+    }
+
+    /// Polls the future of a taken task once, or drops it where the task was cancelled, and ends
+    /// the task. No lock may be held.
+    pub(crate) fn run_task(&self, taken: Taken<()>)
         requires { taken.held.to_drop ≡ false }
     {
         let id = taken.id();

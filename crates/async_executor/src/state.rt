@@ -3,10 +3,11 @@ ghost use Rattle.std.specs.Prelude.{◌≡◌, false};
 ghost use Rattle.std.specs.Sync.Mutex.{mutex_guard_value};
 ghost use Rattle.executor_core.specs.Cells.Law.{LockLaw};
 ghost use Rattle.executor_core.specs.Sleepers.{SleeperLaw};
+ghost use Rattle.executor_core.specs.Sleepers.Calls.{closed};
 
 use crate::lock::lock;
-use executor_core::sleepers::{ClosedSleepers, Flag};
-use executor_core::task::{Cells, Notice, OutOfMemory, Pick, Wake};
+use executor_core::sleepers::{ClosedSleepers, Flag, Sleepers};
+use executor_core::task::{Cells, Change, Notice, OutOfMemory, Pick, Wake, Wakeup};
 use std::alloc::Global;
 use std::sync::{Mutex, MutexGuard, Wait};
 
@@ -78,7 +79,7 @@ impl<W: Wake, R: Wait + Clone + Drop> State<W, R> {
 
     /// Waits for the sleepers, which are locked until the guard is dropped. They come with their
     /// law, and the flag was stored for each change of their list.
-    fn sleepers(&self) -> MutexGuard<'_, ClosedSleepers<W>>
+    pub(crate) fn sleepers(&self) -> MutexGuard<'_, ClosedSleepers<W>>
         ensures closed { (mutex_guard_value result).sleepers.is_open ≡ false }
         ensures law { SleeperLaw (mutex_guard_value result).sleepers }
     {
@@ -94,13 +95,36 @@ impl<W: Wake, R: Wait + Clone + Drop> State<W, R> {
         self.flag.exchange(notice)
     }
 
+    /// Takes the waker of the sleeper that is to be notified.
+    pub(crate) fn notify_sleeper(&self, pick: Pick) -> Option<Wakeup<W>> {
+        self.sleepers().sleepers.notify(pick)
+    }
+
     /// Wakes the sleeper that is to be notified, once the lock is given up. No lock may be held.
     #[cold]
     #[inline(never)]
     pub(crate) fn notify(&self, pick: Pick) {
-        let wakeup = self.sleepers().sleepers.notify(pick);
-        if let Some(wakeup) = wakeup {
+        if let Some(wakeup) = self.notify_sleeper(pick) {
             wakeup.wake();
         }
+    }
+
+    /// Stores the flag for a change of the list of sleepers, under the lock under which it was
+    /// changed, and gives what else the change carries.
+    pub(crate) fn store<X>(&self, change: Change<X>, sleepers: &mut Sleepers<W>) -> X
+        ensures list { sleepers.new ≡ closed sleepers.old }
+        ensures carried { result ≡ change.carried }
+    {
+        self.flag.store(change, sleepers)
+    }
+
+    /// Reserves the place of one sleeper.
+    pub(crate) fn reserve_sleeper(&self) -> Result<(), OutOfMemory> {
+        self.sleepers().sleepers.reserve()
+    }
+
+    /// Gives the place of one sleeper back.
+    pub(crate) fn release_sleeper(&self) {
+        self.sleepers().sleepers.release();
     }
 }

@@ -10,6 +10,7 @@
 pub mod futures;
 pub mod rows;
 pub mod threads;
+pub mod ticking;
 
 use rows::Row;
 use std::alloc::Global;

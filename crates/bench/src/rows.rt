@@ -1,6 +1,7 @@
 //! What is measured.
 use crate::futures::{IdleWaker, Large, LeavesWaker, Yields};
 use crate::threads::threads_try_tick;
+use crate::ticking::{sleep_wake, spawn_tick, yield_tick};
 use async_executor::{Executor, Future, Poll, TaskWaker, Wake};
 use std::alloc::Global;
 use std::sync::{Arc, Mutex, Wait};
@@ -25,6 +26,12 @@ pub enum Row {
     PollHandlePending,
     /// Wake an idle task, and run it.
     WakeIdle,
+    /// Spawn, detach and run a task, by a tick of its own.
+    SpawnTick,
+    /// Run one task that wakes itself, by a tick for each of its polls.
+    YieldTick,
+    /// Put a tick to sleep, wake it by a spawn, and have it run the task.
+    SleepWake,
     /// Spawn, detach and run a task whose future has 4,096 bytes.
     SpawnTryTick4k,
     /// The same, with the future in a box.
@@ -38,7 +45,7 @@ pub enum Row {
 }
 
 impl Row {
-    pub const ALL: [Row; 13] = [
+    pub const ALL: [Row; 16] = [
         Row::SpawnTryTick,
         Row::SpawnDrain,
         Row::YieldTryTick,
@@ -47,6 +54,9 @@ impl Row {
         Row::SpawnCancel,
         Row::PollHandlePending,
         Row::WakeIdle,
+        Row::SpawnTick,
+        Row::YieldTick,
+        Row::SleepWake,
         Row::SpawnTryTick4k,
         Row::SpawnTryTick4kBoxed,
         Row::ThreadsTryTick1,
@@ -65,6 +75,9 @@ impl Row {
             Row::SpawnCancel => "spawn_cancel",
             Row::PollHandlePending => "poll_handle_pending",
             Row::WakeIdle => "wake_idle",
+            Row::SpawnTick => "spawn_tick",
+            Row::YieldTick => "yield_tick",
+            Row::SleepWake => "sleep_wake",
             Row::SpawnTryTick4k => "spawn_try_tick_4k",
             Row::SpawnTryTick4kBoxed => "spawn_try_tick_4k_boxed",
             Row::ThreadsTryTick1 => "threads_try_tick_1",
@@ -93,6 +106,9 @@ impl Row {
     ) -> Option<u64> {
         match self {
             Row::WakeIdle => wake_idle(rt, alloc, operations),
+            Row::SpawnTick => spawn_tick(rt, alloc, operations),
+            Row::YieldTick => yield_tick(rt, alloc, operations),
+            Row::SleepWake => sleep_wake(rt, alloc, operations),
             Row::SpawnTryTick4k => spawn_large(rt, alloc, operations),
             Row::SpawnTryTick4kBoxed => spawn_boxed(rt, alloc, operations),
             Row::ThreadsTryTick1 => threads_try_tick(rt, alloc, 1, operations),

@@ -1,5 +1,5 @@
 //! What may cross threads. These functions only have to compile.
-use async_executor::executor::{Cancel, Executor, FallibleTask, Task, TaskWaker};
+use async_executor::executor::{Cancel, Executor, FallibleTask, Task, TaskWaker, Tick};
 use executor_core::task::{Future, Wake};
 use std::sync::Wait;
 
@@ -37,4 +37,17 @@ where
     is_shared(cancel);
     is_sent(fallible);
     is_shared(fallible);
+}
+
+/// So may its ticks.
+pub fn tick_crosses<
+    F: Future<TaskWaker<W, R>> + Send,
+    W: Wake + Send,
+    R: Wait + Clone + Drop + Send + Sync,
+>(tick: &Tick<'_, F, W, R>)
+where
+    F::Output: Send,
+{
+    is_sent(tick);
+    is_shared(tick);
 }

@@ -3,4 +3,6 @@ mod cancelling;
 mod dropping;
 mod nesting;
 mod outputs;
+mod places;
+mod ticking;
 mod waking;

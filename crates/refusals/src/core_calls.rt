@@ -1,7 +1,7 @@
 //! The calls of the core that take memory.
 use crate::outcome::{Outcome, count};
 use executor_core::interleave::{Reply, Step, World};
-use executor_core::plain_core::FlagValue;
+use executor_core::plain_core::{Core, FlagValue};
 use executor_core::sleepers::Sleepers;
 use executor_core::task::{Cells, Notice, SpawnError};
 use std::alloc::Global;
@@ -46,6 +46,17 @@ pub fn reserve_place(alloc: Global, outcome: &mut Outcome) {
     }
 }
 
+/// Reserves a sleeper's place in a core, and again where that is refused.
+pub fn reserve_in_core(alloc: Global, outcome: &mut Outcome) {
+    let Ok(mut core) = Core::<(), (), ()>::new(alloc) else {
+        return outcome.expect(false);
+    };
+    if core.reserve().is_err() {
+        count(&mut outcome.core_reserve);
+        outcome.expect(core.reserve().is_ok());
+    }
+}
+
 // A world that takes one step, made again where that is refused.
 fn one_step_world(alloc: Global, outcome: &mut Outcome) -> Option<World<(), u64>> {
     if let Ok(world) = World::new(alloc, 1) {
@@ -84,4 +95,18 @@ pub fn run_world(alloc: Global, outcome: &mut Outcome) {
         }
     }
     outcome.expect(false);
+}
+
+/// Makes a ticker in a world, and again where that is refused: the refused step made none.
+pub fn make_ticker(alloc: Global, outcome: &mut Outcome) {
+    let Some(mut world) = one_step_world(alloc, outcome) else {
+        return outcome.expect(false);
+    };
+    let mut reply = world.step(Step::Tick);
+    if reply == Reply::OutOfMemory {
+        count(&mut outcome.world_step);
+        outcome.expect(world.phase(0).is_none());
+        reply = world.step(Step::Tick);
+    }
+    outcome.expect(reply == Reply::Ticker(0));
 }

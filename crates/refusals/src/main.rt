@@ -16,16 +16,22 @@ fn main(rt: HostRuntime) -> io::Result<ExitCode> {
     let mut outcome = Outcome::new();
     core_calls::spawn_task(alloc, &mut outcome);
     core_calls::reserve_place(alloc, &mut outcome);
+    core_calls::reserve_in_core(alloc, &mut outcome);
     core_calls::run_world(alloc, &mut outcome);
+    core_calls::make_ticker(alloc, &mut outcome);
     running::spawn_and_run(&rt, alloc, &mut outcome);
+    running::tick_and_run(&rt, alloc, &mut outcome);
     println!(rt;
-        "refused: Cells::spawn {}, Sleepers::reserve {}, World::new {}, World::run {}, Executor::new {}, Executor::spawn {}, steps {}; wrong: {}",
+        "refused: Cells::spawn {}, Sleepers::reserve {}, Core::reserve {}, World::new {}, World::run {}, World::step {}, Executor::new {}, Executor::spawn {}, Executor::tick {}, steps {}; wrong: {}",
         outcome.cells_spawn,
         outcome.sleepers_reserve,
+        outcome.core_reserve,
         outcome.world_new,
         outcome.world_run,
+        outcome.world_step,
         outcome.executor_new,
         outcome.executor_spawn,
+        outcome.executor_tick,
         outcome.steps,
         outcome.wrong
     )?;

@@ -6,10 +6,13 @@
 pub struct Outcome {
     pub cells_spawn: u32,
     pub sleepers_reserve: u32,
+    pub core_reserve: u32,
     pub world_new: u32,
     pub world_run: u32,
+    pub world_step: u32,
     pub executor_new: u32,
     pub executor_spawn: u32,
+    pub executor_tick: u32,
     pub steps: u32,
     pub wrong: u32,
 }
@@ -20,10 +23,13 @@ impl Outcome {
         Outcome {
             cells_spawn: 0,
             sleepers_reserve: 0,
+            core_reserve: 0,
             world_new: 0,
             world_run: 0,
+            world_step: 0,
             executor_new: 0,
             executor_spawn: 0,
+            executor_tick: 0,
             steps: 0,
             wrong: 0,
         }

@@ -1,23 +1,27 @@
 //! The calls of a running executor that take memory.
 use crate::outcome::{Outcome, count};
-use async_executor::executor::Executor;
+use async_executor::executor::{Executor, Tick};
 use executor_core::task::{Future, OutOfMemory, Poll, SpawnError, Wake};
 use std::alloc::Global;
 use std::sync::Wait;
 use std::sync::atomic::{AtomicU64, Ordering};
 
-/// So many tasks that each table grows more than once.
+/// So many tasks, and so many ticks, that each table grows more than once.
 const TASKS: u64 = 5;
 
-/// Wakes nobody.
+/// Counts how often it and its copies are woken.
 #[derive(Drop)]
-struct IdleWaker;
+struct CountingWaker<'a> {
+    wakes: &'a AtomicU64,
+}
 
-impl Wake for IdleWaker {
-    fn wake(&self) {}
+impl Wake for CountingWaker<'_> {
+    fn wake(&self) {
+        self.wakes.fetch_add(1, Ordering::SeqCst);
+    }
 
     fn copy(&self) -> Result<Self, OutOfMemory> {
-        Ok(IdleWaker)
+        Ok(CountingWaker { wakes: self.wakes })
     }
 }
 
@@ -37,11 +41,13 @@ impl<W> Future<W> for Adds<'_> {
     }
 }
 
+type AddingExecutor<'a, R> = Executor<Adds<'a>, CountingWaker<'a>, R>;
+
 fn made<'a, R: Wait + Clone + Drop + Send + Sync>(
     rt: &R,
     alloc: Global,
     outcome: &mut Outcome,
-) -> Option<Executor<Adds<'a>, IdleWaker, R>> {
+) -> Option<AddingExecutor<'a, R>> {
     if let Ok(ex) = Executor::new(rt.clone().ok()?, alloc) {
         return Some(ex);
     }
@@ -51,7 +57,7 @@ fn made<'a, R: Wait + Clone + Drop + Send + Sync>(
 
 // Spawns a task, and again where that is refused.
 fn spawned<'a, R: Wait + Clone + Drop + Send + Sync>(
-    ex: &Executor<Adds<'a>, IdleWaker, R>,
+    ex: &AddingExecutor<'a, R>,
     future: Adds<'a>,
     outcome: &mut Outcome,
 ) {
@@ -71,9 +77,19 @@ fn spawned<'a, R: Wait + Clone + Drop + Send + Sync>(
     }
 }
 
+fn spawn_all<'a, R: Wait + Clone + Drop + Send + Sync>(
+    ex: &AddingExecutor<'a, R>,
+    sum: &'a AtomicU64,
+    outcome: &mut Outcome,
+) {
+    for number in 0..TASKS {
+        spawned(ex, Adds { number, sum }, outcome);
+    }
+}
+
 // Runs all tasks, which have to be those that were spawned, and no more.
 fn run_all<R: Wait + Clone + Drop + Send + Sync>(
-    ex: &Executor<Adds<'_>, IdleWaker, R>,
+    ex: &AddingExecutor<'_, R>,
     sum: &AtomicU64,
     outcome: &mut Outcome,
 ) {
@@ -98,8 +114,69 @@ pub fn spawn_and_run<R: Wait + Clone + Drop + Send + Sync>(
     let Some(ex) = made(rt, alloc, outcome) else {
         return outcome.expect(false);
     };
-    for number in 0..TASKS {
-        spawned(&ex, Adds { number, sum: &sum }, outcome);
-    }
+    spawn_all(&ex, &sum, outcome);
     run_all(&ex, &sum, outcome);
+}
+
+// A tick, made again where it is refused.
+fn ticked<'x, 'a, R: Wait + Clone + Drop + Send + Sync>(
+    ex: &'x AddingExecutor<'a, R>,
+    outcome: &mut Outcome,
+) -> Option<Tick<'x, Adds<'a>, CountingWaker<'a>, R>> {
+    if let Ok(tick) = ex.tick() {
+        return Some(tick);
+    }
+    count(&mut outcome.executor_tick);
+    let again = ex.tick().ok();
+    outcome.expect(again.is_some());
+    again
+}
+
+// Whether a poll of the tick answers this.
+fn answers<'a, R: Wait + Clone + Drop + Send + Sync>(
+    tick: &mut Option<Tick<'_, Adds<'a>, CountingWaker<'a>, R>>,
+    waker: &CountingWaker<'a>,
+    answer: Poll<()>,
+) -> bool {
+    match tick {
+        Some(tick) => tick.poll(waker) == answer,
+        None => false,
+    }
+}
+
+// Makes so many ticks, which go to sleep. Then tasks are spawned, and each tick runs one of them.
+// A tick that finds no place among the sleepers wakes its waker.
+fn sleep_and_run<'a, R: Wait + Clone + Drop + Send + Sync>(
+    ex: &AddingExecutor<'a, R>,
+    sum: &'a AtomicU64,
+    wakes: &'a AtomicU64,
+    left: u64,
+    outcome: &mut Outcome,
+) {
+    let waker = CountingWaker { wakes };
+    if left == 0 {
+        outcome.expect(wakes.load(Ordering::SeqCst) == 0);
+        spawn_all(ex, sum, outcome);
+        return outcome.expect(wakes.load(Ordering::SeqCst) == 1);
+    }
+    let mut tick = ticked(ex, outcome);
+    outcome.expect(answers(&mut tick, &waker, Poll::Pending));
+    sleep_and_run(ex, sum, wakes, left - 1, outcome);
+    outcome.expect(answers(&mut tick, &waker, Poll::Ready(())));
+}
+
+/// Makes ticks on a new executor, which sleep and then run tasks. A call that is refused is made
+/// again, and has taken no place from the others.
+pub fn tick_and_run<R: Wait + Clone + Drop + Send + Sync>(
+    rt: &R,
+    alloc: Global,
+    outcome: &mut Outcome,
+) {
+    let (sum, wakes) = (AtomicU64::new(0), AtomicU64::new(0));
+    let Some(ex) = made(rt, alloc, outcome) else {
+        return outcome.expect(false);
+    };
+    sleep_and_run(&ex, &sum, &wakes, TASKS, outcome);
+    outcome.expect(sum.load(Ordering::SeqCst) == TASKS * (TASKS - 1) / 2);
+    outcome.expect(ex.is_empty());
 }

@@ -5,7 +5,7 @@ use crate::record::Moment;
 /// What a call answers.
 #[derive(Clone, Copy, PartialEq, Eq, Debug)]
 pub enum Answer {
-    /// A poll of a handle is pending.
+    /// A poll of a handle or a tick is pending.
     Pending,
     /// A poll of a handle gives this output.
     Output(u64),
@@ -15,17 +15,20 @@ pub enum Answer {
     Ticked,
     /// A tick found no task.
     Idle,
-    /// A handle is gone.
+    /// A handle or a tick is gone.
     Gone,
 }
 
-/// What is done, and what has to come of it. A task has the number of its spawn.
+/// What is done, and what has to come of it. A task has the number of its spawn. Ticks are numbered
+/// among the tasks, and what a line says of a handle goes for a tick as well.
 #[derive(Clone, Copy, Debug)]
 pub enum Line {
     /// A task of this future is spawned.
     Spawn(Kind),
-    /// A tick by this thread answers this.
+    /// A `try_tick` by this thread answers this.
     Tick(bool),
+    /// A tick is made.
+    MakeTick,
     /// The executor is empty, or not.
     Empty(bool),
     /// The executor is dropped.
@@ -64,7 +67,7 @@ pub enum Line {
 
     /// The thread that meets this halts.
     HaltAt(usize, Moment),
-    /// Another thread ticks, and halts.
+    /// Another thread calls `try_tick`, and halts.
     TickHalts,
     /// Another thread polls the task's handle, and halts.
     PollHalts(usize),
@@ -72,7 +75,9 @@ pub enum Line {
     DetachHalts(usize),
     /// Another thread drops the task's handle, and halts.
     DropHalts(usize),
-    /// The executor can be used: a task is spawned and given up, and a tick runs a task.
+    /// Another thread spawns a task, and halts.
+    SpawnHalts,
+    /// The executor can be used: a tick and a task are made and given up, and a task is run.
     Used,
     /// The other thread goes on, and halts again.
     HaltsAgain,

@@ -1,38 +1,37 @@
 //! Takes the lines of a test in turn.
-use crate::future::{Kind, Output};
+use crate::future::{Kind, TestFuture, WakerPlace};
 use crate::halt::Halt;
 use crate::line::{Answer, Line};
-use crate::record::Moment;
-use crate::task::{Entry, FutureWaker, Handle, TaskFuture};
+use crate::record::Record;
+use crate::task::{Entry, Handle, TaskFuture, TestExecutor, TestTick};
 use crate::waker::TestWaker;
-use async_executor::executor::Executor;
-use executor_core::task::Wake;
+use async_executor::executor::{Executor, Tick};
+use executor_core::task::{Future, Wake};
 use std::alloc::Global;
 use std::sync::{Arc, Wait};
 use std::test::Fail;
 use std::thread;
-use std::thread::{JoinHandle, Threads};
-
-type TestExecutor<R> = Executor<TaskFuture<R>, TestWaker, R>;
+use std::thread::{JoinHandle, Scope, Threads};
 
 // A call that another thread makes.
 #[derive(Drop)]
-enum Call<R: Wait + Clone + Drop + Send + Sync> {
+enum Call<T, R: Wait + Clone + Drop + Send + Sync> {
     Tick(Arc<TestExecutor<R>>),
-    Poll(usize, Handle<R>, TestWaker),
-    Detach(Handle<R>),
-    Drop(Handle<R>),
+    Spawn(Arc<TestExecutor<R>>, TaskFuture<R>),
+    Poll(usize, Handle<T, R>, TestWaker),
+    Detach(Handle<T, R>),
+    Drop(Handle<T, R>),
 }
 
 // What a call gives back: its answer, and the task's handle and waker where it polled.
 #[derive(Drop)]
-struct Return<R: Wait + Clone + Drop + Send + Sync> {
+struct Return<T, R: Wait + Clone + Drop + Send + Sync> {
     answer: Answer,
-    polled: Option<(usize, Handle<R>, TestWaker)>,
+    polled: Option<(usize, Handle<T, R>, TestWaker)>,
 }
 
-impl<R: Wait + Clone + Drop + Send + Sync> Call<R> {
-    fn make(self) -> Return<R> {
+impl<T: TestTick<R>, R: Wait + Clone + Drop + Send + Sync> Call<T, R> {
+    fn make(self) -> Return<T, R> {
         let answer = match self {
             Call::Tick(ex) => {
                 if ex.try_tick() {
@@ -41,6 +40,13 @@ impl<R: Wait + Clone + Drop + Send + Sync> Call<R> {
                     Answer::Idle
                 }
             }
+            Call::Spawn(ex, future) => match ex.spawn(future) {
+                Ok(task) => {
+                    task.detach();
+                    Answer::Gone
+                }
+                Err(_) => Answer::Idle,
+            },
             Call::Poll(task, mut handle, waker) => {
                 let (answer, _) = handle.poll(&waker);
                 return Return {
@@ -65,19 +71,26 @@ impl<R: Wait + Clone + Drop + Send + Sync> Call<R> {
 }
 
 #[derive(Drop)]
-struct Player<R: Wait + Threads + Clone + Drop + Send + Sync + 'static> {
-    entries: Vec<Entry<R>>,
+struct Player<'s, E: 's, T, R: Wait + Threads + Clone + Drop + Send + Sync> {
+    scope: &'s Scope<'s, E>,
+    entries: Vec<Entry<T, R>>,
     ex: Option<Arc<TestExecutor<R>>>,
-    other: Option<JoinHandle<Return<R>>>,
+    other: Option<JoinHandle<Return<T, R>>>,
     halt: Halt,
     alloc: Global,
     rt: R,
 }
 
-impl<R: Wait + Threads + Clone + Drop + Send + Sync + 'static> Player<R> {
-    fn new(rt: R, alloc: Global) -> Result<Player<R>, Fail> {
+impl<'s, E: 's, T: TestTick<R> + 's, R: Wait + Threads + Clone + Drop + Send + Sync + 's> Player<
+    's,
+    E,
+    T,
+    R,
+> {
+    fn new(scope: &'s Scope<'s, E>, rt: R, alloc: Global) -> Result<Player<'s, E, T, R>, Fail> {
         let ex = Executor::new(rt.clone()?, alloc)?;
         Ok(Player {
+            scope,
             entries: Vec::new(alloc),
             ex: Some(Arc::new(alloc, ex)?),
             other: None,
@@ -92,10 +105,12 @@ impl<R: Wait + Threads + Clone + Drop + Send + Sync + 'static> Player<R> {
         match line {
             Line::Spawn(kind) => self.spawn(kind),
             Line::Tick(answer) => Ok(self.tick() == Some(answer)),
+            Line::MakeTick => self.make_tick(),
             Line::Empty(answer) => Ok(self.is_empty() == Some(answer)),
             Line::DropExecutor => Ok(self.ex.take().is_some()),
             Line::Used => self.is_used(),
             Line::TickHalts => self.tick_halts(),
+            Line::SpawnHalts => self.spawn_halts(),
             Line::PollHalts(task) => self.poll_halts(task),
             Line::DetachHalts(task) => self.detach_halts(task),
             Line::DropHalts(task) => self.drop_halts(task),
@@ -134,6 +149,15 @@ impl<R: Wait + Threads + Clone + Drop + Send + Sync + 'static> Player<R> {
         Ok(true)
     }
 
+    fn make_tick(&mut self) -> Result<bool, Fail> {
+        let Some(ex) = &self.ex else {
+            return Ok(false);
+        };
+        let entry = Entry::tick(ex, self.alloc, &self.halt)?;
+        self.entries.push(entry)?;
+        Ok(true)
+    }
+
     fn tick(&self) -> Option<bool> {
         match &self.ex {
             Some(ex) => Some(ex.try_tick()),
@@ -148,11 +172,18 @@ impl<R: Wait + Threads + Clone + Drop + Send + Sync + 'static> Player<R> {
         }
     }
 
-    // Asks all of the executor, by a task that is spawned and given up.
+    // Asks all of the executor, by a task that is spawned and given up while a tick sleeps.
     fn is_used(&mut self) -> Result<bool, Fail> {
+        let Some(ex) = &self.ex else {
+            return Ok(false);
+        };
+        let ex = Arc::try_clone(ex)?;
+        let mut tick = ex.tick()?;
+        tick.poll(&TestWaker::new(&Record::new(self.alloc)?)?);
         if self.is_empty().is_none() || !self.spawn(Kind::Never)? {
             return Ok(false);
         }
+        drop(tick);
         let given_up = match self.entries.last_mut() {
             Some(entry) => entry.give_up(),
             None => false,
@@ -161,8 +192,8 @@ impl<R: Wait + Threads + Clone + Drop + Send + Sync + 'static> Player<R> {
     }
 
     // Has another thread make the call, and waits until it halts.
-    fn start(&mut self, call: Call<R>) -> Result<bool, Fail> {
-        self.other = Some(thread::spawn(&self.rt, move || call.make())?);
+    fn start(&mut self, call: Call<T, R>) -> Result<bool, Fail> {
+        self.other = Some(self.scope.spawn(move || call.make())?);
         Ok(self.halt.await_other())
     }
 
@@ -172,6 +203,16 @@ impl<R: Wait + Threads + Clone + Drop + Send + Sync + 'static> Player<R> {
         };
         let ex = Arc::try_clone(ex)?;
         self.start(Call::Tick(ex))
+    }
+
+    fn spawn_halts(&mut self) -> Result<bool, Fail> {
+        let Some(ex) = &self.ex else {
+            return Ok(false);
+        };
+        let ex = Arc::try_clone(ex)?;
+        let (place, record) = (WakerPlace::new(self.alloc)?, Record::new(self.alloc)?);
+        let future = TestFuture::new(Kind::Ready(0), place, &record)?;
+        self.start(Call::Spawn(ex, future))
     }
 
     fn poll_halts(&mut self, task: usize) -> Result<bool, Fail> {
@@ -184,7 +225,7 @@ impl<R: Wait + Threads + Clone + Drop + Send + Sync + 'static> Player<R> {
         }
     }
 
-    fn taken_handle(&mut self, task: usize) -> Option<Handle<R>> {
+    fn taken_handle(&mut self, task: usize) -> Option<Handle<T, R>> {
         match self.entries.get_mut(task) {
             Some(entry) => entry.handle.take(),
             None => None,
@@ -233,7 +274,7 @@ impl<R: Wait + Threads + Clone + Drop + Send + Sync + 'static> Player<R> {
         let Some(waker) = waker else {
             return Ok(false);
         };
-        let child = thread::spawn(&self.rt, move || waker.wake())?;
+        let child = self.scope.spawn(move || waker.wake())?;
         child.join(&self.rt);
         Ok(true)
     }
@@ -244,7 +285,29 @@ pub fn play<R: AllocGlobal + Wait + Threads + Clone + Drop + Send + Sync + 'stat
     rt: &R,
     lines: &[Line],
 ) -> Result<(), Fail> {
-    let mut player = Player::new(rt.clone()?, rt.alloc())?;
+    play_by::<Tick<'static, TaskFuture<R>, TestWaker, R>, R>(rt, lines)
+}
+
+// The same, by ticks of this type.
+fn play_by<T: TestTick<R>, R: AllocGlobal + Wait + Threads + Clone + Drop + Send + Sync>(
+    rt: &R,
+    lines: &[Line],
+) -> Result<(), Fail> {
+    thread::scope(
+        thread::scope_env(),
+        rt,
+        |scope| play_in::<_, T, R>(scope, rt, lines),
+    )
+}
+
+// The same, with the other thread in this scope.
+fn play_in<
+    's,
+    E: 's,
+    T: TestTick<R> + 's,
+    R: AllocGlobal + Wait + Threads + Clone + Drop + Send + Sync + 's,
+>(scope: &'s Scope<'s, E>, rt: &R, lines: &[Line]) -> Result<(), Fail> {
+    let mut player = Player::<'s, E, T, R>::new(scope, rt.clone()?, rt.alloc())?;
     for (before, line) in lines.iter().enumerate() {
         if !player.holds(*line)? {
             player.halt.open();

@@ -1,13 +1,13 @@
-//! One task of a test.
+//! One task or tick of a test.
 use crate::future::{Kind, Output, TestFuture, WakerPlace};
 use crate::halt::Halt;
 use crate::line::{Answer, Line};
 use crate::record::{Moment, Record};
 use crate::waker::TestWaker;
-use async_executor::executor::{Cancel, Executor, FallibleTask, Task, TaskWaker};
+use async_executor::executor::{Cancel, Executor, FallibleTask, Task, TaskWaker, Tick};
 use executor_core::task::{Future, Poll, Wake};
 use std::alloc::Global;
-use std::sync::Wait;
+use std::sync::{Arc, Wait};
 use std::test::Fail;
 
 /// The wakers that futures are polled with.
@@ -16,15 +16,36 @@ pub type FutureWaker<R> = TaskWaker<TestWaker, R>;
 /// The futures of a test.
 pub type TaskFuture<R> = TestFuture<FutureWaker<R>>;
 
-/// A handle of any kind.
+/// The executors of a test.
+pub type TestExecutor<R> = Executor<TaskFuture<R>, TestWaker, R>;
+
+/// A tick that may go to another thread. Who uses it need not name how long its executor lives.
+pub trait TestTick<R: Wait + Clone + Drop + Send + Sync>: Future<TestWaker, Output = ()>
+    + Send
+    + Drop
+    + Sized {
+    /// A tick of this executor, whose share of it is never dropped.
+    fn new(ex: &Arc<TestExecutor<R>>, alloc: Global) -> Result<Self, Fail>;
+}
+
+impl<'a, R: Wait + Clone + Drop + Send + Sync + 'static> TestTick<R>
+    for Tick<'a, TaskFuture<R>, TestWaker, R> {
+    fn new(ex: &Arc<TestExecutor<R>>, alloc: Global) -> Result<Self, Fail> {
+        let share: &'a Arc<TestExecutor<R>> = Box::leak(Box::new(alloc, Arc::try_clone(ex)?)?);
+        Ok(share.tick()?)
+    }
+}
+
+/// A handle of any kind, or a tick, which is polled and dropped as a handle is.
 #[derive(Drop)]
-pub enum Handle<R: Wait + Clone + Drop + Send + Sync> {
+pub enum Handle<T, R: Wait + Clone + Drop + Send + Sync> {
     Task(Task<TaskFuture<R>, TestWaker, R>),
     Cancel(Cancel<TaskFuture<R>, TestWaker, R>),
     Fallible(FallibleTask<TaskFuture<R>, TestWaker, R>),
+    Tick(T),
 }
 
-impl<R: Wait + Clone + Drop + Send + Sync> Handle<R> {
+impl<T: TestTick<R>, R: Wait + Clone + Drop + Send + Sync> Handle<T, R> {
     pub fn poll(&mut self, w: &TestWaker) -> (Answer, Option<Output>) {
         let answer = match self {
             Handle::Task(task) => match task.poll(w) {
@@ -33,6 +54,10 @@ impl<R: Wait + Clone + Drop + Send + Sync> Handle<R> {
             },
             Handle::Cancel(cancel) => cancel.poll(w),
             Handle::Fallible(fallible) => fallible.poll(w),
+            Handle::Tick(tick) => match tick.poll(w) {
+                Poll::Ready(()) => return (Answer::Ticked, None),
+                Poll::Pending => Poll::Pending,
+            },
         };
         match answer {
             Poll::Pending => (Answer::Pending, None),
@@ -44,20 +69,20 @@ impl<R: Wait + Clone + Drop + Send + Sync> Handle<R> {
     fn is_finished(&self) -> Option<bool> {
         match self {
             Handle::Task(task) => Some(task.is_finished()),
-            Handle::Cancel(_) => None,
+            Handle::Cancel(_) | Handle::Tick(_) => None,
             Handle::Fallible(fallible) => Some(fallible.is_finished()),
         }
     }
 
-    fn cancel(self) -> Handle<R> {
+    fn cancel(self) -> Handle<T, R> {
         match self {
             Handle::Task(task) => Handle::Cancel(task.cancel()),
-            Handle::Cancel(cancel) => Handle::Cancel(cancel),
             Handle::Fallible(fallible) => Handle::Cancel(fallible.cancel()),
+            other => other,
         }
     }
 
-    fn fallible(self) -> Handle<R> {
+    fn fallible(self) -> Handle<T, R> {
         match self {
             Handle::Task(task) => Handle::Fallible(task.fallible()),
             other => other,
@@ -71,7 +96,7 @@ impl<R: Wait + Clone + Drop + Send + Sync> Handle<R> {
                 task.detach();
                 true
             }
-            Handle::Cancel(_) => false,
+            Handle::Cancel(_) | Handle::Tick(_) => false,
             Handle::Fallible(fallible) => {
                 fallible.detach();
                 true
@@ -80,10 +105,10 @@ impl<R: Wait + Clone + Drop + Send + Sync> Handle<R> {
     }
 }
 
-/// A task, its handle, and the waker that its handle is polled by.
+/// A task, its handle, and the waker that its handle is polled by; or a tick in place of the handle.
 #[derive(Drop)]
-pub struct Entry<R: Wait + Clone + Drop + Send + Sync> {
-    pub handle: Option<Handle<R>>,
+pub struct Entry<T, R: Wait + Clone + Drop + Send + Sync> {
+    pub handle: Option<Handle<T, R>>,
     pub waker: Option<TestWaker>,
     first: Option<TestWaker>,
     output: Option<Output>,
@@ -92,29 +117,43 @@ pub struct Entry<R: Wait + Clone + Drop + Send + Sync> {
     other: Record,
 }
 
-impl<R: Wait + Clone + Drop + Send + Sync> Entry<R> {
+impl<T: TestTick<R>, R: Wait + Clone + Drop + Send + Sync> Entry<T, R> {
+    // What has no handle yet.
+    fn new(alloc: Global, halt: &Halt) -> Result<Entry<T, R>, Fail> {
+        let record = Record::with_halt(alloc, halt)?;
+        Ok(Entry {
+            handle: None,
+            waker: Some(TestWaker::new(&record)?),
+            first: None,
+            output: None,
+            place: WakerPlace::new(alloc)?,
+            record,
+            other: Record::with_halt(alloc, halt)?,
+        })
+    }
+
     /// A new task of this executor.
     pub fn spawn(
-        ex: &Executor<TaskFuture<R>, TestWaker, R>,
+        ex: &TestExecutor<R>,
         kind: Kind,
         alloc: Global,
         halt: &Halt,
-    ) -> Result<Entry<R>, Fail> {
-        let place = WakerPlace::new(alloc)?;
-        let record = Record::with_halt(alloc, halt)?;
-        let other = Record::with_halt(alloc, halt)?;
-        let waker = TestWaker::new(&record)?;
-        let future = TestFuture::new(kind, place.share()?, &record)?;
-        let task = spawned(ex, future)?;
-        Ok(Entry {
-            handle: Some(Handle::Task(task)),
-            waker: Some(waker),
-            first: None,
-            output: None,
-            place,
-            record,
-            other,
-        })
+    ) -> Result<Entry<T, R>, Fail> {
+        let mut entry = Entry::new(alloc, halt)?;
+        let future = TestFuture::new(kind, entry.place.share()?, &entry.record)?;
+        entry.handle = Some(Handle::Task(spawned(ex, future)?));
+        Ok(entry)
+    }
+
+    /// A new tick of this executor.
+    pub fn tick(
+        ex: &Arc<TestExecutor<R>>,
+        alloc: Global,
+        halt: &Halt,
+    ) -> Result<Entry<T, R>, Fail> {
+        let mut entry = Entry::new(alloc, halt)?;
+        entry.handle = Some(Handle::Tick(T::new(ex, alloc)?));
+        Ok(entry)
     }
 
     /// Whether what comes of the line, which is one on this task, is what has to.

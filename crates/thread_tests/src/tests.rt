@@ -2,3 +2,4 @@ mod locks;
 mod races;
 mod stack;
 mod threads;
+mod ticks;

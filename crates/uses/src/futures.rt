@@ -1,6 +1,7 @@
 //! The futures that the callers spawn, and the waker that they ask with.
 use async_executor::{Future, OutOfMemory, Poll, Wake};
 use std::alloc::{AllocError, Global};
+use std::sync::atomic::{AtomicU64, Ordering};
 use std::sync::{Arc, Mutex, Wait};
 
 /// Wakes nobody: its caller asks again by itself.
@@ -41,6 +42,35 @@ impl<W: Wake> Future<W> for Sum {
         self.is_polled = true;
         w.wake();
         Poll::Pending
+    }
+}
+
+/// A `Sum` that counts among the futures that are left until it is dropped.
+pub struct Counted {
+    sum: Sum,
+    left: Arc<AtomicU64>,
+}
+
+impl Counted {
+    pub fn new(sum: Sum, left: &Arc<AtomicU64>) -> Result<Counted, AllocError> {
+        let left = Arc::try_clone(left)?;
+        left.fetch_add(1, Ordering::SeqCst);
+        Ok(Counted { sum, left })
+    }
+}
+
+impl<W: Wake> Future<W> for Counted {
+    type Output = u64;
+
+    fn poll(&mut self, w: &W) -> Poll<u64> {
+        self.sum.poll(w)
+    }
+}
+
+impl Drop for Counted {
+    fn drop(self) {
+        let Counted { sum: _, left } = self;
+        left.fetch_sub(1, Ordering::SeqCst);
     }
 }
 

@@ -3,11 +3,13 @@
 
 mod calling;
 mod futures;
+mod parking;
 
 use async_executor::{Cancelled, Executor, Future, OutOfMemory, Poll};
 use calling::{asks_again, gives_back};
 use executor_core::interleave::{Reply, Step, World};
 use futures::{Job, Nobody, Receiver, Sum, send};
+use parking::parks;
 use std::alloc::Global;
 use std::io;
 use std::sync::Wait;
@@ -27,7 +29,7 @@ fn runs<R: Wait + Clone + Drop + Send + Sync>(rt: R, alloc: Global) -> Option<u6
 }
 
 // The output, where a poll of a handle gave one.
-fn output_of(answer: Poll<Result<u64, Cancelled>>) -> Option<u64> {
+pub(crate) fn output_of(answer: Poll<Result<u64, Cancelled>>) -> Option<u64> {
     match answer {
         Poll::Ready(Ok(output)) => Some(output),
         Poll::Ready(Err(_)) | Poll::Pending => None,
@@ -86,6 +88,19 @@ fn lets_go<R: Wait + Clone + Drop + Send + Sync>(
         executor.try_tick();
     }
     Some(cancel.poll(&Nobody))
+}
+
+/// Runs one task by a tick. While none is scheduled the tick sleeps, and a spawn wakes it.
+fn sleeps<R: Wait + Clone + Drop + Send + Sync>(
+    executor: &Executor<Sum, Nobody, R>,
+) -> Option<(Poll<()>, Poll<()>)> {
+    let mut tick = executor.tick().ok()?;
+    let asleep = tick.poll(&Nobody);
+    executor.spawn(Sum::of(1, 2)).ok()?.detach();
+    let woken = tick.poll(&Nobody);
+    // The first poll of the task asked for another one.
+    executor.try_tick();
+    Some((asleep, woken))
 }
 
 /// Runs futures of two kinds on one executor.
@@ -192,10 +207,12 @@ fn main(rt: HostRuntime) -> io::Result<()> {
         executor.try_tick();
         println!(rt; "asks_again: {:?}", asks_again(&mut task, &Nobody))?;
     }
+    println!(rt; "sleeps: {:?}", sleeps(&executor))?;
     println!(rt; "mixes: {:?}", mixes(rt.clone()?, alloc))?;
     println!(rt; "boxes: {:?}", boxes(rt.clone()?, alloc))?;
     println!(rt; "receives: {:?}", receives(rt.clone()?, alloc))?;
     println!(rt; "nests: {:?}", nests(rt.clone()?, alloc))?;
     println!(rt; "shares: {:?}", shares(rt.clone()?, alloc))?;
+    println!(rt; "parks: {:?}", parks(&rt, alloc))?;
     println!(rt; "interleaves: {:?}", interleaves(alloc))
 }

@@ -1,4 +1,4 @@
-//! Executors within one another.
+//! Several executors, beside one another or within.
 use async_executor::executor::Executor;
 use executor_core::task::{Future, Poll};
 use std::test::Fail;
@@ -27,5 +27,28 @@ fn a_handle_is_a_task_of_another_executor(rt: HostRuntime) -> Result<(), Fail> {
     assert_eq!(rt; task.poll(&waker), Poll::Ready(Ok(Ok(7))));
     assert!(rt; inner.is_empty());
     assert!(rt; outer.is_empty());
+    Ok(())
+}
+
+#[test]
+fn a_spawn_wakes_no_tick_of_another_executor(rt: HostRuntime) -> Result<(), Fail> {
+    let alloc = rt.alloc();
+    let (one, two) = (Record::new(alloc)?, Record::new(alloc)?);
+    let (first, second) = (TestWaker::new(&one)?, TestWaker::new(&two)?);
+    let executor = Executor::new(rt.clone()?, alloc)?;
+    let other = Executor::new(rt.clone()?, alloc)?;
+    let mut tick = executor.tick()?;
+    let mut other_tick = other.tick()?;
+    assert_eq!(rt; tick.poll(&first), Poll::Pending);
+    assert_eq!(rt; other_tick.poll(&second), Poll::Pending);
+    let task = spawned(&executor, Ready::new(7u64))?;
+    assert_eq!(rt; one.times(Moment::WakerWake), 1);
+    assert_eq!(rt; two.times(Moment::WakerWake), 0);
+    assert_eq!(rt; other_tick.poll(&second), Poll::Pending);
+    assert_eq!(rt; tick.poll(&first), Poll::Ready(()));
+    assert!(rt; task.is_finished());
+    drop(spawned(&other, Ready::new(8u64))?);
+    assert_eq!(rt; one.times(Moment::WakerWake), 1);
+    assert_eq!(rt; two.times(Moment::WakerWake), 1);
     Ok(())
 }

@@ -1,11 +1,11 @@
 //! No lock is held while something of the caller's runs: it halts, and another thread uses the same
 //! executor.
 use std::test::Fail;
-use test_parts::future::Kind::{Never, Ready};
+use test_parts::future::Kind::{Never, Ready, Yields};
 use test_parts::line::Answer::{Gone, Output, Pending, Ticked};
 use test_parts::line::Line::{
     AnotherWaker, Cancel, Count, Detach, DetachHalts, DropHalts, DropHandle, HaltAt, HaltsAgain,
-    Poll, PollHalts, Refuse, Returns, Spawn, Tick, TickHalts, Used,
+    MakeTick, Poll, PollHalts, Refuse, Returns, Spawn, SpawnHalts, Tick, TickHalts, Used,
 };
 use test_parts::player::play;
 use test_parts::record::Moment::{
@@ -229,6 +229,146 @@ fn while_a_waker_that_is_not_needed_is_dropped(rt: HostRuntime) -> Result<(), Fa
             HaltsAgain,
             Used,
             Returns(Output(7)),
+        ],
+    )
+}
+
+#[test]
+fn while_a_tick_polls_a_future(rt: HostRuntime) -> Result<(), Fail> {
+    play(
+        &rt,
+        &[
+            MakeTick,
+            Poll(0, Pending),
+            Spawn(Ready(7)),
+            HaltAt(1, FuturePoll),
+            PollHalts(0),
+            Used,
+            Returns(Ticked),
+            Poll(1, Output(7)),
+        ],
+    )
+}
+
+#[test]
+fn while_a_spawn_wakes_a_tick(rt: HostRuntime) -> Result<(), Fail> {
+    play(
+        &rt,
+        &[
+            MakeTick,
+            Poll(0, Pending),
+            HaltAt(0, WakerWake),
+            SpawnHalts,
+            Used,
+            Returns(Gone),
+            Count(0, WakerWake, 1),
+        ],
+    )
+}
+
+#[test]
+fn while_a_task_that_wakes_itself_wakes_a_tick(rt: HostRuntime) -> Result<(), Fail> {
+    play(
+        &rt,
+        &[
+            Spawn(Yields(1)),
+            HaltAt(0, FuturePoll),
+            MakeTick,
+            HaltAt(1, WakerWake),
+            TickHalts,
+            // Before the task is queued again.
+            Poll(1, Pending),
+            HaltsAgain,
+            // So that its next poll does not halt.
+            Cancel(0),
+            Used,
+            Returns(Ticked),
+            Count(1, WakerWake, 1),
+        ],
+    )
+}
+
+#[test]
+fn while_a_tick_that_is_dropped_wakes_another(rt: HostRuntime) -> Result<(), Fail> {
+    play(
+        &rt,
+        &[
+            MakeTick,
+            MakeTick,
+            Poll(0, Pending),
+            Poll(1, Pending),
+            Spawn(Ready(7)),
+            HaltAt(0, WakerWake),
+            DropHalts(1),
+            Used,
+            Returns(Gone),
+        ],
+    )
+}
+
+#[test]
+fn while_the_waker_of_a_tick_is_copied(rt: HostRuntime) -> Result<(), Fail> {
+    play(
+        &rt,
+        &[
+            MakeTick,
+            HaltAt(0, WakerCopy),
+            PollHalts(0),
+            Used,
+            // As it goes to sleep, and as it sleeps on.
+            HaltsAgain,
+            Used,
+            Returns(Pending),
+        ],
+    )
+}
+
+#[test]
+fn while_an_earlier_waker_of_a_tick_is_dropped(rt: HostRuntime) -> Result<(), Fail> {
+    play(
+        &rt,
+        &[
+            MakeTick,
+            Poll(0, Pending),
+            HaltAt(0, WakerDrop),
+            AnotherWaker(0),
+            PollHalts(0),
+            Used,
+            Returns(Pending),
+        ],
+    )
+}
+
+#[test]
+fn while_a_tick_that_is_dropped_drops_its_waker(rt: HostRuntime) -> Result<(), Fail> {
+    play(
+        &rt,
+        &[
+            MakeTick,
+            Poll(0, Pending),
+            HaltAt(0, WakerDrop),
+            DropHalts(0),
+            Used,
+            Returns(Gone),
+        ],
+    )
+}
+
+#[test]
+fn while_a_tick_that_found_a_task_drops_its_waker(rt: HostRuntime) -> Result<(), Fail> {
+    play(
+        &rt,
+        &[
+            MakeTick,
+            MakeTick,
+            Poll(0, Pending),
+            Poll(1, Pending),
+            HaltAt(0, WakerDrop),
+            Spawn(Ready(7)),
+            PollHalts(0),
+            Used,
+            Returns(Ticked),
+            Poll(2, Output(7)),
         ],
     )
 }
