@@ -42,18 +42,22 @@ rounds() {
         END { for (n = 1; n <= others; n++) print last + n, alone[n] }' | sort -n
 }
 
+# Gives the room a crate's sources as they stand in the repository.
+restore() {
+    rm -rf "$room/crates/$1/src" "$room/crates/$1/out/incremental"
+    cp -Rp "$top/crates/$1/src" "$room/crates/$1/src"
+}
+
 # Tries the guards of a round of this crate, the lines of $room/round.
 try_round() {
-    for part in src out/incremental; do
-        rm -rf "$room/crates/$1/$part"
-        cp -Rp "$top/crates/$1/$part" "$room/crates/$1/$part"
-    done
+    restore "$1"
+    cp -Rp "$top/crates/$1/out/incremental" "$room/crates/$1/out/incremental"
     while read -r _ _ guard; do
         add_edit "$guard" "$room"
     done < "$room/round"
-    cd "$room/crates/$1"
-    "$rt" check > "$room/log" 2>&1 || :
-    awk -v crate="$1" -f "$checks/refused.awk" "$room/log" > "$room/found"
+    (cd "$room/crates/$1" && "$rt" check) < /dev/null > "$room/log" 2>&1 || :
+    (cd "$room/crates/$1" && awk -v crate="$1" -f "$checks/refused.awk" "$room/log") > "$room/found"
+    restore "$1"
     while read -r _ function guard; do
         judge "$function" "$(basename "$guard")"
     done < "$room/round"
@@ -81,18 +85,19 @@ judge() {
     fi
 }
 
-# Tries all rounds of a crate, in a copy of the repository with what is built of its crates.
-try_crate() {
-    room=$copy/$1
+# Tries the rounds that are not taken yet, one by one, in a copy of the repository with what is built
+# of its crates. Leaves the counts there.
+try_rounds() {
+    room=$1
     mkdir "$room"
     (cd "$top" && tar cf - --exclude=./.git --exclude='./crates/*/out/incremental' .) |
         (cd "$room" && tar xf -)
-    rounds "$1" > "$room/rounds"
-    for round in $(cut -d' ' -f1 "$room/rounds" | uniq); do
-        grep "^$round " "$room/rounds" > "$room/round"
-        echo "$1, round $round: $(wc -l < "$room/round")"
-        try_round "$1"
-    done
+    while read -r guards crate round; do
+        mkdir "$copy/$crate.$round" 2> /dev/null || continue
+        grep "^$round " "$copy/$crate.rounds" > "$room/round"
+        echo "$crate, round $round: $guards"
+        try_round "$crate"
+    done < "$copy/rounds"
     echo "$passed $failed" > "$room/counts"
 }
 
@@ -115,15 +120,17 @@ for crate in $crates; do
     prove "$crate"
 done
 for crate in $crates; do
-    try_crate "$crate" &
+    rounds "$crate" > "$copy/$crate.rounds"
+    cut -d' ' -f1 "$copy/$crate.rounds" | uniq -c | sed -E "s/^ *([0-9]+)/\1 $crate/"
+done | sort -rn > "$copy/rounds"
+# Two at a time, the largest first.
+for lane in one two; do
+    try_rounds "$copy/$lane" &
 done
 wait
-for crate in $crates; do
-    if [ -f "$copy/$crate/counts" ]; then
-        read -r more_passed more_failed < "$copy/$crate/counts"
-    else
-        more_passed=0 more_failed=1
-    fi
+for lane in one two; do
+    more_passed=0 more_failed=1
+    [ ! -f "$copy/$lane/counts" ] || read -r more_passed more_failed < "$copy/$lane/counts"
     passed=$((passed + more_passed))
     failed=$((failed + more_failed))
 done
