@@ -5,7 +5,7 @@ mod calling;
 mod futures;
 mod parking;
 
-use async_executor::{Cancelled, Executor, Future, OutOfMemory, Poll};
+use async_executor::{Cancelled, Executor, Future, OutOfMemory, Poll, TaskWaker, Wake};
 use calling::{asks_again, gives_back};
 use executor_core::interleave::{Reply, Step, World};
 use futures::{Job, Nobody, Receiver, Sum, send};
@@ -16,20 +16,35 @@ use std::sync::Wait;
 use std::thread::{self, Threads};
 
 /// Runs a task until nothing is scheduled, and asks its handle for the output.
-fn runs<R: Wait + Clone + Drop + Send + Sync>(rt: R, alloc: Global) -> Option<u64> {
-    let right = rt.clone().ok()?;
-    let executor = Executor::new(right, alloc).ok()?;
-    let mut task = executor.spawn(Sum::of(1, 2)).ok()?;
+fn runs<F, R>(rt: &R, alloc: Global, future: F) -> Option<F::Output>
+where
+    F: Future<TaskWaker<Nobody, R>> + Send,
+    F::Output: Send,
+    R: Wait + Clone + Drop + Send + Sync,
+{
+    let executor = Executor::new(rt.clone().ok()?, alloc).ok()?;
+    let mut task = executor.spawn(future).ok()?;
+    run_all(rt, &executor);
+    output_of(task.poll(&Nobody))
+}
+
+// Runs tasks until nothing is scheduled.
+fn run_all<F, W, R>(rt: &R, executor: &Executor<F, W, R>)
+where
+    F: Future<TaskWaker<W, R>> + Send,
+    F::Output: Send,
+    W: Wake + Send,
+    R: Wait + Clone + Drop + Send + Sync,
+{
     for _ in rt.forever() {
         if !executor.try_tick() {
             break;
         }
     }
-    output_of(task.poll(&Nobody))
 }
 
 // The output, where a poll of a handle gave one.
-pub(crate) fn output_of(answer: Poll<Result<u64, Cancelled>>) -> Option<u64> {
+pub(crate) fn output_of<T: Drop>(answer: Poll<Result<T, Cancelled>>) -> Option<T> {
     match answer {
         Poll::Ready(Ok(output)) => Some(output),
         Poll::Ready(Err(_)) | Poll::Pending => None,
@@ -66,27 +81,26 @@ fn drops<R: Wait + Clone + Drop + Send + Sync>(executor: &Executor<Sum, Nobody, 
 
 /// Asks a handle that answers `None` in place of `Cancelled`, once the task has ended.
 fn falls_back<R: Wait + Clone + Drop + Send + Sync>(
+    rt: &R,
     executor: &Executor<Sum, Nobody, R>,
 ) -> Option<Poll<Option<u64>>> {
     let mut task = executor.spawn(Sum::of(1, 2)).ok()?.fallible();
-    executor.try_tick();
-    executor.try_tick();
-    if !task.is_finished() {
-        return None;
+    run_all(rt, executor);
+    if task.is_finished() {
+        Some(task.poll(&Nobody))
+    } else {
+        None
     }
-    Some(task.poll(&Nobody))
 }
 
 /// Ends two handles that would answer `None`: one task runs on, and one is cancelled.
 fn lets_go<R: Wait + Clone + Drop + Send + Sync>(
+    rt: &R,
     executor: &Executor<Sum, Nobody, R>,
 ) -> Option<Poll<Option<u64>>> {
     executor.spawn(Sum::of(1, 2)).ok()?.fallible().detach();
     let mut cancel = executor.spawn(Sum::of(3, 4)).ok()?.fallible().cancel();
-    // Two ticks poll the first task to its end, and one drops the future of the second.
-    for _ in 0..3 {
-        executor.try_tick();
-    }
+    run_all(rt, executor);
     Some(cancel.poll(&Nobody))
 }
 
@@ -104,80 +118,55 @@ fn sleeps<R: Wait + Clone + Drop + Send + Sync>(
 }
 
 /// Runs futures of two kinds on one executor.
-fn mixes<R: Wait + Clone + Drop + Send + Sync>(rt: R, alloc: Global) -> Option<(u64, u64)> {
-    let executor = Executor::new(rt, alloc).ok()?;
+fn mixes<R: Wait + Clone + Drop + Send + Sync>(rt: &R, alloc: Global) -> Option<(u64, u64)> {
+    let executor = Executor::new(rt.clone().ok()?, alloc).ok()?;
     let mut add = executor.spawn(Job::Add(Sum::of(1, 2))).ok()?;
     let mut give = executor.spawn(Job::Give(7)).ok()?;
-    for _ in 0..3 {
-        executor.try_tick();
-    }
-    Some((
-        output_of(add.poll(&Nobody))?,
-        output_of(give.poll(&Nobody))?,
-    ))
+    run_all(rt, &executor);
+    output_of(add.poll(&Nobody)).zip(output_of(give.poll(&Nobody)))
 }
 
 /// Runs a future on the heap, of which only the address is moved at each poll.
-fn boxes<R: Wait + Clone + Drop + Send + Sync>(rt: R, alloc: Global) -> Option<u64> {
-    let executor = Executor::new(rt, alloc).ok()?;
-    let future = Box::new(alloc, Sum::of(1, 2)).ok()?;
-    let mut task = executor.spawn(future).ok()?;
-    executor.try_tick();
-    executor.try_tick();
-    output_of(task.poll(&Nobody))
+fn boxes<R: Wait + Clone + Drop + Send + Sync>(rt: &R, alloc: Global) -> Option<u64> {
+    runs(rt, alloc, Box::new(alloc, Sum::of(1, 2)).ok()?)
 }
 
 /// Runs a task that waits for a number, which another party sends through the waker that it left.
-fn receives<R: Wait + Clone + Drop + Send + Sync>(rt: R, alloc: Global) -> Option<u64> {
-    let right = rt.clone().ok()?;
-    let executor = Executor::new(right, alloc).ok()?;
+fn receives<R: Wait + Clone + Drop + Send + Sync>(rt: &R, alloc: Global) -> Option<u64> {
     let (receiver, sender) = Receiver::new(alloc).ok()?;
-    let mut task = executor.spawn(receiver).ok()?;
-    executor.try_tick();
-    // Nothing is scheduled until the number is sent.
-    if executor.try_tick() {
-        return None;
-    }
-    send(&rt, &sender, 5);
-    executor.try_tick();
-    output_of(task.poll(&Nobody))
+    awaits(rt, alloc, receiver, || send(rt, &sender, 5))
 }
 
-/// Awaits the task of one executor within a task of another.
-fn nests<R: Wait + Clone + Drop + Send + Sync>(rt: R, alloc: Global) -> Option<u64> {
-    let right = rt.clone().ok()?;
-    let (inner, outer) = (
-        Executor::new(rt, alloc).ok()?,
-        Executor::new(right, alloc).ok()?,
-    );
-    let handle = inner.spawn(Job::Give(7)).ok()?;
-    let mut task = outer.spawn(handle).ok()?;
-    outer.try_tick();
-    // The end of the inner task wakes the outer one.
-    inner.try_tick();
-    outer.try_tick();
-    match task.poll(&Nobody) {
-        Poll::Ready(Ok(answer)) => answer.ok(),
-        Poll::Ready(Err(_)) | Poll::Pending => None,
+// Runs a task that waits for what another party does: nothing is scheduled until it has done it.
+fn awaits<F, R, P>(rt: &R, alloc: Global, future: F, other: P) -> Option<F::Output>
+where
+    F: Future<TaskWaker<Nobody, R>> + Send,
+    F::Output: Send,
+    R: Wait + Clone + Drop + Send + Sync,
+    P: FnOnce(),
+    requires { P.IsAlwaysCallable other }
+{
+    let executor = Executor::new(rt.clone().ok()?, alloc).ok()?;
+    let mut task = executor.spawn(future).ok()?;
+    run_all(rt, &executor);
+    let is_early = task.is_finished();
+    other();
+    run_all(rt, &executor);
+    if is_early {
+        None
+    } else {
+        output_of(task.poll(&Nobody))
     }
 }
 
 /// Runs the tasks of one executor on two threads.
-fn shares<R: Wait + Threads + Clone + Drop + Send + Sync>(rt: R, alloc: Global) -> Option<bool> {
-    let right = rt.clone().ok()?;
-    let executor: Executor<_, Nobody, R> = Executor::new(right, alloc).ok()?;
+fn shares<R: Wait + Threads + Clone + Drop + Send + Sync>(
+    rt: &R,
+    executor: &Executor<Sum, Nobody, R>,
+) -> Option<bool> {
     executor.spawn(Sum::of(1, 2)).ok()?.detach();
     executor.spawn(Sum::of(3, 4)).ok()?.detach();
-    let shared = &executor;
-    thread::join(
-        &rt,
-        || shared.try_tick() && shared.try_tick(),
-        || shared.try_tick() && shared.try_tick(),
-    );
-    // A task that a thread held when the other one looked is left.
-    for _ in 0..4 {
-        executor.try_tick();
-    }
+    thread::join(rt, || run_all(rt, executor), || run_all(rt, executor));
     Some(executor.is_empty())
 }
 
@@ -191,28 +180,35 @@ fn interleaves(alloc: Global) -> Option<bool> {
     Some(matches!(world.step(Step::Pend(0)), Reply::Queued(0)))
 }
 
+// The callers that share one executor.
+fn call_each<R: Wait + Threads + Clone + Drop + Send + Sync + Print>(
+    rt: &R,
+    executor: &Executor<Sum, Nobody, R>,
+) -> io::Result<()> {
+    println!(rt; "detaches: {}", detaches(executor))?;
+    println!(rt; "cancels: {:?}", cancels(executor))?;
+    println!(rt; "drops: {}", drops(executor))?;
+    println!(rt; "falls_back: {:?}", falls_back(rt, executor))?;
+    println!(rt; "lets_go: {:?}", lets_go(rt, executor))?;
+    println!(rt; "sleeps: {:?}", sleeps(executor))?;
+    println!(rt; "shares: {:?}", shares(rt, executor))?;
+    let Ok(mut task) = gives_back(executor, Sum::of(1, 2)) else {
+        return Ok(());
+    };
+    run_all(rt, executor);
+    println!(rt; "asks_again: {:?}", asks_again(&mut task, &Nobody))
+}
+
 fn main(rt: HostRuntime) -> io::Result<()> {
     let alloc = rt.alloc();
-    let Ok(executor) = Executor::new(rt.clone()?, alloc) else {
-        return println!(rt; "{OutOfMemory}");
-    };
-    println!(rt; "runs: {:?}", runs(rt.clone()?, alloc))?;
-    println!(rt; "detaches: {}", detaches(&executor))?;
-    println!(rt; "cancels: {:?}", cancels(&executor))?;
-    println!(rt; "drops: {}", drops(&executor))?;
-    println!(rt; "falls_back: {:?}", falls_back(&executor))?;
-    println!(rt; "lets_go: {:?}", lets_go(&executor))?;
-    if let Ok(mut task) = gives_back(&executor, Sum::of(1, 2)) {
-        executor.try_tick();
-        executor.try_tick();
-        println!(rt; "asks_again: {:?}", asks_again(&mut task, &Nobody))?;
+    println!(rt; "runs: {:?}", runs(&rt, alloc, Sum::of(1, 2)))?;
+    match Executor::new(rt.clone()?, alloc) {
+        Ok(executor) => call_each(&rt, &executor)?,
+        Err(OutOfMemory) => println!(rt; "{OutOfMemory}")?,
     }
-    println!(rt; "sleeps: {:?}", sleeps(&executor))?;
-    println!(rt; "mixes: {:?}", mixes(rt.clone()?, alloc))?;
-    println!(rt; "boxes: {:?}", boxes(rt.clone()?, alloc))?;
-    println!(rt; "receives: {:?}", receives(rt.clone()?, alloc))?;
-    println!(rt; "nests: {:?}", nests(rt.clone()?, alloc))?;
-    println!(rt; "shares: {:?}", shares(rt.clone()?, alloc))?;
+    println!(rt; "mixes: {:?}", mixes(&rt, alloc))?;
+    println!(rt; "boxes: {:?}", boxes(&rt, alloc))?;
+    println!(rt; "receives: {:?}", receives(&rt, alloc))?;
     println!(rt; "parks: {:?}", parks(&rt, alloc))?;
     println!(rt; "interleaves: {:?}", interleaves(alloc))
 }

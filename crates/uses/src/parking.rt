@@ -42,25 +42,35 @@ struct Crew<R: Wait + Clone + Drop + Send + Sync> {
 }
 
 impl<R: Wait + Clone + Drop + Send + Sync> Crew<R> {
-    /// Runs tasks until no future is left, and parks while none is scheduled. A thread that stops
-    /// wakes the others, who may wait for a task that does not come.
+    /// Runs tasks until no future is left. A thread that stops wakes the others, who may wait for a
+    /// task that does not come.
     fn work(&self, rt: &R, mine: &ThreadWaker) {
-        let mut next = self.executor.tick();
         for _ in rt.forever() {
-            let Ok(tick) = &mut next else {
+            if !self.runs_one(rt, mine) {
                 break;
-            };
-            if self.left.load(Ordering::SeqCst) == 0 {
-                break;
-            }
-            match tick.poll(mine) {
-                Poll::Pending => mine.parker.park(rt),
-                Poll::Ready(()) => next = self.executor.tick(),
             }
         }
         for waker in &self.wakers {
             waker.wake();
         }
+    }
+
+    // Runs one task by a tick, and parks while none is scheduled. Says whether there was one, which
+    // there is until no future is left.
+    fn runs_one(&self, rt: &R, mine: &ThreadWaker) -> bool {
+        let Ok(mut tick) = self.executor.tick() else {
+            return false;
+        };
+        for _ in rt.forever() {
+            if self.left.load(Ordering::SeqCst) == 0 {
+                break;
+            }
+            if tick.poll(mine) == Poll::Ready(()) {
+                return true;
+            }
+            mine.parker.park(rt);
+        }
+        false
     }
 }
 
