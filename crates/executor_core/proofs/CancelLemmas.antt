@@ -3,12 +3,13 @@ use Rattle.std.proofs.Common.{◌≡◌, ℕ, ◌-◌, ◌&&◌, Bool, true, fal
 use Rattle.executor_core.specs.Cells.{Table}
 use Rattle.executor_core.specs.Cell.{is_idle, is_held}
 use Rattle.executor_core.specs.Cells.View.{numbers_of, table_of, IsSound, Settled}
-use Rattle.executor_core.specs.Cells.Calls.{with_cell, without_cell, queued_if, passes, handle_in, held_in, cancel_at, after_cancel, cancel_queues, end_dropped_at, dropped_answer}
+use Rattle.executor_core.specs.Cells.Calls.{with_cell, without_cell, queued_if, passes, handle_in, held_in, cancel_at, after_cancel, end_dropped_at, dropped_answer}
+use Rattle.executor_core.specs.Queues.State.{QueueState}
 use Rattle.executor_core.specs.Cell.Changes.{cancelled_cell, disposed, wakeup_of}
-use Rattle.executor_core.proofs.TableLemmas.{table_set}
+use Rattle.executor_core.proofs.TableLemmas.{table_set, with_global}
 use Rattle.executor_core.proofs.WakeLemmas.{quiet_write, loud_write}
 use Rattle.executor_core.proofs.EndReadyLemmas.{ended_sound}
-use Rattle.executor_core.proofs.FindLemmas.{cell_at_entry}
+use Rattle.executor_core.proofs.FindLemmas.{cell_of, cell_at_entry}
 use Rattle.executor_core.proofs.StateLemmas.{undropped-state_woken}
 use Rattle.executor_core.specs.declared.task.cell.Cell.{Cell}
 use Rattle.executor_core.specs.declared.task.cell.Numbered.{Numbered}
@@ -37,18 +38,18 @@ module _ {P T W : Type 0} where
   -- what a cancel gives
   pub cancel_table : {next capacity undropped : ℕ} {slots : List (Option (Numbered (Cell P T W)))} {ids : List TaskId}
       → IsSound next slots ids capacity undropped
-      → (id : TaskId) (e : Numbered (Cell P T W)) (later : List TaskId) → get_or slots id.slot None ≡ Some e → e.number ≡ id.number → e.cell.has_handle ≡ true
-      → numbers_of later ≡ cond (is_idle e.cell.state) (numbers_of ids ++ id.number ∷ []) (numbers_of ids)
-      → table_of next (set slots id.slot (Some (record { number = e.number; cell = cancelled_cell e.cell }))) later ≡ after_cancel (table_of next slots ids) id
-  cancel_table {next} {slots = slots} {ids = ids} sound id e later there number handle lists =
-      table_set next slots ids later id e (cancelled_cell e.cell) _ sound.distinct there number lists
-      ∙ sym (ap (cancel_at (table_of next slots ids) id) (cell_at_entry sound id e there number)
-      ∙ ap (λ b. cond b (queued_if (is_idle e.cell.state) (with_cell (table_of next slots ids) id (cancelled_cell e.cell)) id) (table_of next slots ids)) handle)
+      → (q : QueueState) (id : TaskId) (e : Numbered (Cell P T W)) (later : List TaskId) → get_or slots id.slot None ≡ Some e → e.number ≡ id.number → e.cell.has_handle ≡ true
+      → numbers_of later ≡ cond (is_idle e.cell.state) (numbers_of q.lists.global ++ id.number ∷ []) (numbers_of q.lists.global)
+      → table_of next (set slots id.slot (Some (record { number = e.number; cell = cancelled_cell e.cell }))) (with_global later q) ≡ after_cancel (table_of next slots q) id
+  cancel_table {next} {slots = slots} sound q id e later there number handle lists =
+      table_set next slots (with_global later q) id e (cancelled_cell e.cell) _ sound.distinct there number lists
+      ∙ sym (ap (cancel_at (table_of next slots q) id) (cell_at_entry sound id e there number)
+      ∙ ap (λ b. cond b (queued_if (is_idle e.cell.state) (with_cell (table_of next slots q) id (cancelled_cell e.cell)) id) (table_of next slots q)) handle)
 
   pub cancel_queues_is : {next capacity undropped : ℕ} {slots : List (Option (Numbered (Cell P T W)))} {ids : List TaskId}
       → IsSound next slots ids capacity undropped → (id : TaskId) (e : Numbered (Cell P T W)) {b : Bool}
-      → get_or slots id.slot None ≡ Some e → e.number ≡ id.number → e.cell.has_handle ≡ true → is_idle e.cell.state ≡ b → cancel_queues (table_of next slots ids) id ≡ b
-  cancel_queues_is {next} {slots = slots} {ids = ids} sound id e there number handle idle =
+      → get_or slots id.slot None ≡ Some e → e.number ≡ id.number → e.cell.has_handle ≡ true → is_idle e.cell.state ≡ b → passes (λ c. c.has_handle && is_idle c.state) (cell_of slots id) ≡ b
+  cancel_queues_is sound id e there number handle idle =
       ap (passes (λ c. c.has_handle && is_idle c.state)) (cell_at_entry sound id e there number)
       ∙ ap (λ b. b && is_idle e.cell.state) handle ∙ idle
 

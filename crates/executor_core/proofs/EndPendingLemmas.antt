@@ -3,11 +3,12 @@ use Rattle.std.proofs.Common.{◌≡◌, ℕ, ◌||◌, true, false, List, [], �
 use Rattle.executor_core.specs.Cells.{Table}
 use Rattle.executor_core.specs.Cell.{is_idle, is_held, is_scheduled, is_undropped}
 use Rattle.executor_core.specs.Cells.View.{numbers_of, table_of, IsSound}
-use Rattle.executor_core.specs.Cells.Calls.{cell_at, with_cell, takes_back_in, end_pending_at, after_end_pending, queued_if, woken_in}
+use Rattle.executor_core.specs.Cells.Calls.{with_cell, takes_back_in, end_pending_at, after_end_pending, queued_if, woken_in}
+use Rattle.executor_core.specs.Queues.State.{QueueState}
 use Rattle.executor_core.specs.Cell.Changes.{takes_back, pended}
-use Rattle.executor_core.proofs.TableLemmas.{table_set}
+use Rattle.executor_core.proofs.TableLemmas.{table_set, with_global}
 use Rattle.executor_core.proofs.WriteLemmas.{kept_sound, queued_sound}
-use Rattle.executor_core.proofs.FindLemmas.{cell_at_entry}
+use Rattle.executor_core.proofs.FindLemmas.{cell_of, cell_at_entry}
 use Rattle.executor_core.proofs.StateLemmas.{held_state}
 use Rattle.executor_core.specs.declared.task.cell.Cell.{Cell}
 use Rattle.executor_core.specs.declared.task.cell.Numbered.{Numbered}
@@ -42,13 +43,13 @@ module _ {P T W : Type 0} where
 
   pub end_pending_table : {next capacity undropped : ℕ} {slots : List (Option (Numbered (Cell P T W)))} {ids : List TaskId}
       → IsSound next slots ids capacity undropped
-      → (id : TaskId) (e : Numbered (Cell P T W)) (p : P) (later : List TaskId) → get_or slots id.slot None ≡ Some e → e.number ≡ id.number → takes_back e.cell ≡ true
-      → numbers_of later ≡ cond e.cell.woken (numbers_of ids ++ id.number ∷ []) (numbers_of ids)
-      → table_of next (set slots id.slot (Some (record { number = e.number; cell = pended e.cell p }))) later ≡ after_end_pending (table_of next slots ids) id p
-  end_pending_table {next} {slots = slots} {ids = ids} sound id e p later there number out lists =
-      table_set next slots ids later id e (pended e.cell p) _ sound.distinct there number lists
-      ∙ sym (ap (end_pending_at (table_of next slots ids) id p) (cell_at_entry sound id e there number)
-      ∙ ap (λ b. cond b (queued_if e.cell.woken (with_cell (table_of next slots ids) id (pended e.cell p)) id) (table_of next slots ids)) out)
+      → (q : QueueState) (id : TaskId) (e : Numbered (Cell P T W)) (p : P) (later : List TaskId) → get_or slots id.slot None ≡ Some e → e.number ≡ id.number → takes_back e.cell ≡ true
+      → numbers_of later ≡ cond e.cell.woken (numbers_of q.lists.global ++ id.number ∷ []) (numbers_of q.lists.global)
+      → table_of next (set slots id.slot (Some (record { number = e.number; cell = pended e.cell p }))) (with_global later q) ≡ after_end_pending (table_of next slots q) id p
+  end_pending_table {next} {slots = slots} sound q id e p later there number out lists =
+      table_set next slots (with_global later q) id e (pended e.cell p) _ sound.distinct there number lists
+      ∙ sym (ap (end_pending_at (table_of next slots q) id p) (cell_at_entry sound id e there number)
+      ∙ ap (λ b. cond b (queued_if e.cell.woken (with_cell (table_of next slots q) id (pended e.cell p)) id) (table_of next slots q)) out)
 
   -- nothing is out for the id
   pub after_end_pending-absent : (table : Table P T W) (id : TaskId) (p : P) (o : Option (Cell P T W)) → takes_back_in o ≡ false → end_pending_at table id p o ≡ table
@@ -57,5 +58,5 @@ module _ {P T W : Type 0} where
 
   pub woken_in_is : {next capacity undropped : ℕ} {slots : List (Option (Numbered (Cell P T W)))} {ids : List TaskId}
       → IsSound next slots ids capacity undropped → (id : TaskId) (e : Numbered (Cell P T W)) → get_or slots id.slot None ≡ Some e → e.number ≡ id.number
-      → woken_in (cell_at (table_of next slots ids) id) ≡ e.cell.woken
-  woken_in_is {next} {slots = slots} {ids = ids} sound id e there number = ap woken_in (cell_at_entry sound id e there number)
+      → woken_in (cell_of slots id) ≡ e.cell.woken
+  woken_in_is sound id e there number = ap woken_in (cell_at_entry sound id e there number)

@@ -4,6 +4,7 @@ use Rattle.executor_core.specs.Cells.{Table}
 use Rattle.executor_core.specs.Cell.{is_idle, is_held, is_scheduled, is_undropped}
 use Rattle.executor_core.specs.Cells.View.{numbers_of, table_of, IsSound, Settled}
 use Rattle.executor_core.specs.Cells.Calls.{with_cell, without_cell, end_ready_at, ready_answer, held_in, handle_in, poll_handle_at, poll_answer, ended_answer}
+use Rattle.executor_core.specs.Queues.State.{QueueState}
 use Rattle.executor_core.specs.Cell.Changes.{readied, awaited, output_of, wakeup_of}
 use Rattle.executor_core.proofs.TableLemmas.{table_set}
 use Rattle.executor_core.proofs.WriteLemmas.{kept_sound}
@@ -41,7 +42,7 @@ module _ {P T W : Type 0} where
       let facts = held_state e.cell.state held in
       let one = counted_one sound key e there facts.1 in
       let room = sound.room in
-      put_sound sound key e c there ids _ (undropped - 1) (omega arith) settled sound.placed
+      put_sound sound key e c there ids _ (undropped - 1) (omega arith) (omega arith) settled sound.placed
       (law_at sound key e there ∙ ap (λ b. cond b 1 0) (facts.0 ∙ sym unqueued))
       (λ q far. refl)
       (arith_end undropped (length ids) one facts.1 unqueueable)
@@ -109,9 +110,9 @@ module _ {P T W : Type 0} where
 
   pub set_table : {next capacity undropped : ℕ} {slots : List (Option (Numbered (Cell P T W)))} {ids : List TaskId}
       → IsSound next slots ids capacity undropped
-      → (id : TaskId) (e : Numbered (Cell P T W)) (c : Cell P T W) → get_or slots id.slot None ≡ Some e → e.number ≡ id.number
-      → table_of next (set slots id.slot (Some (record { number = e.number; cell = c }))) ids ≡ with_cell (table_of next slots ids) id c
-  set_table {next} {slots = slots} {ids = ids} sound id e c there number = table_set next slots ids ids id e c (numbers_of ids) sound.distinct there number refl
+      → (q : QueueState) (id : TaskId) (e : Numbered (Cell P T W)) (c : Cell P T W) → get_or slots id.slot None ≡ Some e → e.number ≡ id.number
+      → table_of next (set slots id.slot (Some (record { number = e.number; cell = c }))) q ≡ with_cell (table_of next slots q) id c
+  set_table {next} {slots = slots} sound q id e c there number = table_set next slots q id e c (numbers_of q.lists.global) sound.distinct there number refl
 
   pub answer_kept : (t : T) (c : Cell P T W) → is_held c.state ≡ true → c.has_handle ≡ true → ready_answer t (Some c) ≡ record { awaiter = wakeup_of c.awaiter; unwanted = cond c.cancelled (Some t) None }
   answer_kept t c held handle = answer_some t c held handle ∙ by c.cancelled

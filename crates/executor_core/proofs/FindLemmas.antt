@@ -5,6 +5,7 @@ use Rattle.std.specs.FinMap as map
 use Rattle.executor_core.specs.Cells.{Slotted, Table}
 use Rattle.executor_core.specs.Cells.View.{cells_of, table_of, IsSound}
 use Rattle.executor_core.specs.Cells.Calls.{cell_at, in_slot}
+use Rattle.executor_core.specs.Queues.State.{QueueState}
 use Rattle.executor_core.proofs.SlotLemmas.{sees_get, get_sees}
 use Rattle.executor_core.specs.declared.task.cell.Cell.{Cell}
 use Rattle.executor_core.specs.declared.task.cell.Numbered.{Numbered}
@@ -24,6 +25,10 @@ module _ {P T W : Type 0} where
   cell_in n None = None
   cell_in n (Some e) = cond (e.number == n) (Some e.cell) None
 
+  -- the cell of the id's number, if it is in the id's slot
+  abbrev pub cell_of : List (Option (Numbered (Cell P T W))) → TaskId → Option (Cell P T W)
+  cell_of slots id = in_slot id.slot (map.get (cells_of slots) id.number)
+
   in_slot_none : (slot : ℕ) (o : Option (Slotted P T W)) → ((s : Slotted P T W) → o ≡ Some s → s.slot ≢ slot) → in_slot slot o ≡ None
   in_slot_none slot None h = refl
   in_slot_none slot (Some s) h = ap (λ b. cond b (Some s.cell) None) (ne_eqb s.slot slot (h s refl))
@@ -31,14 +36,14 @@ module _ {P T W : Type 0} where
   -- a slot's cell is the id's, if the number is the id's
   pub cell_at_entry : {next capacity undropped : ℕ} {slots : List (Option (Numbered (Cell P T W)))} {ids : List TaskId}
       → IsSound next slots ids capacity undropped
-      → (id : TaskId) (e : Numbered (Cell P T W)) → get_or slots id.slot None ≡ Some e → e.number ≡ id.number → cell_at (table_of next slots ids) id ≡ Some e.cell
+      → (id : TaskId) (e : Numbered (Cell P T W)) → get_or slots id.slot None ≡ Some e → e.number ≡ id.number → cell_of slots id ≡ Some e.cell
   cell_at_entry {slots = slots} sound id e there number =
       ap (in_slot id.slot) (ap (map.get (cells_of slots)) (sym number) ∙ sees_get slots sound.distinct id.slot e there)
       ∙ ap (λ b. cond b (Some e.cell) None) (eq-eqb id.slot id.slot refl)
 
-  cell_at_none : (next : ℕ) (slots : List (Option (Numbered (Cell P T W)))) (ids : List TaskId) (id : TaskId)
-      → is_numbered id.number (get_or slots id.slot None) ≡ false → cell_at (table_of next slots ids) id ≡ None
-  cell_at_none next slots ids id h =
+  cell_at_none : (slots : List (Option (Numbered (Cell P T W)))) (id : TaskId)
+      → is_numbered id.number (get_or slots id.slot None) ≡ false → cell_of slots id ≡ None
+  cell_at_none slots id h =
       in_slot_none id.slot _ (λ s found slot.
       let sees = get_sees slots id.number s found in
       let zero_at : 0 + sees.at ≡ sees.at = omega arith in
@@ -48,21 +53,21 @@ module _ {P T W : Type 0} where
 
   -- the id's cell is what its slot has for its number
   pub cell_at_is : {next capacity undropped : ℕ} {slots : List (Option (Numbered (Cell P T W)))} {ids : List TaskId}
-      → IsSound next slots ids capacity undropped → (id : TaskId) → cell_at (table_of next slots ids) id ≡ cell_in id.number (get_or slots id.slot None)
-  cell_at_is {next} {slots = slots} {ids = ids} sound id = by_slot (get_or slots id.slot None) refl
+      → IsSound next slots ids capacity undropped → (id : TaskId) → cell_of slots id ≡ cell_in id.number (get_or slots id.slot None)
+  cell_at_is {slots = slots} sound id = by_slot (get_or slots id.slot None) refl
     where
-      by_slot : (o : Option (Numbered (Cell P T W))) → get_or slots id.slot None ≡ o → cell_at (table_of next slots ids) id ≡ cell_in id.number o
-      by_slot None e = cell_at_none next slots ids id (ap (is_numbered id.number) e)
+      by_slot : (o : Option (Numbered (Cell P T W))) → get_or slots id.slot None ≡ o → cell_of slots id ≡ cell_in id.number o
+      by_slot None e = cell_at_none slots id (ap (is_numbered id.number) e)
       by_slot (Some e) is = elim (cases_Bool (e.number == id.number)) [
         | inl same ↦ cell_at_entry sound id e is (eqb-true e.number id.number same) ∙ ap (λ b. cond b (Some e.cell) None) (sym same)
-        | inr far ↦ cell_at_none next slots ids id (ap (is_numbered id.number) is ∙ far) ∙ ap (λ b. cond b (Some e.cell) None) (sym far)
+        | inr far ↦ cell_at_none slots id (ap (is_numbered id.number) is ∙ far) ∙ ap (λ b. cond b (Some e.cell) None) (sym far)
       ]
 
   -- what a test finds at the id, it finds in the slot
   pub test_at : {next capacity undropped : ℕ} {slots : List (Option (Numbered (Cell P T W)))} {ids : List TaskId} {table : Table P T W}
-      → IsSound next slots ids capacity undropped → table_of next slots ids ≡ table
+      → IsSound next slots ids capacity undropped → (q : QueueState) → table_of next slots q ≡ table
       → (F : Option (Cell P T W) → Bool) (id : TaskId) {b : Bool} → b ≡ F (cell_at table id) → F (cell_in id.number (get_or slots id.slot None)) ≡ b
-  test_at sound seen_is F id is = sym (is ∙ ap (λ s. F (cell_at s id)) (sym seen_is) ∙ ap F (cell_at_is sound id))
+  test_at sound q seen_is F id is = sym (is ∙ ap (λ s. F (cell_at s id)) (sym seen_is) ∙ ap F (cell_at_is sound id))
 
   -- what the id's slot has where a test of the id's cell passes
   pub record PassesAt (F : Option (Cell P T W) → Bool) (slots : List (Option (Numbered (Cell P T W)))) (id : TaskId) : Type 0 where
@@ -71,9 +76,9 @@ module _ {P T W : Type 0} where
     pub passes : F (Some entry.cell) ≡ true
 
   pub passes_at : {next capacity undropped : ℕ} {slots : List (Option (Numbered (Cell P T W)))} {ids : List TaskId} {table : Table P T W}
-      → IsSound next slots ids capacity undropped → table_of next slots ids ≡ table
+      → IsSound next slots ids capacity undropped → (q : QueueState) → table_of next slots q ≡ table
       → (F : Option (Cell P T W) → Bool) → F None ≡ false → (id : TaskId) {b : Bool} → b ≡ F (cell_at table id) → b ≡ true → PassesAt F slots id
-  passes_at {slots = slots} sound seen_is F none id {b} is passed = by_slot (get_or slots id.slot None) refl (test_at sound seen_is F id is ∙ passed)
+  passes_at {slots = slots} sound q seen_is F none id {b} is passed = by_slot (get_or slots id.slot None) refl (test_at sound q seen_is F id is ∙ passed)
     where
       by_slot : (o : Option (Numbered (Cell P T W))) → get_or slots id.slot None ≡ o → F (cell_in id.number o) ≡ true → PassesAt F slots id
       by_slot None there h = absurd (cc)

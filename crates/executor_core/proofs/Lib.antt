@@ -6,6 +6,12 @@ pub mod EndPendingLemmas
 pub mod EndReadyLemmas
 pub mod FindLemmas
 pub mod ListLemmas
+pub mod OrderLemmas
+pub mod QueueLemmas
+pub mod QueueListLemmas
+pub mod QueuePlaceLemmas
+pub mod QueueSearchLemmas
+pub mod QueueStateLemmas
 pub mod RemoveLemmas
 pub mod SleeperCallLemmas
 pub mod SleeperListLemmas

@@ -8,6 +8,7 @@ use Rattle.executor_core.specs.Numbers.{times}
 use Rattle.executor_core.specs.Cells.Law.{scheduled_in, ScheduledOnce}
 use Rattle.executor_core.specs.Cells.View.{seen, cells_of, Distinct, numbers_of, table_of, Placed, IsSound, is_queueable}
 use Rattle.executor_core.specs.Cells.Calls.{without_cell}
+use Rattle.executor_core.specs.Queues.State.{QueueState}
 use Rattle.executor_core.proofs.TableLemmas.{same_table}
 use Rattle.executor_core.proofs.SlotLemmas.{sees_get, get_sees}
 use Rattle.executor_core.specs.declared.task.cell.Cell.{Cell}
@@ -102,6 +103,7 @@ module _ {P T W : Type 0} where
       let cells = cells_of-removed slots new key e sound.distinct there changes in
       let none : times e.number (numbers_of ids) ≡ 0 = law_at sound key e there ∙ ap (λ b. cond b 1 0) quiet in
       let room = sound.room in
+      let numbered = sound.numbered in
       let sums : count_by is_queueable new + cond (is_queueable (Some e)) 1 0 ≡ count_by is_queueable slots + 0 =
       ap (λ o. count_by is_queueable new + cond (is_queueable o) 1 0) (sym there) ∙ recounted (λ o. cond (is_queueable o) 1 0) refl slots new key changes.others ∙ ap (λ o. count_by is_queueable slots + cond (is_queueable o) 1 0) changes.changed in
       record {
@@ -112,6 +114,7 @@ module _ {P T W : Type 0} where
         settled = λ i d found. sound.settled i d (kept i d found);
         counted = less left undropped (length ids) (count_by is_queueable slots) (count_by is_queueable new) _ 0 balance sound.counted sums;
         room = omega arith;
+        numbered = omega arith;
       }
     where
       kept : (k : ℕ) (d : Numbered (Cell P T W)) → get_or new k None ≡ Some d → get_or slots k None ≡ Some d
@@ -122,11 +125,11 @@ module _ {P T W : Type 0} where
 
   pub remove_table : {next capacity undropped : ℕ} {slots : List (Option (Numbered (Cell P T W)))} {ids : List TaskId}
       → IsSound next slots ids capacity undropped
-      → (id : TaskId) (e : Numbered (Cell P T W)) → get_or slots id.slot None ≡ Some e → e.number ≡ id.number
+      → (q : QueueState) (id : TaskId) (e : Numbered (Cell P T W)) → get_or slots id.slot None ≡ Some e → e.number ≡ id.number
       → (new : List (Option (Numbered (Cell P T W)))) → Changes slots new id.slot None
-      → table_of next new ids ≡ without_cell (table_of next slots ids) id
-  remove_table {next} {slots = slots} {ids = ids} sound id e there number new changes =
-      same_table next _ _ _ _ (cells_of-removed slots new id.slot e sound.distinct there changes ∙ ap (map.remove (cells_of slots)) number) refl
+      → table_of next new q ≡ without_cell (table_of next slots q) id
+  remove_table {next} {slots = slots} sound q id e there number new changes =
+      same_table (table_of next slots q) _ _ _ _ (cells_of-removed slots new id.slot e sound.distinct there changes ∙ ap (map.remove (cells_of slots)) number) refl
 
   -- a cell whose future is out is counted
   pub counted_one : {next capacity undropped : ℕ} {slots : List (Option (Numbered (Cell P T W)))} {ids : List TaskId}

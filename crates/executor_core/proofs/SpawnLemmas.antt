@@ -8,6 +8,7 @@ use Rattle.executor_core.specs.Cells.Law.{scheduled_in, ScheduledOnce}
 use Rattle.executor_core.specs.Cells.View.{seen, cells_of, numbers_of, table_of, Placed, IsSound, Settled, is_queueable}
 use Rattle.executor_core.specs.Cell.Changes.{new_cell}
 use Rattle.executor_core.specs.Cells.Calls.{after_spawn, IsFree, empty_table}
+use Rattle.executor_core.specs.Queues.State.{QueueState, no_queues, with_lists, pushed}
 use Rattle.executor_core.proofs.TableLemmas.{same_table}
 use Rattle.executor_core.proofs.SlotLemmas.{get_sees}
 use Rattle.executor_core.specs.declared.task.cell.Cell.{Cell}
@@ -34,7 +35,7 @@ module _ {P T W : Type 0} where
       → IsSound next slots ids capacity undropped → (room : ℕ) → capacity ≤ room → IsSound next slots ids room undropped
   roomier sound room more =
       let was = sound.room in
-      record { below = sound.below; distinct = sound.distinct; placed = sound.placed; law = sound.law; settled = sound.settled; counted = sound.counted; room = omega arith }
+      record { below = sound.below; distinct = sound.distinct; placed = sound.placed; law = sound.law; settled = sound.settled; counted = sound.counted; room = omega arith; numbered = sound.numbered }
 
   -- the next number has no cell
   next_absent : {next capacity undropped : ℕ} {slots : List (Option (Numbered (Cell P T W)))} {ids : List TaskId}
@@ -82,6 +83,7 @@ module _ {P T W : Type 0} where
       let m = cells_of slots in
       let fits = new_fits sound key vacant in
       let cells : cells_of new ≡ map.insert m next (seen key (new_cell p)) = cells_of-put slots new key f sound.distinct fits changes in
+      let numbered = sound.numbered in
       let lists : numbers_of later ≡ numbers_of ids ++ next ∷ [] = ap numbers_of longer ∙ numbers_of-push ids id in
       let none = next_absent sound in
       let was : times next (numbers_of ids) ≡ 0 = sound.law next ∙ ap (λ o. cond (scheduled_in o) 1 0) none in
@@ -104,6 +106,7 @@ module _ {P T W : Type 0} where
             (law_put m (numbers_of ids) (numbers_of later) next (seen key (new_cell p)) sound.law (ap (times next) lists ∙ once) (λ q far. ap (times q) lists ∙ times-push_other q next (numbers_of ids) far));
         counted = counts _ _ _ _ _ sound.counted (ap length longer ∙ length-append ids (id ∷ [])) (ap (λ o. count_by is_queueable new + cond (is_queueable o) 1 0) (sym vacant) ∙ same_count slots new key (Some f) changes);
         room = enough;
+        numbered = omega arith;
         settled = λ i d found. elim (cases_eq i key) [
           | inl here ↦
               let is : d ≡ f = cc (ap (λ k. get_or new k None) here, found, changes.changed) in
@@ -112,21 +115,20 @@ module _ {P T W : Type 0} where
         ];
       }
 
-  pub spawn_table : {next capacity undropped : ℕ} {slots : List (Option (Numbered (Cell P T W)))} {ids later : List TaskId}
+  pub spawn_table : {next capacity undropped : ℕ} {slots : List (Option (Numbered (Cell P T W)))} {ids : List TaskId}
       → IsSound next slots ids capacity undropped
-      → (p : P) (new : List (Option (Numbered (Cell P T W)))) (key : ℕ) → get_or slots key None ≡ None
+      → (q : QueueState) (p : P) (new : List (Option (Numbered (Cell P T W)))) (key : ℕ) → get_or slots key None ≡ None
       → Changes slots new key (Some (record { number = next; cell = new_cell p }))
-      → later ≡ ids ++ record { number = next; slot = key } ∷ []
-      → table_of (next + 1) new later ≡ after_spawn (table_of next slots ids) key p
-  spawn_table {next} {slots = slots} {ids = ids} sound p new key vacant changes longer =
-      same_table (next + 1) _ _ _ _
+      → table_of (next + 1) new (with_lists (pushed (record { number = next; slot = key }) q.lists) q) ≡ after_spawn (table_of next slots q) key p
+  spawn_table {next} {slots = slots} sound q p new key vacant changes =
+      same_table (table_of (next + 1) slots q) _ _ _ _
       (cells_of-put slots new key (record { number = next; cell = new_cell p }) sound.distinct (new_fits sound key vacant) changes)
-      (ap numbers_of longer ∙ numbers_of-push ids (record { number = next; slot = key }))
+      (numbers_of-push q.lists.global (record { number = next; slot = key }))
 
   pub spawn_free : {next capacity undropped : ℕ} {slots : List (Option (Numbered (Cell P T W)))} {ids : List TaskId}
       → IsSound next slots ids capacity undropped
-      → (key : ℕ) → get_or slots key None ≡ None → IsFree (table_of next slots ids) key
-  spawn_free {slots = slots} sound key vacant n s found taken =
+      → (q : QueueState) (key : ℕ) → get_or slots key None ≡ None → IsFree (table_of next slots q) key
+  spawn_free {slots = slots} sound q key vacant n s found taken =
       let sees = get_sees slots n s found in
       let zero_at : 0 + sees.at ≡ sees.at = omega arith in
       let place : sees.at ≡ key = sym (ap (λ x. x.slot) sees.is ∙ zero_at) ∙ taken in
@@ -142,10 +144,11 @@ module _ {P T W : Type 0} where
         law = λ n. sym (ap (λ o. cond (scheduled_in {P = P} {T = T} {W = W} o) 1 0) (get-cells_of {P = P} {T = T} {W = W} [] n));
         counted = refl;
         room = omega arith;
+        numbered = omega arith;
         settled = λ i c found. absurd (cc);
       }
 
-  pub empty_is : (first : ℕ) → table_of {P = P} {T = T} {W = W} first [] [] ≡ empty_table first
+  pub empty_is : (first : ℕ) → table_of {P = P} {T = T} {W = W} first [] no_queues ≡ empty_table first
   unfolding cells_of
   empty_is first = refl
 

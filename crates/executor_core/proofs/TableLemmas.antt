@@ -8,6 +8,7 @@ use Rattle.std.specs.List.{All}
 use Rattle.std.specs.Ordering.{nat_cmp}
 use Rattle.std.specs.FinMap as map
 use Rattle.executor_core.specs.Cells.{Slotted, Table}
+use Rattle.executor_core.specs.Queues.State.{QueueState, with_lists}
 use Rattle.executor_core.specs.Cells.View.{seen, cells_of, Distinct, is_queueable, numbers_of, table_of, Placed, IsSound, Settled}
 use Rattle.executor_core.specs.Cell.{is_idle, is_held, is_scheduled}
 use Rattle.executor_core.specs.Cells.Law.{scheduled_in, ScheduledOnce}
@@ -73,15 +74,16 @@ module _ {P T W : Type 0} where
   pub put_sound : {next capacity undropped : ℕ} {slots : List (Option (Numbered (Cell P T W)))} {ids : List TaskId}
       → IsSound next slots ids capacity undropped
       → (key : ℕ) (e : Numbered (Cell P T W)) (c : Cell P T W) → get_or slots key None ≡ Some e
-      → (later : List TaskId) (room left : ℕ) → left ≤ room → Settled c
+      → (later : List TaskId) (room left : ℕ) → left ≤ room → left ≤ undropped → Settled c
       → All (Placed (cells_of slots)) later
       → times e.number (numbers_of later) ≡ cond (is_scheduled c.state) 1 0
       → ((q : ℕ) → q ≢ e.number → times q (numbers_of later) ≡ times q (numbers_of ids))
       → left + (length ids + cond (is_idle e.cell.state || is_held e.cell.state) 1 0) ≡ undropped + (length later + cond (is_idle c.state || is_held c.state) 1 0)
       → IsSound next (set slots key (Some (record { number = e.number; cell = c }))) later room left
-  put_sound {next} {capacity} {undropped} {slots} {ids} sound key e c there later room left enough settled placed here others balance =
+  put_sound {next} {capacity} {undropped} {slots} {ids} sound key e c there later room left enough fewer settled placed here others balance =
       let f : Numbered (Cell P T W) = record { number = e.number; cell = c } in
       let new = set slots key (Some f) in
+      let numbered = sound.numbered in
       let fits = fits_itself slots sound.distinct key e there in
       let changes = set_changes slots key e f there in
       let cells = cells_of-set slots key e c sound.distinct there in
@@ -101,6 +103,7 @@ module _ {P T W : Type 0} where
         law = subst (λ m. ScheduledOnce m (numbers_of later)) (sym cells) (law_put (cells_of slots) (numbers_of ids) (numbers_of later) e.number (seen key c) sound.law here others);
         counted = recount _ _ _ _ _ _ _ _ _ sound.counted sums was balance;
         room = enough;
+        numbered = omega arith;
         settled = λ i d found. elim (cases_eq i key) [
           | inl here_i ↦
               let is : d ≡ f = cc (ap (λ k. get_or new k None) here_i, found, changes.changed) in
@@ -109,17 +112,21 @@ module _ {P T W : Type 0} where
         ];
       }
 
-  pub same_table : (next : ℕ) (m n : map.FinMap nat_cmp (Slotted P T W)) (xs ys : List ℕ) → m ≡ n → xs ≡ ys
-      → ◌≡◌ {A = Table P T W} (record { next = next; cells = m; global = xs }) (record { next = next; cells = n; global = ys })
-  same_table next m n xs ys p q = λ i. record { next = next; cells = p i; global = q i }
+  pub same_table : (t : Table P T W) (m n : map.FinMap nat_cmp (Slotted P T W)) (xs ys : List ℕ) → m ≡ n → xs ≡ ys
+      → ◌≡◌ {A = Table P T W} (record t { cells = m; global = xs }) (record t { cells = n; global = ys })
+  same_table t m n xs ys p q = λ i. record t { cells = p i; global = q i }
 
   -- what is seen after a write of one cell
-  pub table_set : (next : ℕ) (slots : List (Option (Numbered (Cell P T W)))) (ids later : List TaskId) (id : TaskId) (e : Numbered (Cell P T W)) (c : Cell P T W) (xs : List ℕ)
-      → Distinct slots → get_or slots id.slot None ≡ Some e → e.number ≡ id.number → numbers_of later ≡ xs
-      → table_of next (set slots id.slot (Some (record { number = e.number; cell = c }))) later ≡ record (with_cell (table_of next slots ids) id c) { global = xs }
-  table_set next slots ids later id e c xs distinct there number lists =
-      same_table next _ _ _ _ (cells_of-set slots id.slot e c distinct there ∙ ap (λ n. map.insert (cells_of slots) n (seen id.slot c)) number) lists
+  pub table_set : (next : ℕ) (slots : List (Option (Numbered (Cell P T W)))) (later : QueueState) (id : TaskId) (e : Numbered (Cell P T W)) (c : Cell P T W) (xs : List ℕ)
+      → Distinct slots → get_or slots id.slot None ≡ Some e → e.number ≡ id.number → numbers_of later.lists.global ≡ xs
+      → table_of next (set slots id.slot (Some (record { number = e.number; cell = c }))) later ≡ record (with_cell (table_of next slots later) id c) { global = xs }
+  table_set next slots later id e c xs distinct there number lists =
+      same_table (table_of next slots later) _ _ _ _ (cells_of-set slots id.slot e c distinct there ∙ ap (λ n. map.insert (cells_of slots) n (seen id.slot c)) number) lists
 
 pub numbers_of-push : (ids : List TaskId) (id : TaskId) → numbers_of (ids ++ id ∷ []) ≡ numbers_of ids ++ id.number ∷ []
 numbers_of-push [] id = refl
 numbers_of-push (x ∷ xs) id = ap (λ l. x.number ∷ l) (numbers_of-push xs id)
+
+-- these ids in place of those of the global queue
+abbrev pub with_global : List TaskId → QueueState → QueueState
+with_global ids q = with_lists (record q.lists { global = ids }) q

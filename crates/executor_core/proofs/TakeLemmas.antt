@@ -1,11 +1,14 @@
 -- What a take keeps and gives.
-use Rattle.std.proofs.Common.{◌≡◌, ℕ, true, List, ◌∷◌, set, get_or, Option, Some, None, refl, sym, ap, ◌∙◌}
+use Rattle.std.proofs.Common.{◌≡◌, ℕ, true, List, [], ◌∷◌, get_or, Option, Some, None, refl, sym, ap, subst, ◌∙◌}
 use Rattle.std.specs.FinMap as map
 use Rattle.executor_core.specs.Cell.{is_scheduled}
-use Rattle.executor_core.specs.Cells.{Slotted}
-use Rattle.executor_core.specs.Cells.View.{seen, cells_of, numbers_of, table_of, IsSound}
+use Rattle.executor_core.specs.Cells.{Slotted, Table}
+use Rattle.executor_core.specs.Cells.Law.{queues_of}
+use Rattle.executor_core.specs.Cells.View.{seen, cells_of, numbers_of, scheduled_slot, table_of, IsSound, TakesOut}
 use Rattle.executor_core.specs.Cell.Changes.{taken}
-use Rattle.executor_core.specs.Cells.Calls.{after_take, take_first, with_taken_at, TakesFront}
+use Rattle.executor_core.specs.Cells.Calls.{with_cell, with_taken_at, with_queues, search_to, after_take, take_first, IsTaken}
+use Rattle.executor_core.specs.Queues.{QueueLists, map_queues, search_global, global_front}
+use Rattle.executor_core.specs.Queues.State.{QueueState, with_lists}
 use Rattle.executor_core.proofs.TableLemmas.{table_set}
 use Rattle.executor_core.proofs.SlotLemmas.{sees_get}
 use Rattle.executor_core.proofs.WriteLemmas.{unqueued_sound, front_cell}
@@ -14,47 +17,84 @@ use Rattle.executor_core.specs.declared.task.cell.Cell.{Cell}
 use Rattle.executor_core.specs.declared.task.cell.Numbered.{Numbered}
 use Rattle.executor_core.specs.declared.task.id.TaskId.{TaskId}
 use Rattle.executor_core.specs.declared.task.values.Taken.{Taken}
-use Rattle.executor_core.specs.declared.task.cell.CellState.TheVariants.{Scheduled}
 
 module _ {P T W : Type 0} where
-  pub take_sound : {next capacity undropped : ℕ} {slots : List (Option (Numbered (Cell P T W)))} {ids later : List TaskId}
-      → IsSound next slots ids capacity undropped
-      → (id : TaskId) (e : Numbered (Cell P T W)) → get_or slots id.slot None ≡ Some e → ids ≡ id ∷ later
-      → (room : ℕ) → capacity ≡ room
-      → IsSound next (set slots id.slot (Some (record { number = e.number; cell = taken e.cell }))) later room undropped
-  take_sound sound id e there front room same_room =
-      let at = front_cell sound id front in
-      let same : at.0 ≡ e = cc in
-      let number : e.number ≡ id.number = ap (λ x. x.number) (sym same) ∙ at.2 in
-      let scheduled : is_scheduled e.cell.state ≡ true = ap (λ x. is_scheduled x.cell.state) (sym same) ∙ at.3 in
-      unqueued_sound sound id e (taken e.cell) there number scheduled refl (scheduled_state e.cell.state scheduled) refl (λ dropped. absurd (cc (dropped))) room same_room front
+  -- the cell of the first queued id is scheduled
+  pub first_scheduled : {next capacity undropped : ℕ} {slots : List (Option (Numbered (Cell P T W)))} {later : List TaskId} {id : TaskId}
+      → IsSound next slots (id ∷ later) capacity undropped → scheduled_slot (get_or slots id.slot None) ≡ true
+  first_scheduled {id = id} sound = let at = front_cell sound id refl in ap scheduled_slot at.1 ∙ at.3
 
-  pub take_table : {next capacity undropped : ℕ} {slots : List (Option (Numbered (Cell P T W)))} {ids later : List TaskId}
-      → IsSound next slots ids capacity undropped
-      → (id : TaskId) (e : Numbered (Cell P T W)) → get_or slots id.slot None ≡ Some e → ids ≡ id ∷ later
-      → table_of next (set slots id.slot (Some (record { number = e.number; cell = taken e.cell }))) later ≡ after_take (table_of next slots ids)
-  take_table {next} {slots = slots} {ids = ids} {later = later} sound id e there front =
-      let at = front_cell sound id front in
-      let same : at.0 ≡ e = cc in
-      let number : e.number ≡ id.number = ap (λ x. x.number) (sym same) ∙ at.2 in
-      let found : map.get (cells_of slots) id.number ≡ Some (seen id.slot e.cell) = ap (map.get (cells_of slots)) (sym number) ∙ sees_get slots sound.distinct id.slot e there in
-      table_set next slots ids later id e (taken e.cell) (numbers_of later) sound.distinct there number refl
-      ∙ sym (ap (λ l. take_first (table_of next slots ids) l) (ap numbers_of front) ∙ ap (λ (o : Option (Slotted P T W)). record (with_taken_at (table_of next slots ids) id.number o) { global = numbers_of later }) found)
+  taken_number : {next capacity undropped : ℕ} {slots new : List (Option (Numbered (Cell P T W)))} {later : List TaskId} {id : TaskId} {task : Taken P}
+      → IsSound next slots (id ∷ later) capacity undropped → (takes : TakesOut slots new id task) → takes.entry.number ≡ id.number
+  taken_number {id = id} sound takes =
+      let at = front_cell sound id refl in
+      let there = takes.there in
+      let same : at.0 ≡ takes.entry = cc in
+      ap (λ x. x.number) (sym same) ∙ at.2
 
-  pub taken_from : {next capacity undropped : ℕ} {slots : List (Option (Numbered (Cell P T W)))} {ids later : List TaskId}
-      → IsSound next slots ids capacity undropped
-      → (task : Taken P) (e : Numbered (Cell P T W)) → get_or slots task.id.slot None ≡ Some e → ids ≡ task.id ∷ later → e.cell.state ≡ Scheduled task.future → task.cancelled ≡ e.cell.cancelled
-      → TakesFront (table_of next slots ids) (numbers_of later) task
-  taken_from {slots = slots} sound task e there front state cancel =
-      let at = front_cell sound task.id front in
-      let same : at.0 ≡ e = cc in
-      let number : e.number ≡ task.id.number = ap (λ x. x.number) (sym same) ∙ at.2 in
+  taken_get : {next capacity undropped : ℕ} {slots new : List (Option (Numbered (Cell P T W)))} {later : List TaskId} {id : TaskId} {task : Taken P}
+      → IsSound next slots (id ∷ later) capacity undropped → (takes : TakesOut slots new id task) → map.get (cells_of slots) id.number ≡ Some (seen id.slot takes.entry.cell)
+  taken_get {slots = slots} {id = id} sound takes =
+      ap (map.get (cells_of slots)) (sym (taken_number sound takes)) ∙ sees_get slots sound.distinct id.slot takes.entry takes.there
+
+  pub take_sound : {next capacity undropped : ℕ} {slots new : List (Option (Numbered (Cell P T W)))} {later : List TaskId} {id : TaskId} {task : Taken P}
+      → IsSound next slots (id ∷ later) capacity undropped → TakesOut slots new id task → IsSound next new later capacity undropped
+  take_sound {next} {capacity} {undropped} {later = later} {id = id} sound takes =
+      let e = takes.entry in
+      let scheduled : is_scheduled e.cell.state ≡ true = ap scheduled_slot (sym takes.there) ∙ first_scheduled sound in
+      subst (λ l. IsSound next l later capacity undropped) (sym takes.written)
+      (unqueued_sound sound id e (taken e.cell) takes.there (taken_number sound takes) scheduled refl (scheduled_state e.cell.state scheduled) refl (λ dropped. absurd (cc (dropped))) capacity refl refl)
+
+  -- what is seen after a take, where these are the queues then
+  take_table : {next capacity undropped : ℕ} {slots new : List (Option (Numbered (Cell P T W)))} {later : List TaskId} {id : TaskId} {task : Taken P}
+      → IsSound next slots (id ∷ later) capacity undropped → (takes : TakesOut slots new id task) → (q : QueueState)
+      → table_of next new q ≡ with_cell (table_of next slots q) id (taken takes.entry.cell)
+  take_table {next} {slots = slots} {id = id} sound takes q =
+      ap (λ l. table_of next l q) takes.written
+      ∙ table_set next slots q id takes.entry (taken takes.entry.cell) (numbers_of q.lists.global) sound.distinct takes.there (taken_number sound takes) refl
+
+  -- a search found the task, and left these queues
+  pub found_table : {next capacity undropped : ℕ} {slots new : List (Option (Numbered (Cell P T W)))} {later : List TaskId} {id : TaskId} {task : Taken P}
+      → IsSound next slots (id ∷ later) capacity undropped → (takes : TakesOut slots new id task)
+      → (q : QueueState) (lists : QueueLists TaskId) (found : Option ℕ × QueueLists ℕ) → found.0 ≡ Some id.number → found.1 ≡ map_queues (λ i. i.number) lists
+      → table_of next new (with_lists lists q) ≡ search_to found (table_of next slots q)
+  found_table {next} {slots = slots} {id = id} sound takes q lists found number left =
+      take_table sound takes (with_lists lists q)
+      ∙ sym (ap (λ o. search_to (o, found.1) (table_of next slots q)) number
+      ∙ ap (λ l. search_to (Some id.number, l) (table_of next slots q)) left
+      ∙ ap (λ (o : Option (Slotted P T W)). with_queues (map_queues (λ i. i.number) lists) (with_taken_at (table_of next slots q) id.number o)) (taken_get sound takes))
+
+  -- it found none
+  pub none_table : (table : Table P T W) (found : Option ℕ × QueueLists ℕ) → found.0 ≡ None → found.1 ≡ queues_of table → table ≡ search_to found table
+  none_table table found none left = sym (ap (λ o. search_to (o, found.1) table) none ∙ ap (λ l. with_queues l table) left)
+
+  -- a take of the global front is a search there
+  pub after_take-search : (table : Table P T W) → search_to (search_global (queues_of table)) table ≡ after_take table
+  after_take-search table = by_global table.global
+    where
+      by_cell : (n : ℕ) (rest : List ℕ) (o : Option (Slotted P T W))
+          → with_queues (record { global = rest; locals = table.locals }) (with_taken_at table n o) ≡ record (with_taken_at table n o) { global = rest }
+      by_cell n rest None = refl
+      by_cell n rest (Some s) = refl
+
+      by_global : (numbers : List ℕ) → search_to (global_front numbers (queues_of table)) table ≡ take_first table numbers
+      by_global [] = refl
+      by_global (n ∷ rest) = by_cell n rest (map.get table.cells n)
+
+  pub is_taken : {next capacity undropped : ℕ} {slots new : List (Option (Numbered (Cell P T W)))} {later : List TaskId} {id : TaskId} {task : Taken P}
+      → IsSound next slots (id ∷ later) capacity undropped → (takes : TakesOut slots new id task) → (q : QueueState) → IsTaken (table_of next slots q) task
+  is_taken {slots = slots} sound takes q =
       record {
-        taken = record {
-          cell = e.cell;
-          found = ap (map.get (cells_of slots)) (sym number) ∙ sees_get slots sound.distinct task.id.slot e there;
-          future = state;
-          cancelled = cancel;
-        };
-        front = ap numbers_of front;
+        cell = takes.entry.cell;
+        found = subst (λ i. map.get (cells_of slots) i.number ≡ Some (seen i.slot takes.entry.cell)) (sym takes.same_id) (taken_get sound takes);
+        future = takes.future;
+        cancelled = takes.cancelled;
       }
+
+-- what is found at the global front stood there
+pub front_found : {X : Type 0} (q : QueueLists X) (x : X) → (search_global q).0 ≡ Some x → q.global ≡ x ∷ (search_global q).1.global
+front_found {X = X} q x found = by_global q.global refl found
+  where
+    by_global : (xs : List X) → q.global ≡ xs → (global_front xs q).0 ≡ Some x → q.global ≡ x ∷ (global_front xs q).1.global
+    by_global [] is found = absurd (cc)
+    by_global (first ∷ rest) is found = let same : first ≡ x = cc in is ∙ ap (λ y. y ∷ rest) same

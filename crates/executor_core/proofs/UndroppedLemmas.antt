@@ -15,10 +15,11 @@ use Rattle.executor_core.specs.Cells.{Slotted}
 use Rattle.executor_core.specs.Cell.{is_idle, is_held, is_scheduled, is_undropped}
 use Rattle.executor_core.specs.Cells.Law.{scheduled_in}
 use Rattle.executor_core.specs.Numbers.{times}
-use Rattle.executor_core.specs.Cells.View.{seen, by_number, cells_of, Distinct, is_queueable, numbers_of, table_of, Placed, IsSound}
+use Rattle.executor_core.specs.Cells.View.{seen, by_number, cells_of, scheduled_slot, Distinct, is_queueable, numbers_of, table_of, Placed, IsSound}
 use Rattle.executor_core.proofs.CountLemmas.{sum_by_zero, at_least}
 use Rattle.executor_core.proofs.SlotLemmas.{find_sees, get_sees, sees_get}
 use Rattle.executor_core.specs.Cells.Calls.{AllDropped}
+use Rattle.executor_core.specs.Queues.State.{QueueState}
 use Rattle.executor_core.proofs.StateLemmas.{ended_state, undropped_by}
 use Rattle.executor_core.proofs.WriteLemmas.{law_at, front_cell}
 use Rattle.executor_core.specs.declared.task.cell.Cell.{Cell}
@@ -114,10 +115,6 @@ module _ {P T W : Type 0} where
   undropped_slot None = false
   undropped_slot (Some e) = is_undropped e.cell.state
 
-  abbrev scheduled_slot : Option (Numbered (Cell P T W)) → Bool
-  scheduled_slot None = false
-  scheduled_slot (Some e) = is_scheduled e.cell.state
-
   -- how often the number of a slot is queued
   abbrev queued_times : List TaskId → Option (Numbered (Cell P T W)) → ℕ
   queued_times ids None = 0
@@ -207,8 +204,8 @@ module _ {P T W : Type 0} where
 
   -- nothing is undropped where the count is zero
   pub all_dropped : {next capacity : ℕ} {slots : List (Option (Numbered (Cell P T W)))} {ids : List TaskId}
-      → IsSound next slots ids capacity 0 → AllDropped (table_of next slots ids)
-  all_dropped {slots = slots} {ids = ids} sound n s found =
+      → IsSound next slots ids capacity 0 → (q : QueueState) → AllDropped (table_of next slots q)
+  all_dropped {slots = slots} {ids = ids} sound q n s found =
       let sees = get_sees slots n s found in
       let part : cond (is_queueable (get_or slots sees.at None)) 1 0 ≤ count_by is_queueable slots = at_least (λ o. cond (is_queueable o) 1 0) refl slots sees.at in
       let counted = sound.counted in
@@ -221,8 +218,8 @@ module _ {P T W : Type 0} where
       ap (λ x. is_undropped x.cell.state) sees.is ∙ undropped_by sees.cell.cell.state may (no_one _ queued)
 
   pub none_undropped : {next capacity undropped : ℕ} {slots : List (Option (Numbered (Cell P T W)))} {ids : List TaskId}
-      → IsSound next slots ids capacity undropped → AllDropped (table_of next slots ids) → undropped ≡ 0
-  none_undropped {slots = slots} {ids = ids} sound dropped =
+      → IsSound next slots ids capacity undropped → (q : QueueState) → AllDropped (table_of next slots q) → undropped ≡ 0
+  none_undropped {slots = slots} {ids = ids} sound q dropped =
       let empty : length ids ≡ 0 = no_ids ids refl in
       let none : count_by is_queueable slots ≡ 0 = sum_by_zero (λ o. cond (is_queueable o) 1 0) None slots (λ k. by_slot k (get_or slots k None) refl) in
       let counted = sound.counted in

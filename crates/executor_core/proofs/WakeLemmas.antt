@@ -3,11 +3,12 @@ use Rattle.std.proofs.Common.{◌≡◌, ℕ, ◌||◌, Bool, true, false, List,
 use Rattle.executor_core.specs.Cells.{Table}
 use Rattle.executor_core.specs.Cell.{is_idle, is_held, is_scheduled}
 use Rattle.executor_core.specs.Cells.View.{numbers_of, table_of, IsSound, Settled}
-use Rattle.executor_core.specs.Cells.Calls.{wake_at, after_wake, wakes, idle_in}
+use Rattle.executor_core.specs.Cells.Calls.{wake_at, after_wake, idle_in}
+use Rattle.executor_core.specs.Queues.State.{QueueState}
 use Rattle.executor_core.specs.Cell.Changes.{woken, state_woken}
 use Rattle.executor_core.proofs.WriteLemmas.{kept_sound, queued_sound}
-use Rattle.executor_core.proofs.TableLemmas.{table_set}
-use Rattle.executor_core.proofs.FindLemmas.{cell_at_entry}
+use Rattle.executor_core.proofs.TableLemmas.{table_set, with_global}
+use Rattle.executor_core.proofs.FindLemmas.{cell_of, cell_at_entry}
 use Rattle.executor_core.proofs.StateLemmas.{woken_quiet-scheduled, woken_quiet-queueable, woken_idle, undropped-state_woken}
 use Rattle.executor_core.specs.declared.task.cell.Cell.{Cell}
 use Rattle.executor_core.specs.declared.task.cell.Numbered.{Numbered}
@@ -54,17 +55,17 @@ module _ {P T W : Type 0} where
   -- what a wake gives
   pub wake_table : {next capacity undropped : ℕ} {slots : List (Option (Numbered (Cell P T W)))} {ids : List TaskId}
       → IsSound next slots ids capacity undropped
-      → (later : List TaskId) (id : TaskId) (e : Numbered (Cell P T W)) → get_or slots id.slot None ≡ Some e → e.number ≡ id.number
-      → numbers_of later ≡ cond (is_idle e.cell.state) (numbers_of ids ++ id.number ∷ []) (numbers_of ids)
-      → table_of next (set slots id.slot (Some (record { number = e.number; cell = woken e.cell }))) later ≡ after_wake (table_of next slots ids) id
-  wake_table {next} {slots = slots} {ids = ids} sound later id e there number lists =
-      table_set next slots ids later id e (woken e.cell) _ sound.distinct there number lists
-      ∙ sym (ap (wake_at (table_of next slots ids) id) (cell_at_entry sound id e there number))
+      → (q : QueueState) (later : List TaskId) (id : TaskId) (e : Numbered (Cell P T W)) → get_or slots id.slot None ≡ Some e → e.number ≡ id.number
+      → numbers_of later ≡ cond (is_idle e.cell.state) (numbers_of q.lists.global ++ id.number ∷ []) (numbers_of q.lists.global)
+      → table_of next (set slots id.slot (Some (record { number = e.number; cell = woken e.cell }))) (with_global later q) ≡ after_wake (table_of next slots q) id
+  wake_table {next} {slots = slots} sound q later id e there number lists =
+      table_set next slots (with_global later q) id e (woken e.cell) _ sound.distinct there number lists
+      ∙ sym (ap (wake_at (table_of next slots q) id) (cell_at_entry sound id e there number))
 
   pub wakes_at : {next capacity undropped : ℕ} {slots : List (Option (Numbered (Cell P T W)))} {ids : List TaskId}
       → IsSound next slots ids capacity undropped → (id : TaskId) (e : Numbered (Cell P T W)) {b : Bool}
-      → get_or slots id.slot None ≡ Some e → e.number ≡ id.number → is_idle e.cell.state ≡ b → wakes (table_of next slots ids) id ≡ b
-  wakes_at {next} {slots = slots} {ids = ids} sound id e there number is = ap idle_in (cell_at_entry sound id e there number) ∙ is
+      → get_or slots id.slot None ≡ Some e → e.number ≡ id.number → is_idle e.cell.state ≡ b → idle_in (cell_of slots id) ≡ b
+  wakes_at sound id e there number is = ap idle_in (cell_at_entry sound id e there number) ∙ is
 
   -- there is no cell
   pub after_wake-absent : (table : Table P T W) (id : TaskId) (o : Option (Cell P T W)) → is_some o ≡ false → wake_at table id o ≡ table

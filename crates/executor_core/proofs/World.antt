@@ -5,9 +5,14 @@ pub mod Handles
 pub mod Log
 pub mod Marks
 pub mod Notices
+pub mod Order
+pub mod OrderQueues
 pub mod Polls
 pub mod Room
+pub mod Runners
+pub mod RunSteps
 pub mod Runs
+pub mod Searches
 pub mod Spawns
 pub mod Spends
 pub mod Status

@@ -41,7 +41,7 @@ module _ {P T W : Type 0} where
       → is_scheduled c.state ≡ is_scheduled e.cell.state → (is_idle c.state || is_held c.state) ≡ (is_idle e.cell.state || is_held e.cell.state) → Settled c
       → IsSound next (set slots id.slot (Some (record { number = e.number; cell = c }))) ids capacity undropped
   kept_sound {capacity = capacity} {undropped = undropped} {slots = slots} {ids = ids} sound id e c there same may settled =
-      put_sound sound id.slot e c there ids capacity undropped sound.room settled sound.placed
+      put_sound sound id.slot e c there ids capacity undropped sound.room (omega arith) settled sound.placed
       (law_at sound id.slot e there ∙ ap (λ b. cond b 1 0) (sym same))
       (λ q far. refl)
       (ap (λ b. undropped + (length ids + cond b 1 0)) (sym may))
@@ -58,7 +58,7 @@ module _ {P T W : Type 0} where
       let was : times e.number (numbers_of ids) ≡ 0 = law_at sound id.slot e there ∙ ap (λ b. cond b 1 0) f0 in
       let more : times e.number (numbers_of ids ++ e.number ∷ []) ≡ times e.number (numbers_of ids) + 1 = times-push_same e.number (numbers_of ids) in
       let once : times e.number (numbers_of ids ++ e.number ∷ []) ≡ 1 = omega (arith, was, more) in
-      put_sound sound id.slot e c there later room undropped (subst (λ r. undropped ≤ r) same_room sound.room) settled
+      put_sound sound id.slot e c there later room undropped (subst (λ r. undropped ≤ r) same_room sound.room) (omega arith) settled
       (subst (All (Placed (cells_of slots))) (sym longer) (All-push (Placed (cells_of slots)) ids id sound.placed (seen id.slot e.cell, ap (λ n. map.get (cells_of slots) n) (sym number) ∙ sees_get slots sound.distinct id.slot e there, refl)))
       (ap (times e.number) lists ∙ once ∙ ap (λ b. cond b 1 0) (sym f1))
       (λ q far. ap (times q) lists ∙ times-push_other q e.number (numbers_of ids) far)
@@ -78,7 +78,7 @@ module _ {P T W : Type 0} where
       let was : times e.number (numbers_of ids) ≡ 1 = law_at sound id.slot e there ∙ ap (λ b. cond b 1 0) f0 in
       let front : times e.number (numbers_of ids) ≡ times e.number (numbers_of later) + 1 = ap (λ l. times e.number (numbers_of l)) shorter ∙ times-front_same e.number id.number (numbers_of later) (sym number) in
       let none : times e.number (numbers_of later) ≡ 0 = omega (arith, was, front) in
-      put_sound sound id.slot e c there later room undropped (subst (λ r. undropped ≤ r) same_room sound.room) settled
+      put_sound sound id.slot e c there later room undropped (subst (λ r. undropped ≤ r) same_room sound.room) (omega arith) settled
       (All-tail (Placed (cells_of slots)) id later (subst (All (Placed (cells_of slots))) shorter sound.placed))
       (none ∙ ap (λ b. cond b 1 0) (sym f1))
       (λ q far. sym (ap (λ l. times q (numbers_of l)) shorter ∙ times-front_other q id.number (numbers_of later) (λ same. far (same ∙ sym number))))

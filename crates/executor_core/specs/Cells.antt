@@ -7,6 +7,7 @@ use Rattle.std.specs.Coded.{Coded, code_by, coded×, coded⊎, coded_ℕ, coded_
 use Rattle.std.proofs.Common.{inl, inr}
 use Rattle.std.specs.Ordering.{nat_cmp}
 use Rattle.std.specs.FinMap as map
+use Rattle.executor_core.specs.Queues.{RunnerQueue, runner_queue_code}
 use Rattle.executor_core.specs.declared.task.cell.CellState.{CellState}
 use Rattle.executor_core.specs.declared.task.cell.Cell.{Cell}
 use Rattle.executor_core.specs.declared.task.cell.CellState.TheVariants.{Idle, Scheduled, Held, Finished, Gone}
@@ -16,11 +17,15 @@ pub record Slotted (P T W : Type 0) : Type 0 where
   pub slot : ℕ
   pub cell : Cell P T W
 
--- the number that the next task gets, the cells by number, and the global queue
+-- the number that the next task gets, the cells by number, the global queue, those of the registered runners in order of
+-- registration, the number that the next runner gets, and how many reserved places for runners are free
 pub record Table (P T W : Type 0) : Type 0 where
   pub next : ℕ
   pub cells : map.FinMap nat_cmp (Slotted P T W)
   pub global : List ℕ
+  pub locals : List (RunnerQueue ℕ)
+  pub next_runner : ℕ
+  pub free_places : ℕ
 
 module _ {P T : Type 0} where
   pub state_cases : CellState P T → P ⊎ (P ⊎ (T ⊎ Bool))
@@ -61,8 +66,8 @@ module _ {P T W : Type 0} (p : Coded P) (t : Coded T) (w : Coded W) where
   abbrev pub table_code : Coded (Table P T W)
   table_code =
       code_by
-      (ℕ × (map.FinMap nat_cmp (Slotted P T W) × List ℕ))
-      (coded× coded_ℕ (coded× (map.code coded_ℕ slotted_code) (coded_list coded_ℕ)))
-      (λ s. (s.next, (s.cells, s.global)))
-      (λ q. record { next = q.0; cells = q.1.0; global = q.1.1 })
+      (ℕ × (map.FinMap nat_cmp (Slotted P T W) × (List ℕ × (List (RunnerQueue ℕ) × (ℕ × ℕ)))))
+      (coded× coded_ℕ (coded× (map.code coded_ℕ slotted_code) (coded× (coded_list coded_ℕ) (coded× (coded_list (runner_queue_code coded_ℕ)) (coded× coded_ℕ coded_ℕ)))))
+      (λ s. (s.next, (s.cells, (s.global, (s.locals, (s.next_runner, s.free_places))))))
+      (λ q. record { next = q.0; cells = q.1.0; global = q.1.1.0; locals = q.1.1.1.0; next_runner = q.1.1.1.1.0; free_places = q.1.1.1.1.1 })
       (λ _. refl)

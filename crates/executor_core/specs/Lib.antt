@@ -2,7 +2,8 @@ pub mod Cell
 pub mod Cells
 pub mod Numbers
 pub mod Polling
+pub mod Queues
+pub mod Ring
 pub mod Sleepers
 pub mod SpawnError
-pub mod TaskQueue
 pub mod World

@@ -2,31 +2,36 @@
 pub mod Agreement
 pub mod Entries
 pub mod Log
+pub mod Order
 pub mod Promises
+pub mod Runners
 pub mod Steps
 pub mod Tickers
 pub mod View
 use Rattle.std.specs.Prelude.{◌≡◌, ℕ, zero, suc, Bool, List, Option, refl, true, false, ◌⊎◌}
 use Rattle.std.proofs.Common.{inl, inr}
 use Rattle.std.specs.Coded.{Coded, code_by, coded×, coded⊎, coded_ℕ, coded_list, coded_option, coded_bool}
+use Rattle.executor_core.specs.Queues.{RunnerQueue, runner_queue_code}
 use Rattle.executor_core.specs.Sleepers.{SleeperList, sleeper_list_code}
 use Rattle.executor_core.specs.declared.interleave.event.Purpose.{Purpose}
 use Rattle.executor_core.specs.declared.interleave.event.Purpose.TheVariants.{ToPoll, ToDrop}
 use Rattle.executor_core.specs.declared.interleave.entry.TaskInfo.{TaskInfo}
 use Rattle.executor_core.specs.declared.interleave.ticker.ListChange.TheVariants.{Slept, Woke, Dropped as LetGo}
 use Rattle.executor_core.specs.declared.interleave.ticker.Phase.{Phase}
-use Rattle.executor_core.specs.declared.interleave.ticker.Phase.TheVariants.{Rest, Search, Sleep, Wake, Store, Ended}
+use Rattle.executor_core.specs.declared.interleave.ticker.Phase.TheVariants.{Rest, Search, Sleep, Wake, Store, Leaving, Ended}
 use Rattle.executor_core.specs.declared.interleave.ticker.Ticker.{Ticker}
 use Rattle.executor_core.specs.declared.interleave.event.Event.{Event}
 use Rattle.executor_core.specs.declared.interleave.event.Event.TheVariants.{Spawned, Woken, Cancelled, Took, Returned, Finished, Dropped, Got}
 
--- the log, how many steps were accepted and may be, the global queue, how many notices and picks float, the flag and the
--- sleepers, by number what the log does not say of a task and of a ticker, and the ticker that holds the sleepers' lock
+-- the log, how many steps were accepted and may be, the global queue, those of the registered runners in order of
+-- registration, how many notices and picks float, the flag and the sleepers, by number what the log does not say of a task
+-- and of a ticker, and the ticker that holds the sleepers' lock
 pub record Execution (T : Type 0) : Type 0 where
   pub log : List (Event T)
   pub accepted : ℕ
   pub limit : ℕ
   pub global : List ℕ
+  pub locals : List (RunnerQueue ℕ)
   pub notices : ℕ
   pub picks : ℕ
   pub flag : Bool
@@ -100,6 +105,7 @@ phase_parts Ended = (4, false)
 phase_parts (Store Slept) = (5, false)
 phase_parts (Store (Woke notified)) = (6, notified)
 phase_parts (Store (LetGo notified)) = (7, notified)
+phase_parts Leaving = (8, false)
 
 numbered_phase : ℕ → Bool → Phase
 numbered_phase zero b = Rest
@@ -109,7 +115,8 @@ numbered_phase (suc (suc (suc zero))) b = Wake
 numbered_phase (suc (suc (suc (suc zero)))) b = Ended
 numbered_phase (suc (suc (suc (suc (suc zero))))) b = Store Slept
 numbered_phase (suc (suc (suc (suc (suc (suc zero)))))) b = Store (Woke b)
-numbered_phase (suc (suc (suc (suc (suc (suc (suc k))))))) b = Store (LetGo b)
+numbered_phase (suc (suc (suc (suc (suc (suc (suc zero))))))) b = Store (LetGo b)
+numbered_phase (suc (suc (suc (suc (suc (suc (suc (suc k)))))))) b = Leaving
 
 pub parts_phase : ℕ × Bool → Phase
 parts_phase p = numbered_phase p.0 p.1
@@ -124,12 +131,19 @@ parts_phase-phase_parts Ended = refl
 parts_phase-phase_parts (Store Slept) = refl
 parts_phase-phase_parts (Store (Woke notified)) = refl
 parts_phase-phase_parts (Store (LetGo notified)) = refl
+parts_phase-phase_parts Leaving = refl
 
 abbrev pub phase_code : Coded Phase
 phase_code = code_by (ℕ × Bool) (coded× coded_ℕ coded_bool) phase_parts parts_phase parts_phase-phase_parts
 
 abbrev pub ticker_code : Coded Ticker
-ticker_code = code_by (Phase × ℕ) (coded× phase_code coded_ℕ) (λ t. (t.phase, t.number)) (λ q. record { phase = q.0; number = q.1 }) (λ _. refl)
+ticker_code =
+    code_by
+    (Phase × (ℕ × Option ℕ))
+    (coded× phase_code (coded× coded_ℕ (coded_option coded_ℕ)))
+    (λ t. (t.phase, (t.number, t.runner)))
+    (λ q. record { phase = q.0; number = q.1.0; runner = q.1.1 })
+    (λ _. refl)
 
 module _ {T : Type 0} (t : Coded T) where
   abbrev pub event_code : Coded (Event T)
@@ -138,8 +152,8 @@ module _ {T : Type 0} (t : Coded T) where
   abbrev pub execution_code : Coded (Execution T)
   execution_code =
       code_by
-      (List (Event T) × (ℕ × (ℕ × (List ℕ × (ℕ × (ℕ × (Bool × (SleeperList (Unit {0}) × (List TaskInfo × (List Ticker × Option ℕ))))))))))
-      (coded× (coded_list event_code) (coded× coded_ℕ (coded× coded_ℕ (coded× (coded_list coded_ℕ) (coded× coded_ℕ (coded× coded_ℕ (coded× coded_bool (coded× (sleeper_list_code unit_code) (coded× (coded_list info_code) (coded× (coded_list ticker_code) (coded_option coded_ℕ)))))))))))
-      (λ s. (s.log, (s.accepted, (s.limit, (s.global, (s.notices, (s.picks, (s.flag, (s.sleepers, (s.tasks, (s.tickers, s.holder)))))))))))
-      (λ q. record { log = q.0; accepted = q.1.0; limit = q.1.1.0; global = q.1.1.1.0; notices = q.1.1.1.1.0; picks = q.1.1.1.1.1.0; flag = q.1.1.1.1.1.1.0; sleepers = q.1.1.1.1.1.1.1.0; tasks = q.1.1.1.1.1.1.1.1.0; tickers = q.1.1.1.1.1.1.1.1.1.0; holder = q.1.1.1.1.1.1.1.1.1.1 })
+      (List (Event T) × (ℕ × (ℕ × (List ℕ × (List (RunnerQueue ℕ) × (ℕ × (ℕ × (Bool × (SleeperList (Unit {0}) × (List TaskInfo × (List Ticker × Option ℕ)))))))))))
+      (coded× (coded_list event_code) (coded× coded_ℕ (coded× coded_ℕ (coded× (coded_list coded_ℕ) (coded× (coded_list (runner_queue_code coded_ℕ)) (coded× coded_ℕ (coded× coded_ℕ (coded× coded_bool (coded× (sleeper_list_code unit_code) (coded× (coded_list info_code) (coded× (coded_list ticker_code) (coded_option coded_ℕ))))))))))))
+      (λ s. (s.log, (s.accepted, (s.limit, (s.global, (s.locals, (s.notices, (s.picks, (s.flag, (s.sleepers, (s.tasks, (s.tickers, s.holder))))))))))))
+      (λ q. record { log = q.0; accepted = q.1.0; limit = q.1.1.0; global = q.1.1.1.0; locals = q.1.1.1.1.0; notices = q.1.1.1.1.1.0; picks = q.1.1.1.1.1.1.0; flag = q.1.1.1.1.1.1.1.0; sleepers = q.1.1.1.1.1.1.1.1.0; tasks = q.1.1.1.1.1.1.1.1.1.0; tickers = q.1.1.1.1.1.1.1.1.1.1.0; holder = q.1.1.1.1.1.1.1.1.1.1.1 })
       (λ _. refl)

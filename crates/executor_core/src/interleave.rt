@@ -3,9 +3,11 @@
 //! A party may spawn, wake, take a task, end its poll, say that its future was dropped, poll,
 //! cancel, detach or drop its handle, exchange the flag, or notify a sleeper. A ticker may be made,
 //! polled and dropped, and while it is polled it searches for a task, goes to sleep, removes its
-//! number and stores the flag, each by a step of its own. A `World` takes any list of such steps, of
-//! all parties, with steps of others between any two of one party. It makes each on its `Core`, and
-//! logs what happened to which task. A step that is not enabled is answered and changes nothing.
+//! number and stores the flag, each by a step of its own. A ticker is a tick, which looks at the
+//! global queue alone, or a run, whose runner has a queue of its own while it is registered. A
+//! `World` takes any list of such steps, of all parties, with steps of others between any two of one
+//! party. It makes each on its `Core`, and logs what happened to which task. A step that is not
+//! enabled is answered and changes nothing.
 //!
 //! The notices and the picks that the steps leave to be spent are kept as counts. They float: any
 //! party may spend one, at any time, a notice by an exchange, a pick by a notification. A ticker
@@ -17,13 +19,16 @@
 //!
 //! The log alone says where a task stands: whether it was dropped, is held, is owed a poll or a
 //! drop, or is idle is read off the events. The contracts of `World::step` and `World::run` say
-//! that the queue and the futures that are out agree with the log after every list of steps, and
-//! that no notice is lost: where a task is queued and somebody sleeps, one is notified, or a notice
-//! or a pick is out, or a ticker has still to search. They do not say that anybody ever runs.
+//! that the queues and the futures that are out agree with the log after every list of steps, and
+//! that no notice is lost: where a task is in the global queue and somebody sleeps, one is notified,
+//! or a notice or a pick is out, or a ticker has still to search. Where every ticker is a run, this
+//! holds of all queues. They do not say that anybody ever runs. The contract of `World::run` says
+//! besides that a runner which is alone takes tasks in the order in which they were queued.
 ghost use Rattle.std.specs.Prelude.{◌≡◌, ◌≢◌, ◌≤◌, ◌||◌, ◌↔◌, length, slice_get, option_map, IfOk, OnErr};
 ghost use Rattle.executor_core.specs.World.Agreement.{CellsAgree, HandlesAgree};
 ghost use Rattle.executor_core.specs.Cells.Calls.{AllDropped};
 ghost use Rattle.executor_core.specs.World.Log.{held, owed, idle, EachDropped};
+ghost use Rattle.executor_core.specs.World.Order.{LoneOrder};
 ghost use Rattle.executor_core.specs.World.Promises.{KeepsPromises, notices_out};
 ghost use Rattle.executor_core.specs.World.Steps.{StepTo, RunTo, opening};
 
@@ -36,6 +41,7 @@ pub(crate) mod steps;
 pub(crate) mod ticker;
 
 use crate::plain_core::Core;
+use crate::queue::Ring;
 use crate::task::{Cells, OutOfMemory};
 use entry::{TaskEntry, find_info, has_future};
 pub use event::{Event, Purpose};
@@ -49,8 +55,8 @@ pub use ticker::{ListChange, Phase};
 /// All parties of an executor, and the log of what they did.
 ///
 /// Futures are of type P and outputs of type T; wakers are units. A contract sees it as an
-/// `Execution`: the log, the global queue, what is out to be spent, the flag and the sleepers, and
-/// what the log does not say of a task and of a ticker.
+/// `Execution`: the log, the queues, what is out to be spent, the flag and the sleepers, and what
+/// the log does not say of a task and of a ticker.
 ///
 /// Example: `uses::interleaves`.
 #[derive(Drop)]
@@ -65,6 +71,8 @@ pub struct World<P, T> {
     picks: u32,
     tickers: Vec<Ticker>,
     holder: Option<usize>,
+    // By runner, the ring of a run that has still to register.
+    rings: Vec<Option<Ring>>,
 }
 
 impl<P, T> Model for World<P, T> {
@@ -79,7 +87,7 @@ impl<P, T> Model for World<P, T> {
 
     ghost view = { execution_of };
 
-    ghost invariant = { λ a. IsWorld (execution_of a) a.core.cells a.entries.items (vec_capacity a.log) };
+    ghost invariant = { λ a. IsWorld (execution_of a) a.core.cells a.entries.items a.rings.items (vec_capacity a.log) };
 }
 
 impl<P: Drop, T: Copy> World<P, T> {
@@ -105,6 +113,7 @@ impl<P: Drop, T: Copy> World<P, T> {
             picks: 0,
             tickers: Vec::new(alloc),
             holder: None,
+            rings: Vec::new(alloc),
         })
     }
 
@@ -139,11 +148,15 @@ impl<P: Drop, T: Copy> World<P, T> {
             Step::Notify => self.notify(),
             Step::Tick => self.tick(),
             Step::Poll(k) => self.poll(k),
-            Step::Search(k, _) => self.search(k),
+            Step::Run => self.make_run(),
+            Step::Register(k) => self.register(k),
+            Step::Search(k, word) => self.search(k, word),
             Step::Sleep(k) => self.sleep(k),
             Step::Yield(k) => self.yield_now(k),
             Step::Remove(k) => self.remove(k),
             Step::Store(k) => self.store(k),
+            Step::Fair(k) => self.fair(k),
+            Step::Unregister(k) => self.unregister(k),
             Step::Drop(k) => self.drop_ticker(k),
         }
     }
@@ -173,6 +186,7 @@ impl<P: Drop, T: Copy> World<P, T> {
     /// steps were dropped.
     pub fn run(&mut self, steps: Vec<Step<P, T>>) -> Result<Vec<Reply<T>>, OutOfMemory>
         ensures run { IfOk result (λ replies. RunTo self.old steps.items replies.items self.new) }
+        ensures order { IfOk result (λ replies. LoneOrder self.old steps.items replies.items self.new) }
         ensures refused { OnErr result (self.new ≡ self.old) }
         ensures promises { KeepsPromises self.new }
     {
@@ -208,6 +222,7 @@ impl<P: Drop, T: Copy> World<P, T> {
     pub fn cells(&self) -> &Cells<P, T, ()>
         ensures next { result.now.next ≡ length self.now.tasks }
         ensures global { result.now.global ≡ self.now.global }
+        ensures locals { result.now.locals ≡ self.now.locals }
         ensures empty { AllDropped result.now ↔ EachDropped self.now.log }
         ensures handles { HandlesAgree result.now self.now.log self.now.tasks }
         ensures states { CellsAgree result.now self.now.log }
@@ -219,6 +234,7 @@ impl<P: Drop, T: Copy> World<P, T> {
     pub fn state(&self) -> &Core<P, T, ()>
         ensures next { result.now.cells.next ≡ length self.now.tasks }
         ensures global { result.now.cells.global ≡ self.now.global }
+        ensures locals { result.now.cells.locals ≡ self.now.locals }
         ensures empty { AllDropped result.now.cells ↔ EachDropped self.now.log }
         ensures handles { HandlesAgree result.now.cells self.now.log self.now.tasks }
         ensures states { CellsAgree result.now.cells self.now.log }

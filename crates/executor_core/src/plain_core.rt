@@ -6,13 +6,16 @@
 //! one change of the list of sleepers, one exchange or one store of the flag, or one notification;
 //! in between, any other party may take its own. Each contract is one equation: the state with the
 //! part that the step is about changed.
-ghost use Rattle.std.specs.Prelude.{◌≡◌, [], true, false, not, is_some, IsErr, IfOk, IfErr, OnOk, OnErr, IfNone, IfSome};
-ghost use Rattle.executor_core.specs.Cells.Calls.{empty_table, after_spawn, IsFree, wakes, after_wake, after_cancel, cancel_queues, after_detach, detach_answer, after_poll_handle, poll_answer, after_end_pending, EndsPending, after_end_ready, ready_answer, after_end_dropped, dropped_answer, after_take, TakesFront, cell_at};
+ghost use Rattle.std.specs.Prelude.{◌≡◌, ◌↔◌, [], None, true, false, not, is_some, IsErr, IsOk, IfOk, IfErr, OnOk, OnErr, IfNone, IfSome};
+ghost use Rattle.executor_core.specs.Cells.Calls.{empty_table, after_spawn, IsFree, wakes, after_wake, after_cancel, cancel_queues, after_detach, detach_answer, after_poll_handle, poll_answer, after_end_pending, EndsPending, after_end_ready, ready_answer, after_end_dropped, dropped_answer, after_take, TakesFront, cell_at, after_search, search_in, TakesFound, after_fair, after_reserve_runner, after_release_runner, may_register, after_register, after_unregister, unregister_queues};
+ghost use Rattle.executor_core.specs.Cells.Law.{queues_of};
+ghost use Rattle.executor_core.specs.Queues.{fair_count};
 ghost use Rattle.executor_core.specs.SpawnError.{last_number, Refuses};
 ghost use Rattle.executor_core.specs.Sleepers.Calls.{no_sleepers, closed, after_reserve, after_release, after_insert, insert_answer, after_update, update_answer, after_remove, remove_answer, after_notify, notify_answer};
 
 mod flag_value;
 
+use crate::queue::{Ring, RunnerError, RunnerKey};
 use crate::sleepers::{Removed, Sleepers, Update};
 use crate::task::{
     Again, Cells, Change, EndPending, EndReady, Held, Notice, OutOfMemory, Pick, PollHandle,
@@ -159,6 +162,64 @@ impl<P, T, W> Core<P, T, W> {
         ensures some { IfSome result (λ r. TakesFront self.old.cells self.new.cells.global r.0) }
     {
         self.cells.take_global(again)
+    }
+
+    /// `Cells::search`, with its answer.
+    pub fn search(
+        &mut self,
+        key: RunnerKey,
+        word: u64,
+        again: Option<Again>,
+    ) -> Option<(Taken<P>, Notice)>
+        ensures state { self.new ≡ record self.old { cells = after_search self.old.cells key.number word } }
+        ensures none { IfNone result ((search_in self.old.cells key.number word).0 ≡ None) }
+        ensures some { IfSome result (λ r. TakesFound self.old.cells key.number word r.0) }
+    {
+        self.cells.search(key, word, again)
+    }
+
+    /// `Cells::fair`, with its answer.
+    pub fn fair(&mut self, key: RunnerKey) -> usize
+        ensures state { self.new ≡ record self.old { cells = after_fair self.old.cells key.number } }
+        ensures count { result ≡ fair_count key.number (queues_of self.old.cells) }
+    {
+        self.cells.fair(key)
+    }
+
+    /// `Cells::reserve_runner`, with its answer and its refusals.
+    pub fn reserve_runner(&mut self) -> Result<RunnerKey, RunnerError>
+        ensures ok { OnOk result (self.new ≡ record self.old { cells = after_reserve_runner self.old.cells }) }
+        ensures key { IfOk result (λ key. key.number ≡ self.old.cells.next_runner) }
+        ensures refused { OnErr result (self.new ≡ self.old) }
+        ensures cause { IfErr result (λ error. (error ≡ RunnerError.Exhausted) ↔ (self.old.cells.next_runner ≡ last_number)) }
+        ensures exhausted { self.old.cells.next_runner ≡ last_number → IsErr result }
+    {
+        self.cells.reserve_runner()
+    }
+
+    /// `Cells::release_runner`.
+    pub fn release_runner(&mut self, key: RunnerKey)
+        ensures { self.new ≡ record self.old { cells = after_release_runner self.old.cells key.number } }
+    {
+        self.cells.release_runner(key)
+    }
+
+    /// `Cells::register`, with its refusal.
+    pub fn register(&mut self, key: RunnerKey, ring: Ring) -> Result<(), Ring>
+        requires { ring.ids ≡ [] }
+        ensures variant { IsOk result ↔ (may_register self.old.cells key.number ≡ true) }
+        ensures ok { OnOk result (self.new ≡ record self.old { cells = after_register self.old.cells key.number ring.capacity }) }
+        ensures refused { IfErr result (λ back. (back ≡ ring) × (self.new ≡ self.old)) }
+    {
+        self.cells.register(key, ring)
+    }
+
+    /// `Cells::unregister`, with its answer.
+    pub fn unregister(&mut self, key: RunnerKey) -> Option<Notice>
+        ensures state { self.new ≡ record self.old { cells = after_unregister self.old.cells key.number } }
+        ensures notice { is_some result ≡ unregister_queues self.old.cells key.number }
+    {
+        self.cells.unregister(key)
     }
 
     /// `FlagValue::exchange`, with its answer.

@@ -1,9 +1,26 @@
-//! The global queue: the tasks that are scheduled, in the order in which they were.
-ghost use Rattle.std.specs.Prelude.{◌≡◌, [], IfSome, IfNone, length, slice_get};
-ghost use Rattle.executor_core.specs.Cells.Calls.{after_take, TakesFront};
+//! The queues of the cells: the tasks that are scheduled, in the order in which they were.
+//!
+//! A task is queued at the end of the global queue. A runner has a queue of its own besides, a
+//! `Ring`. It searches there first; where that is empty, it takes the front of the global queue and
+//! steals half of what is left; where that is empty too, it steals half of another runner's queue.
+//! So most searches touch one queue, and no runner is idle beside a task that another has queued.
+//! A steal moves the front half, so that the order is kept.
+ghost use Rattle.std.specs.Prelude.{◌≡◌, ◌↔◌, is_some, option_map, [], true, IfOk, IfErr, IsErr, IsOk, OnOk, OnErr, IfSome, IfNone, None, length, slice_get, slice_index_or};
+ghost use Rattle.executor_core.specs.SpawnError.{last_number};
+ghost use Rattle.executor_core.specs.Queues.{entries_at, fair_count, is_registered};
+ghost use Rattle.executor_core.specs.Cells.Law.{queues_of};
+ghost use Rattle.executor_core.specs.Cells.View.{scheduled_slot, TakesOut};
+ghost use Rattle.executor_core.specs.Cells.Calls.{after_take, TakesFront, after_search, search_in, TakesFound, after_fair, after_reserve_runner, after_release_runner, may_register, after_register, after_unregister, unregister_queues};
 
-use crate::task::cell::take_cell;
+pub(crate) mod queues;
+pub(crate) mod ring;
+pub(crate) mod runner;
+
+use crate::task::cell::{Cell, Numbered, take_cell};
 use crate::task::{Again, Cells, Held, Notice, Taken, TaskId};
+pub use ring::{Ring, steal};
+pub use runner::{RunnerError, RunnerKey};
+use slab::Slab;
 
 impl<P, T, W> Cells<P, T, W> {
     /// Takes the task at the global front, or none where the queue is empty. It takes no memory.
@@ -17,31 +34,151 @@ impl<P, T, W> Cells<P, T, W> {
         if let Some(again) = again {
             again.spend();
         }
-        let Some(id) = self.global.take_front() else {
+        let Some(id) = self.queues.take_front() else {
             return None;
         };
-        let (future, cancelled) = take_cell(&mut self.cells[id.slot].cell);
-        let held = Held { id, to_drop: false };
-        let taken = Taken {
-            id,
-            future,
-            cancelled,
-            held,
-        };
+        let taken = take_out(&mut self.cells, id);
         Some((taken, Notice { unspent: () }))
+    }
+
+    /// Takes a task for a runner, with a word that says where the walk over the other queues starts:
+    /// the front of its own queue, else the global front with half of what is left, else the front
+    /// half of the first other queue that has one. None where all are empty, or its own has no room.
+    ///
+    /// A runner that is not registered takes the global front. It takes no memory, and visits each
+    /// other queue once at most.
+    pub fn search(
+        &mut self,
+        key: RunnerKey,
+        word: u64,
+        again: Option<Again>,
+    ) -> Option<(Taken<P>, Notice)>
+        ensures table { self.new ≡ after_search self.old key.number word }
+        ensures none { IfNone result ((search_in self.old key.number word).0 ≡ None) }
+        ensures some { IfSome result (λ r. TakesFound self.old key.number word r.0) }
+    {
+        if let Some(again) = again {
+            again.spend();
+        }
+        let Some(id) = self.queues.search(key, word) else {
+            return None;
+        };
+        let taken = take_out(&mut self.cells, id);
+        Some((taken, Notice { unspent: () }))
+    }
+
+    /// Moves half of the global queue to the runner's own, as far as there is room, and says how
+    /// many tasks that are: 0 for a runner that is not registered. It takes no memory.
+    pub fn fair(&mut self, key: RunnerKey) -> usize
+        ensures table { self.new ≡ after_fair self.old key.number }
+        ensures count { result ≡ fair_count key.number (queues_of self.old) }
+    {
+        self.queues.fair(key)
+    }
+
+    /// Reserves a place for a runner, and gives the key of a new one. No number is given twice.
+    ///
+    /// # Errors
+    ///
+    /// `Exhausted` exactly where every runner number was given, and `OutOfMemory` where a growth was
+    /// refused. Nothing else changed then.
+    pub fn reserve_runner(&mut self) -> Result<RunnerKey, RunnerError>
+        ensures ok { OnOk result (self.new ≡ after_reserve_runner self.old) }
+        ensures key { IfOk result (λ key. key.number ≡ self.old.next_runner) }
+        ensures refused { OnErr result (self.new ≡ self.old) }
+        ensures cause { IfErr result (λ error. (error ≡ RunnerError.Exhausted) ↔ (self.old.next_runner ≡ last_number)) }
+        ensures exhausted { self.old.next_runner ≡ last_number → IsErr result }
+    {
+        self.queues.reserve_runner()
+    }
+
+    /// Gives a free place back, where there is one and the runner is not registered.
+    pub fn release_runner(&mut self, key: RunnerKey)
+        ensures { self.new ≡ after_release_runner self.old key.number }
+    {
+        self.queues.release_runner(key)
+    }
+
+    /// Makes the empty ring the runner's queue, the last in order of registration. It takes no
+    /// memory.
+    ///
+    /// # Errors
+    ///
+    /// The ring comes back exactly where no reserved place is free or the runner is registered, and
+    /// nothing changes.
+    pub fn register(&mut self, key: RunnerKey, ring: Ring) -> Result<(), Ring>
+        requires { ring.ids ≡ [] }
+        ensures variant { IsOk result ↔ (may_register self.old key.number ≡ true) }
+        ensures ok { OnOk result (self.new ≡ after_register self.old key.number ring.capacity) }
+        ensures refused { IfErr result (λ back. (back ≡ ring) × (self.new ≡ self.old)) }
+    {
+        self.queues.register(key, ring)
+    }
+
+    /// Ends the runner's queue and its place. What stood there goes to the global end in order, with
+    /// a notice exactly where there was something. A runner that is not registered changes nothing.
+    /// It takes no memory.
+    pub fn unregister(&mut self, key: RunnerKey) -> Option<Notice>
+        ensures table { self.new ≡ after_unregister self.old key.number }
+        ensures notice { is_some result ≡ unregister_queues self.old key.number }
+    {
+        self.queues.unregister(key)
+    }
+
+    // Whether the runner is registered.
+    pub(crate) fn is_registered(&self, key: RunnerKey) -> bool
+        ensures { result ≡ is_registered key.number self.now.locals }
+    {
+        self.queues.is_registered(key)
     }
 
     /// How many tasks stand in the global queue.
     pub fn global_len(&self) -> usize
         ensures { result ≡ length self.now.global }
     {
-        self.global.len()
+        self.queues.global_len()
     }
 
     /// The number of the task at this place of the global queue, the front being 0.
     pub fn global_at(&self, i: usize) -> Option<u64>
         ensures { result ≡ slice_get self.now.global i }
     {
-        self.global.number_at(i)
+        self.queues.global_at(i)
+    }
+
+    /// How many runners are registered.
+    pub fn runners(&self) -> usize
+        ensures { result ≡ length self.now.locals }
+    {
+        self.queues.runners()
+    }
+
+    /// How many tasks stand in the queue of the runner at this position in order of registration.
+    pub fn local_len(&self, r: usize) -> Option<usize>
+        ensures { result ≡ option_map (λ q. length q.entries) (slice_get self.now.locals r) }
+    {
+        self.queues.local_len(r)
+    }
+
+    /// The number of the task at this place of that queue, the front being 0.
+    pub fn local_at(&self, r: usize, i: usize) -> Option<u64>
+        ensures { result ≡ slice_get (entries_at r self.now.locals) i }
+    {
+        self.queues.local_at(r, i)
+    }
+}
+
+// Takes the task out of its cell, which is scheduled.
+fn take_out<P, T, W>(cells: &mut Slab<Numbered<Cell<P, T, W>>>, id: TaskId) -> Taken<P>
+    requires { scheduled_slot (slice_index_or cells.old.slots id.slot None) ≡ true }
+    ensures { TakesOut cells.old.slots cells.new.slots id result }
+{
+    let (future, cancelled) = take_cell(&mut cells[id.slot].cell);
+    let held = Held { id, to_drop: false };
+    Taken {
+        id,
+        future,
+        cancelled,
+        held,
     }
 }

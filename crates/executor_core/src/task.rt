@@ -43,7 +43,6 @@ pub(crate) mod handles;
 pub(crate) mod id;
 pub(crate) mod polling;
 pub(crate) mod table;
-pub(crate) mod task_queue;
 pub(crate) mod values;
 
 pub use error::{OutOfMemory, SpawnError};

@@ -25,12 +25,16 @@ word_of (Step (step.Dropped _)) = codes "dropped"
 word_of (Step step.Exchange) = codes "exchange"
 word_of (Step step.Notify) = codes "notify"
 word_of (Step step.Tick) = codes "tick"
+word_of (Step step.Run) = codes "run"
+word_of (Step (step.Register _)) = codes "register"
 word_of (Step (step.Poll _)) = codes "poll"
 word_of (Step (step.Search _ _)) = codes "search"
 word_of (Step (step.Sleep _)) = codes "sleep"
 word_of (Step (step.Yield _)) = codes "yield"
 word_of (Step (step.Remove _)) = codes "remove"
 word_of (Step (step.Store _)) = codes "store"
+word_of (Step (step.Fair _)) = codes "fair"
+word_of (Step (step.Unregister _)) = codes "unregister"
 word_of (Step (step.Drop _)) = codes "drop"
 
 -- the numbers behind it
@@ -49,12 +53,16 @@ numbers_of (Step (step.Dropped n)) = n ∷ []
 numbers_of (Step step.Exchange) = []
 numbers_of (Step step.Notify) = []
 numbers_of (Step step.Tick) = []
+numbers_of (Step step.Run) = []
+numbers_of (Step (step.Register k)) = k ∷ []
 numbers_of (Step (step.Poll k)) = k ∷ []
 numbers_of (Step (step.Search k word)) = k ∷ word ∷ []
 numbers_of (Step (step.Sleep k)) = k ∷ []
 numbers_of (Step (step.Yield k)) = k ∷ []
 numbers_of (Step (step.Remove k)) = k ∷ []
 numbers_of (Step (step.Store k)) = k ∷ []
+numbers_of (Step (step.Fair k)) = k ∷ []
+numbers_of (Step (step.Unregister k)) = k ∷ []
 numbers_of (Step (step.Drop k)) = k ∷ []
 
 -- each number in decimal, after one space

@@ -37,6 +37,7 @@ reply_text reply.Notified = codes "notified"
 reply_text reply.Unnotified = codes "unnotified"
 reply_text (reply.Stored true) = codes "true"
 reply_text (reply.Stored false) = codes "false"
+reply_text (reply.Moved count) = codes "moved " ++ decimal count
 reply_text reply.Awake = codes "awake"
 reply_text reply.LogFull = codes "log full"
 reply_text reply.NotNow = codes "not now"

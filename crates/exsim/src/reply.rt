@@ -3,6 +3,7 @@ ghost use Rattle.std.specs.Prelude.{◌≡◌, Some};
 ghost use Rattle.exsim.specs.Replies.{awaiter_text, reply_text};
 
 use executor_core::interleave::{Reply, World};
+use executor_core::task::Cells;
 use std::fmt;
 
 // Said where an awaiter came out.
@@ -48,6 +49,7 @@ impl fmt::Display for ReplyText {
             Reply::Notified => f.write_str("notified"),
             Reply::Unnotified => f.write_str("unnotified"),
             Reply::Stored(flag) => write!(f, "{flag}"),
+            Reply::Moved(count) => write!(f, "moved {count}"),
             Reply::Awake => f.write_str("awake"),
             Reply::LogFull => f.write_str("log full"),
             Reply::NotNow => f.write_str("not now"),
@@ -56,10 +58,32 @@ impl fmt::Display for ReplyText {
     }
 }
 
-/// The state of a world as `show` prints it. Local queues aren't part of a world yet, and stand as
-/// they open.
+/// The state of a world as `show` prints it: the global queue, those of the runners in order of
+/// registration, and what is counted.
 #[derive(Drop)]
 pub struct StateText<'a>(pub &'a World<(), u64>);
+
+// What stands between the item at this place and the one before.
+fn separator(place: usize) -> &'static str {
+    if place > 0 { ", " } else { "" }
+}
+
+// The queue of the runner at this position.
+#[derive(Drop)]
+struct LocalText<'a>(&'a Cells<(), u64, ()>, usize);
+
+impl fmt::Display for LocalText<'_> {
+    fn fmt<W: fmt::Write>(&self, f: &mut fmt::Formatter<W>) -> fmt::Result {
+        let (cells, runner) = (self.0, self.1);
+        f.write_str("[")?;
+        for place in 0..cells.local_len(runner).unwrap_or(0) {
+            if let Some(n) = cells.local_at(runner, place) {
+                write!(f, "{}{n}", separator(place))?;
+            }
+        }
+        f.write_str("]")
+    }
+}
 
 impl fmt::Display for StateText<'_> {
     fn fmt<W: fmt::Write>(&self, f: &mut fmt::Formatter<W>) -> fmt::Result {
@@ -67,20 +91,18 @@ impl fmt::Display for StateText<'_> {
         let cells = world.cells();
         f.write_str("global [")?;
         for place in 0..cells.global_len() {
-            if place > 0 {
-                f.write_str(", ")?;
-            }
             if let Some(n) = cells.global_at(place) {
-                write!(f, "{n}")?;
+                write!(f, "{}{n}", separator(place))?;
             }
+        }
+        f.write_str("] locals [")?;
+        for runner in 0..cells.runners() {
+            write!(f, "{}{}", separator(runner), LocalText(cells, runner))?;
         }
         let state = world.state();
         let (flag, sleepers) = (state.flag().get(), state.sleepers());
         let (numbers, notified) = (sleepers.numbers(), sleepers.notified());
-        write!(
-            f,
-            "] locals [] flag {flag} numbers {numbers} notified {notified} "
-        )?;
+        write!(f, "] flag {flag} numbers {numbers} notified {notified} ")?;
         let (notices, picks, undropped) = (world.notices(), world.picks(), cells.undropped());
         write!(f, "notices {notices} picks {picks} undropped {undropped}")
     }

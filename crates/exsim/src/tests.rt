@@ -1,4 +1,5 @@
 //! Whole runs over readers and writers in memory, which may fail.
+mod runs;
 mod tickers;
 
 use crate::run_lines;
@@ -166,6 +167,32 @@ const RUNS: [(&str, &str, u8); 14] = [
     ("spawn\nspwan\nspawn\n", "task 0\nbad line 2\n", 1),
     ("spawn\n\n", "task 0\nbad line 2\n", 1),
 ];
+
+// Lines that are taken, the replies, and which of a party's lines may come next.
+type Turn<'a> = (&'a [u8], &'a str, &'a [&'a [u8]]);
+
+// Takes the turns, and tries each of the party's other lines after each turn.
+fn expect_turns(
+    rt: &impl Abort,
+    alloc: Global,
+    lines: &[&[u8]],
+    turns: &[Turn<'_>],
+) -> Result<(), Fail> {
+    let mut input = Vec::new(alloc);
+    let mut output = String::new(alloc);
+    for (taken, replies, next) in turns {
+        input.extend_from_slice(taken)?;
+        output.push_str(replies)?;
+        for line in lines {
+            if !next.contains(line) {
+                input.extend_from_slice(line)?;
+                output.push_str("not now\n")?;
+            }
+        }
+    }
+    expect_run(rt, alloc, whole(&input), &output, 0);
+    Ok(())
+}
 
 #[test]
 fn runs_print_their_replies_however_the_input_is_cut(rt: HostRuntime) {

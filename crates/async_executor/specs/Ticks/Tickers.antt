@@ -14,8 +14,9 @@ use Rattle.async_executor.specs.declared.ticker.machine.TickNext.{TickNext}
 use Rattle.async_executor.specs.declared.ticker.machine.TickNext.TheVariants.{Act, Rest}
 use Rattle.async_executor.specs.declared.ticker.machine.TickRest.{TickRest}
 
+-- it is a tick, so it has no runner
 abbrev pub ticker_at : Phase → ℕ → Ticker
-ticker_at phase number = record { phase = phase; number = number }
+ticker_at phase number = record { phase = phase; number = number; runner = None }
 
 -- the ticker of a machine, by the action that it asked for last; after the removal of its number, by whether that was notified
 abbrev pub ticker_in : Bool → State → Ticker

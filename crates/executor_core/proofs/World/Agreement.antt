@@ -9,7 +9,7 @@ use Rattle.std.specs.Prelude.{slice_get, slice_set}
 use Rattle.std.specs.FinMap as map
 use Rattle.executor_core.specs.Cells.{Slotted, Table}
 use Rattle.executor_core.specs.Cell.{is_idle, is_scheduled, is_held, is_undropped}
-use Rattle.executor_core.specs.Cells.Law.{scheduled_in, LockLaw}
+use Rattle.executor_core.specs.Cells.Law.{scheduled_in, queued_of, LockLaw}
 use Rattle.executor_core.specs.Cells.Calls.{cell_at, in_slot, undropped_in, future_in, AllDropped}
 use Rattle.executor_core.specs.World.Entries.{infos, is_out}
 use Rattle.executor_core.specs.World.Log.{spawned, dropped, held, owed, idle, polls, wakes, EachDropped}
@@ -117,6 +117,10 @@ module _ {P T : Type 0} where
   cell_of None = None
   cell_of (Some slotted) = Some slotted.cell
 
+  -- the cells stay, whatever becomes of the queues
+  pub same_cells : {table later : Table P T (Unit {0})} {log : List (Event T)} {entries : List (TaskEntry P)} → Agree table log entries → later.next ≡ table.next → later.cells ≡ table.cells → Agree later log entries
+  same_cells agree next cells = record { next = next ∙ agree.next; each = λ n. rw cells (agree.each n); few_polls = agree.few_polls; order = agree.order }
+
   pub agreed_at : {table : Table P T (Unit {0})} {log : List (Event T)} {entries : List (TaskEntry P)} → Agree table log entries → (n : ℕ) (e : TaskEntry P) → slice_get entries n ≡ Some e → (o : Option (Slotted P T (Unit {0}))) → map.get table.cells n ≡ o → NumberAgrees o (status n log) (Some e)
   agreed_at {table} {log} {entries} agree n e found o here = number_agrees_by _ _ _ _ _ _ (sym here) refl (sym found) (agree.each n)
 
@@ -196,7 +200,7 @@ module _ {P T : Type 0} where
   scheduled_same None = refl
   scheduled_same (Some slotted) = refl
 
-  pub one_place : {table : Table P T (Unit {0})} {log : List (Event T)} {entries : List (TaskEntry P)} → Agree table log entries → LockLaw table → OnePlace log table.global
+  pub one_place : {table : Table P T (Unit {0})} {log : List (Event T)} {entries : List (TaskEntry P)} → Agree table log entries → LockLaw table → OnePlace log (queued_of table)
   one_place {table} agree law n = law n ∙ ap (λ b. cond b 1 0) (scheduled_same (map.get table.cells n) ∙ (cells_agree agree).scheduled n)
 
   pub few_polls : {table : Table P T (Unit {0})} {log : List (Event T)} {entries : List (TaskEntry P)} → Agree table log entries → FewPolls log
@@ -304,7 +308,7 @@ module _ {P T : Type 0} {table : Table P T (Unit {0})} {log : List (Event T)} {e
     | inr none ↦ ap undropped_in none.cell ∙ ap not (sym none.agrees.dropped)
   ]
 
-module _ {P T : Type 0} (a : Inside P T) (sound : IsWorld (execution_of a) a.core.cells a.entries.items (vec_capacity a.log)) {w : Execution T} (view : execution_of a ≡ w) (n : ℕ) where
+module _ {P T : Type 0} (a : Inside P T) (sound : IsWorld (execution_of a) a.core.cells a.entries.items a.rings.items (vec_capacity a.log)) {w : Execution T} (view : execution_of a ≡ w) (n : ℕ) where
   -- a task that was spawned, or is held, is one of the tasks
   pub spawned_within : spawned n w.log ≡ true → n < length a.entries.items
   spawned_within is = by_entry (slice_get a.entries.items n) refl (sym (spawned_is sound.agree n) ∙ ap (λ w. spawned n w.log) view ∙ is)

@@ -20,6 +20,7 @@ use Rattle.executor_core.proofs.World.Entries.{infos-set, entry_of, handle_there
 use Rattle.executor_core.proofs.World.Agreement.{id_of, undropped_is, undropped_state, CellAt, handle_cell, LogChange, log_same, log_pushed, entry_set, cell_put, cell_removed, agree_again}
 use Rattle.executor_core.proofs.World.Marks.{cancel_marks}
 use Rattle.executor_core.proofs.World.Room.{length-push_if}
+use Rattle.executor_core.proofs.World.Runners.{runner_part}
 use Rattle.executor_core.proofs.World.Steps.{stepped, Done, stepped_sound}
 use Rattle.executor_core.specs.declared.task.cell.CellState.{CellState}
 use Rattle.executor_core.specs.declared.task.cell.CellState.TheVariants.{Idle, Scheduled, Held, Finished, Gone}
@@ -89,6 +90,12 @@ module _ {P T : Type 0} {table : Table P T (Unit {0})} {log : List (Event T)} {e
     | inr alive ↦ ap (λ x. x.global) (poll_pending alive)
   ]
 
+  pub poll_runners : runner_part (after_poll_handle table (id_of n e.info) tt) ≡ runner_part table
+  poll_runners = elim (cases_Bool (dropped n log)) [
+    | inl gone ↦ ap runner_part (poll_ended gone)
+    | inr alive ↦ ap runner_part (poll_pending alive)
+  ]
+
   -- the handle of a task that is not dropped is awaited
   pub pending_holds : dropped n log ≡ false → Agree (after_poll_handle table (id_of n e.info) tt) log (slice_set entries n (record e { info = record e.info { awaited = true } }))
   pending_holds alive =
@@ -149,6 +156,12 @@ module _ {P T : Type 0} {table : Table P T (Unit {0})} {log : List (Event T)} {e
     | inr alive ↦ ap (λ x. x.global) (detach_alive alive)
   ]
 
+  pub detach_runners : runner_part (after_detach table (id_of n e.info)) ≡ runner_part table
+  detach_runners = elim (cases_Bool (dropped n log)) [
+    | inl gone ↦ ap runner_part (detach_ended gone)
+    | inr alive ↦ ap runner_part (detach_alive alive)
+  ]
+
   pub detach_holds : Agree (after_detach table (id_of n e.info)) log (slice_set entries n (record e { info = record e.info { has_handle = false; awaited = false } }))
   detach_holds = elim (cases_Bool (dropped n log)) [
     | inl gone ↦ removed _ (detach_ended gone) _ refl gone _ log (log_same log n) agree.order (agree.few_polls n) refl refl refl
@@ -170,7 +183,7 @@ module _ {P T : Type 0} {table : Table P T (Unit {0})} {log : List (Event T)} {e
 pub handles_agree : {P T : Type 0} {table : Table P T (Unit {0})} {log : List (Event T)} {entries : List (TaskEntry P)} → Agree table log entries → HandlesAgree table log (infos entries)
 handles_agree {entries = entries} agree n i found there = let at = entry_of entries n i found in handle_agrees agree n _ at.1 there
 
-module _ {P T : Type 0} (a : Inside P T) (sound : IsWorld (execution_of a) a.core.cells a.entries.items (vec_capacity a.log)) {w : Execution T} (view : execution_of a ≡ w) (far : w.accepted ≢ w.limit) (n : ℕ) {i : TaskInfo} (found : slice_get (infos a.entries.items) n ≡ Some i) where
+module _ {P T : Type 0} (a : Inside P T) (sound : IsWorld (execution_of a) a.core.cells a.entries.items a.rings.items (vec_capacity a.log)) {w : Execution T} (view : execution_of a ≡ w) (far : w.accepted ≢ w.limit) (n : ℕ) {i : TaskInfo} (found : slice_get (infos a.entries.items) n ≡ Some i) where
   module _ (enabled : (info n w).has_handle ≡ true) where
     there : i.has_handle ≡ true
     there = handle_there a view n found enabled
@@ -184,39 +197,42 @@ module _ {P T : Type 0} (a : Inside P T) (sound : IsWorld (execution_of a) a.cor
         told is = subst (AnswerTells sound.agree n _ (entry_of a.entries.items n i found).1 there) (sym (is ∙ ap (λ id. poll_answer tt (cell_at a.core.cells id)) same)) (answer_tells sound.agree n _ (entry_of a.entries.items n i found).1 there)
 
         pub output_done : {entries : List (TaskEntry P)} {j : TaskInfo} → ((e : TaskEntry P) → slice_get a.entries.items n ≡ Some e → entries ≡ slice_set a.entries.items n (record e { info = j })) → (t : T) {awaiter : Unit {0}} → handle.Output t awaiter ≡ poll_answer tt (cell_at a.core.cells id) → j ≡ record i { has_handle = false } → {log : List (Event T)} → log ≡ a.log.items ++ Got n t ∷ [] → {answer : Reply T} → answer ≡ reply.Output t
-            → Done (stepped a accepted core log entries a.notices a.picks) core.cells entries room (handle_row n w) answer
+            → Done (stepped a accepted core log entries a.notices a.picks) core.cells entries a.rings.items room (handle_row n w) answer
         output_done entries_is t is info_is log_is answers =
             let e : TaskEntry P = record { info = record i { has_handle = false }; out = (entry_of a.entries.items n i found).0 } in
             let tells = told is in
             let queue = poll_global sound.agree n _ (entry_of a.entries.items n i found).1 there in
+            let runners = poll_runners sound.agree n _ (entry_of a.entries.items n i found).1 there in
             let far = rw (← view) at far in
             rw (← view, counted, core_is, set_to _ entries_is info_is, log_is, answers, capacity, same) (record {
-              sound = stepped_sound a sound refl far false _ _ _ (λ _. queue) (let long = length-slice_set a.entries.items n e in omega arith) (let long = length-push a.log.items (Got n t) in omega arith) (output_holds sound.agree n _ (entry_of a.entries.items n i found).1 there t tells.0 tells.1 tells.2);
-              does = rw (infos-set a.entries.items n e, queue, tells.0, tells.1, found) (refl, refl);
+              sound = stepped_sound a sound refl far false _ _ _ (λ _. queue) runners (let long = length-slice_set a.entries.items n e in omega arith) (let long = length-push a.log.items (Got n t) in omega arith) (output_holds sound.agree n _ (entry_of a.entries.items n i found).1 there t tells.0 tells.1 tells.2);
+              does = rw (infos-set a.entries.items n e, queue, ap (λ p. p.0) runners, tells.0, tells.1, found) (refl, refl);
             })
 
         pub cancelled_done : {entries : List (TaskEntry P)} {j : TaskInfo} → ((e : TaskEntry P) → slice_get a.entries.items n ≡ Some e → entries ≡ slice_set a.entries.items n (record e { info = j })) → {awaiter : Unit {0}} → handle.Cancelled awaiter ≡ poll_answer tt (cell_at a.core.cells id) → j ≡ record i { has_handle = false } → {answer : Reply T} → answer ≡ reply.Cancelled
-            → Done (stepped a accepted core a.log.items entries a.notices a.picks) core.cells entries room (handle_row n w) answer
+            → Done (stepped a accepted core a.log.items entries a.notices a.picks) core.cells entries a.rings.items room (handle_row n w) answer
         cancelled_done entries_is is info_is answers =
             let e : TaskEntry P = record { info = record i { has_handle = false }; out = (entry_of a.entries.items n i found).0 } in
             let tells = told is in
             let queue = poll_global sound.agree n _ (entry_of a.entries.items n i found).1 there in
+            let runners = poll_runners sound.agree n _ (entry_of a.entries.items n i found).1 there in
             let far = rw (← view) at far in
             rw (← view, counted, core_is, set_to _ entries_is info_is, answers, capacity, same) (record {
-              sound = stepped_sound a sound refl far false _ _ _ (λ _. queue) (let long = length-slice_set a.entries.items n e in omega arith) (omega arith) (cancelled_holds sound.agree n _ (entry_of a.entries.items n i found).1 there tells.0);
-              does = rw (infos-set a.entries.items n e, queue, tells.0, tells.1, found) (refl, refl);
+              sound = stepped_sound a sound refl far false _ _ _ (λ _. queue) runners (let long = length-slice_set a.entries.items n e in omega arith) (omega arith) (cancelled_holds sound.agree n _ (entry_of a.entries.items n i found).1 there tells.0);
+              does = rw (infos-set a.entries.items n e, queue, ap (λ p. p.0) runners, tells.0, tells.1, found) (refl, refl);
             })
 
         pub pending_done : {entries : List (TaskEntry P)} {j : TaskInfo} → ((e : TaskEntry P) → slice_get a.entries.items n ≡ Some e → entries ≡ slice_set a.entries.items n (record e { info = j })) → {before : Option (Unit {0})} → handle.Pending before ≡ poll_answer tt (cell_at a.core.cells id) → j ≡ record i { awaited = true } → {answer : Reply T} → answer ≡ reply.Pending
-            → Done (stepped a accepted core a.log.items entries a.notices a.picks) core.cells entries room (handle_row n w) answer
+            → Done (stepped a accepted core a.log.items entries a.notices a.picks) core.cells entries a.rings.items room (handle_row n w) answer
         pending_done entries_is is info_is answers =
             let e : TaskEntry P = record { info = record i { awaited = true }; out = (entry_of a.entries.items n i found).0 } in
             let tells = told is in
             let queue = poll_global sound.agree n _ (entry_of a.entries.items n i found).1 there in
+            let runners = poll_runners sound.agree n _ (entry_of a.entries.items n i found).1 there in
             let far = rw (← view) at far in
             rw (← view, counted, core_is, set_to _ entries_is info_is, answers, capacity, same) (record {
-              sound = stepped_sound a sound refl far false _ _ _ (λ _. queue) (let long = length-slice_set a.entries.items n e in omega arith) (omega arith) (pending_holds sound.agree n _ (entry_of a.entries.items n i found).1 there tells);
-              does = rw (infos-set a.entries.items n e, queue, tells, found) (refl, refl);
+              sound = stepped_sound a sound refl far false _ _ _ (λ _. queue) runners (let long = length-slice_set a.entries.items n e in omega arith) (omega arith) (pending_holds sound.agree n _ (entry_of a.entries.items n i found).1 there tells);
+              does = rw (infos-set a.entries.items n e, queue, ap (λ p. p.0) runners, tells, found) (refl, refl);
             })
 
       module _ {out : Option T × Option (Unit {0})} (output : out ≡ detach_answer (cell_at a.core.cells id)) where
@@ -224,27 +240,29 @@ module _ {P T : Type 0} (a : Inside P T) (sound : IsWorld (execution_of a) a.cor
         output_is = ap (λ p. p.0) output ∙ ap (λ id. (detach_answer (cell_at a.core.cells id)).0) same ∙ detach_output sound.agree n _ (entry_of a.entries.items n i found).1 there
 
         pub detach_done : {entries : List (TaskEntry P)} {j : TaskInfo} → ((e : TaskEntry P) → slice_get a.entries.items n ≡ Some e → entries ≡ slice_set a.entries.items n (record e { info = j })) → j ≡ record i { has_handle = false; awaited = false } → {core : Core P T (Unit {0})} → core ≡ record a.core { cells = after_detach a.core.cells id } → {answer : Reply T} → answer ≡ output_reply out.0
-            → Done (stepped a accepted core a.log.items entries a.notices a.picks) core.cells entries room (detach_row n w) answer
+            → Done (stepped a accepted core a.log.items entries a.notices a.picks) core.cells entries a.rings.items room (detach_row n w) answer
         detach_done entries_is info_is core_is answers =
             let e : TaskEntry P = record { info = record i { has_handle = false; awaited = false }; out = (entry_of a.entries.items n i found).0 } in
             let queue = detach_global sound.agree n _ (entry_of a.entries.items n i found).1 there in
+            let runners = detach_runners sound.agree n _ (entry_of a.entries.items n i found).1 there in
             let far = rw (← view) at far in
             rw (← view, counted, core_is, set_to _ entries_is info_is, answers, output_is, capacity, same) (record {
-              sound = stepped_sound a sound refl far false _ _ _ (λ _. queue) (let long = length-slice_set a.entries.items n e in omega arith) (omega arith) (detach_holds sound.agree n _ (entry_of a.entries.items n i found).1 there);
-              does = rw (infos-set a.entries.items n e, queue, found) (refl, refl);
+              sound = stepped_sound a sound refl far false _ _ _ (λ _. queue) runners (let long = length-slice_set a.entries.items n e in omega arith) (omega arith) (detach_holds sound.agree n _ (entry_of a.entries.items n i found).1 there);
+              does = rw (infos-set a.entries.items n e, queue, ap (λ p. p.0) runners, found) (refl, refl);
             })
 
         pub drop_handle_done : {entries : List (TaskEntry P)} {j : TaskInfo} → ((e : TaskEntry P) → slice_get a.entries.items n ≡ Some e → entries ≡ slice_set a.entries.items n (record e { info = j })) → j ≡ record i { has_handle = false; awaited = false } → {core : Core P T (Unit {0})} → core ≡ record a.core { cells = after_detach (after_cancel a.core.cells id) id } → {queues undropped kept : Bool} {notices : ℕ} {log : List (Event T)} → queues ≡ cancel_queues a.core.cells id → undropped ≡ undropped_in (cell_at a.core.cells id)
             → log ≡ cond undropped (a.log.items ++ Cancelled n ∷ []) a.log.items → notices ≡ cond queues (a.notices + 1) a.notices → kept ≡ queues → {answer : Reply T} → answer ≡ end_reply kept out.0
-            → Done (stepped a accepted core log entries notices a.picks) core.cells entries room (drop_handle_row n w) answer
+            → Done (stepped a accepted core log entries notices a.picks) core.cells entries a.rings.items room (drop_handle_row n w) answer
         drop_handle_done entries_is info_is core_is queues_is now log_is noticed keeps answers =
             let e : TaskEntry P = record { info = record i { has_handle = false; awaited = false }; out = (entry_of a.entries.items n i found).0 } in
             let at = (entry_of a.entries.items n i found).1 in
             let marks = cancel_marks sound.agree n _ at there in
             let alive : undropped_in (cell_at a.core.cells (id_of n i)) ≡ not (dropped n a.log.items) = undropped_is sound.agree n _ at in
             let queue = detach_global marks.holds n _ at there ∙ marks.global in
+            let runners = detach_runners marks.holds n _ at there ∙ marks.runners in
             let far = rw (← view) at far in
             rw (← view, counted, core_is, set_to _ entries_is info_is, log_is, noticed, answers, keeps, now, queues_is, output_is, capacity, same, alive, marks.queued) (record {
-              sound = stepped_sound a sound refl far (idle n a.log.items) _ _ _ (λ never. queue ∙ cond-false (idle n a.log.items) _ _ never) (let long = length-slice_set a.entries.items n e in omega arith) (let long = length-push_if (not (dropped n a.log.items)) a.log.items (Cancelled n) in omega arith) (detach_holds marks.holds n _ at there);
-              does = rw (infos-set a.entries.items n e, queue, found) (refl, refl);
+              sound = stepped_sound a sound refl far (idle n a.log.items) _ _ _ (λ never. queue ∙ cond-false (idle n a.log.items) _ _ never) runners (let long = length-slice_set a.entries.items n e in omega arith) (let long = length-push_if (not (dropped n a.log.items)) a.log.items (Cancelled n) in omega arith) (detach_holds marks.holds n _ at there);
+              does = rw (infos-set a.entries.items n e, queue, ap (λ p. p.0) runners, found) (refl, refl);
             })

@@ -1,6 +1,7 @@
 -- No notice is lost.
-use Rattle.std.proofs.Common.{◌≡◌, ℕ, ◌+◌, ◌-◌, ◌<◌, ◌≤◌, Bool, true, false, ◌||◌, not, ◌⊎◌, inl, inr, cond, [], length, ◌∷◌, ◌++◌, Option, Some, None, refl, sym, ap, subst, ◌∙◌, length-take, arith}
+use Rattle.std.proofs.Common.{◌≡◌, ℕ, ◌+◌, ◌-◌, ◌<◌, ◌≤◌, Bool, true, false, ◌||◌, not, ◌⊎◌, inl, inr, cond, List, [], length, ◌∷◌, ◌++◌, Option, Some, None, is_some, refl, sym, ap, subst, ◌∙◌, length-take, arith}
 use Rattle.std.proofs.lemmas.Bool.{cases_Bool, cases_lt, cases_eq, lt-ltb, ltb-true, eq-eqb, eqb-true, eqb-false, or_left, or_right, or_cases, true≢false, false≢true}
+use Rattle.std.proofs.lemmas.List.Folds.{list_any-append}
 use Rattle.std.proofs.lemmas.List.Sums.{sum_by_push}
 use Rattle.std.specs.List.{list_any}
 use Rattle.std.specs.Prelude.{nat_lt, ◌==◌, slice_get, slice_set}
@@ -9,8 +10,8 @@ use Rattle.std.specs.Ordering.{nat_cmp}
 use Rattle.executor_core.specs.Sleepers.{SleeperList, SleeperLaw, is_notified}
 use Rattle.executor_core.specs.Sleepers.Calls.{no_sleepers, all_unnotified, after_notify}
 use Rattle.executor_core.specs.World.{Execution}
-use Rattle.executor_core.specs.World.Promises.{some_notified, kept_notices, notices_out, some_search, is_obliged, holder_spends, holds, HolderStores, FlagLaw, Covered, NoNoticeLost}
-use Rattle.executor_core.specs.World.Tickers.{in_store, notices_in, has_to_search, has_to_spend, ticker_or, new_ticker}
+use Rattle.executor_core.specs.World.Promises.{some_notified, kept_notices, notices_out, some_search, is_obliged, holder_spends, holds, HolderStores, only_runs, all_queues, CoversQueued, FlagLaw, Covered, RunsCovered, NoNoticeLost}
+use Rattle.executor_core.specs.World.Tickers.{is_run, in_store, notices_in, has_to_search, has_to_spend, ticker_or, new_ticker}
 use Rattle.executor_core.proofs.ListLemmas.{sum_by-set, sum_by-at, any-at, any-set_true, any-set_same, any-push, get-set_same, get-set_other, get-push_last, get-push_other, get_past}
 use Rattle.executor_core.specs.declared.interleave.ticker.Ticker.{Ticker}
 
@@ -70,17 +71,40 @@ some_in_use s notified asleep = elim (or_cases (set.len s.used == 0) (nat_lt (le
 abbrev Turned : {T : Type 0} → Execution T → Type 0
 Turned w = is_notified w.sleepers || nat_lt 0 w.picks || holder_spends w.holder w.tickers ≡ true
 
+-- queues that were empty stay so
+pub record StayEmpty {T : Type 0} (w v : Execution T) : Type 0 where
+  pub global : w.global ≡ [] → v.global ≡ []
+  pub all : all_queues w ≡ [] → all_queues v ≡ []
+
+pub same_queues : {T : Type 0} {w v : Execution T} → v.global ≡ w.global → v.locals ≡ w.locals → StayEmpty w v
+same_queues global locals = record { global = λ none. global ∙ none; all = λ none. rw (global, locals) none }
+
+-- what no lost notice says of the queues
+abbrev pub Covers : {T : Type 0} → Execution T → Type 0
+Covers w = Covered w × RunsCovered w
+
+pub no_notice_lost : {T : Type 0} {w : Execution T} → FlagLaw w → Covers w → NoNoticeLost w
+no_notice_lost flag covers = record { flag_law = flag; covered = covers.0; runs_covered = covers.1 }
+
+-- it holds of any queue
+any_covered : {T : Type 0} (w : Execution T) → ((queued : List ℕ) → CoversQueued queued w) → Covers w
+any_covered w covers = (covers w.global, λ runs. covers (all_queues w))
+
 module _ {T : Type 0} {w v : Execution T} (law : NoNoticeLost w) where
   -- flag, sleepers, picks and tickers are as before: a notice is out, or the queue and the notices are as before too
-  pub notices_again : v.flag ≡ w.flag → v.sleepers ≡ w.sleepers → v.picks ≡ w.picks → v.tickers ≡ w.tickers → v.holder ≡ w.holder → (0 < v.notices) ⊎ ((v.global ≡ w.global) × (v.notices ≡ w.notices)) → NoNoticeLost v
+  pub notices_again : v.flag ≡ w.flag → v.sleepers ≡ w.sleepers → v.picks ≡ w.picks → v.tickers ≡ w.tickers → v.holder ≡ w.holder → (0 < v.notices) ⊎ (StayEmpty w v × (v.notices ≡ w.notices)) → NoNoticeLost v
   notices_again flag sleepers picks tickers holder or =
       record {
         flag_law = λ on. rw (sleepers, picks, tickers, holder) (law.flag_law (sym flag ∙ on));
-        covered = λ queued asleep. elim or [
-          | inl out ↦ noticed_obliges v (omega arith) (some_notified v.sleepers)
-          | inr same ↦ rw (sleepers, picks, tickers, same.1) (law.covered (λ none. queued (same.0 ∙ none)) (subst (λ s. 0 < set.len s.used) sleepers asleep))
-        ];
+        covered = again w.global v.global (λ stay. stay.global) law.covered;
+        runs_covered = λ runs. again (all_queues w) (all_queues v) (λ stay. stay.all) (law.runs_covered (subst (λ l. only_runs l ≡ true) tickers runs));
       }
+    where
+      again : (before after : List ℕ) → (StayEmpty w v → before ≡ [] → after ≡ []) → CoversQueued before w → CoversQueued after v
+      again before after stay covers queued asleep = elim or [
+        | inl out ↦ noticed_obliges v (omega arith) (some_notified v.sleepers)
+        | inr same ↦ rw (sleepers, picks, tickers, same.1) (covers (λ none. queued (stay same.0 none)) (subst (λ s. 0 < set.len s.used) sleepers asleep))
+      ]
 
   -- a notice was spent: where the flag was false, a pick is out
   pub notices_exchanged : v.sleepers ≡ w.sleepers → v.tickers ≡ w.tickers → v.holder ≡ w.holder → v.picks ≡ cond (not w.flag) (w.picks + 1) w.picks → NoNoticeLost v
@@ -88,21 +112,20 @@ module _ {T : Type 0} {w v : Execution T} (law : NoNoticeLost w) where
     | inl on ↦
         let same : v.picks ≡ w.picks = picks ∙ ap (λ b. cond (not b) (w.picks + 1) w.picks) on in
         let turned : Turned v = rw (sleepers, same, tickers, holder) (law.flag_law on) in
-        record {
-          flag_law = λ _. turned;
-          covered = λ queued asleep. elim (or_cases (is_notified v.sleepers || nat_lt 0 v.picks) (holder_spends v.holder v.tickers) turned) [
-            | inl other ↦ elim (or_cases (is_notified v.sleepers) (nat_lt 0 v.picks) other) [
-              | inl notified ↦ or_left _ (is_obliged v) (some_in_use v.sleepers notified asleep)
-              | inr out ↦ picked_obliges v (ltb-true 0 v.picks out) (some_notified v.sleepers)
-            ]
-            | inr spends ↦ obliges v (holder_obliges v spends) (some_notified v.sleepers)
-          ];
-        }
+        let covers : Covers v = any_covered v (λ _ queued asleep. elim (or_cases (is_notified v.sleepers || nat_lt 0 v.picks) (holder_spends v.holder v.tickers) turned) [
+          | inl other ↦ elim (or_cases (is_notified v.sleepers) (nat_lt 0 v.picks) other) [
+            | inl notified ↦ or_left _ (is_obliged v) (some_in_use v.sleepers notified asleep)
+            | inr out ↦ picked_obliges v (ltb-true 0 v.picks out) (some_notified v.sleepers)
+          ]
+          | inr spends ↦ obliges v (holder_obliges v spends) (some_notified v.sleepers)
+        ]) in
+        record { flag_law = λ _. turned; covered = covers.0; runs_covered = covers.1 }
     | inr off ↦
         let more : v.picks ≡ w.picks + 1 = picks ∙ ap (λ b. cond (not b) (w.picks + 1) w.picks) off in
         record {
           flag_law = λ _. or_left _ (holder_spends v.holder v.tickers) (or_right (is_notified v.sleepers) _ (positive v.picks (omega arith)));
           covered = λ _ _. picked_obliges v (omega arith) (some_notified v.sleepers);
+          runs_covered = λ _ _ _. picked_obliges v (omega arith) (some_notified v.sleepers);
         }
   ]
 
@@ -111,7 +134,8 @@ module _ {T : Type 0} {w v : Execution T} (law : NoNoticeLost w) where
   notices_notified lawful sleepers =
       record {
         flag_law = λ _. or_left _ (holder_spends v.holder v.tickers) (or_left _ (nat_lt 0 v.picks) (ap is_notified sleepers ∙ notified_after));
-        covered = λ queued asleep. or_left _ (is_obliged v) (ap some_notified sleepers ∙ some_after (subst (λ s. 0 < set.len s.used) sleepers asleep));
+        covered = covers.0;
+        runs_covered = covers.1;
       }
     where
       some_after : 0 < set.len w.sleepers.used → some_notified (after_notify w.sleepers) ≡ true
@@ -132,6 +156,9 @@ module _ {T : Type 0} {w v : Execution T} (law : NoNoticeLost w) where
         | inr none ↦ or_left _ _ (eq-eqb (set.len w.sleepers.used) 0 (omega arith))
       ]
 
+      covers : Covers v
+      covers = any_covered v (λ _ queued asleep. or_left _ (is_obliged v) (ap some_notified sleepers ∙ some_after (subst (λ s. 0 < set.len s.used) sleepers asleep)))
+
 -- what a step of a ticker at this number makes of the law, piece by piece
 module _ {T : Type 0} (w v : Execution T) (law : NoNoticeLost w) (k : ℕ) (t u : Ticker) (found : slice_get w.tickers k ≡ Some t) (change : v.tickers ≡ slice_set w.tickers k u) where
   here : slice_get v.tickers k ≡ Some u
@@ -141,33 +168,55 @@ module _ {T : Type 0} (w v : Execution T) (law : NoNoticeLost w) (k : ℕ) (t u 
   kept_is = rw change (sum_by-set (λ (t : Ticker). notices_in t.phase) w.tickers k t u found)
 
   -- who has to search obliges somebody
-  pub covered_searching : has_to_search u.phase ≡ true → Covered v
-  covered_searching seeks queued asleep = searching_obliges v (rw change (any-set_true (λ (t : Ticker). has_to_search t.phase) w.tickers k t u found seeks)) (some_notified v.sleepers)
+  searching : has_to_search u.phase ≡ true → (b : Bool) → b || is_obliged v ≡ true
+  searching seeks = searching_obliges v (rw change (any-set_true (λ (t : Ticker). has_to_search t.phase) w.tickers k t u found seeks))
+
+  pub covered_searching : has_to_search u.phase ≡ true → Covers v
+  covered_searching seeks = any_covered v (λ _ queued asleep. searching seeks (some_notified v.sleepers))
 
   -- a notice is out
-  pub covered_noticed : 0 < notices_out v → Covered v
-  covered_noticed out queued asleep = noticed_obliges v out (some_notified v.sleepers)
+  pub covered_noticed : 0 < notices_out v → Covers v
+  covered_noticed out = any_covered v (λ _ queued asleep. noticed_obliges v out (some_notified v.sleepers))
 
   -- nothing is queued
-  pub covered_empty : v.global ≡ [] → Covered v
-  covered_empty none queued asleep = absurd (queued none)
+  pub covered_empty : v.global ≡ [] → all_queues v ≡ [] → Covers v
+  covered_empty none nothing = (λ queued asleep. absurd (queued none), λ runs queued asleep. absurd (queued nothing))
+
+  -- nothing is queued for a tick
+  pub covered_tick : v.global ≡ [] → is_run u ≡ false → Covers v
+  covered_tick none tick = (
+    λ queued asleep. absurd (queued none),
+    λ runs. absurd (true≢false (sym runs ∙ ap not some_tick)),
+  )
+    where
+      some_tick : list_any (λ (t : Ticker). not (is_run t)) v.tickers ≡ true
+      some_tick = rw change (any-set_true (λ (t : Ticker). not (is_run t)) w.tickers k t u found (ap not tick))
 
   -- the ticker had nothing to search, and all else is as before, or more
-  pub covered_quiet : v.global ≡ w.global → v.picks ≡ w.picks → notices_out w ≤ notices_out v → has_to_search t.phase ≡ false → set.len v.sleepers.used ≤ set.len w.sleepers.used → (some_notified w.sleepers ≡ true → some_notified v.sleepers ≡ true) → Covered v
-  covered_quiet queue picks more quiet fewer keeps queued asleep =
-      elim (or_cases (some_notified w.sleepers) (is_obliged w) (law.covered (λ none. queued (queue ∙ none)) (omega arith))) [
-        | inl notified ↦ or_left _ (is_obliged v) (keeps notified)
-        | inr obliged ↦ elim (obliged_by w obliged) [
-          | inl notice ↦ noticed_obliges v (omega arith) (some_notified v.sleepers)
-          | inr other ↦ elim other [
-            | inl pick ↦ picked_obliges v (omega arith) (some_notified v.sleepers)
-            | inr seeks ↦ elim (cases_Bool (has_to_search u.phase)) [
-              | inl now ↦ covered_searching now queued asleep
-              | inr never ↦ searching_obliges v (rw change (any-set_same (λ (t : Ticker). has_to_search t.phase) w.tickers k t u found (never ∙ sym quiet) ∙ seeks)) (some_notified v.sleepers)
+  pub covered_quiet : StayEmpty w v → u.runner ≡ t.runner → v.picks ≡ w.picks → notices_out w ≤ notices_out v → has_to_search t.phase ≡ false → set.len v.sleepers.used ≤ set.len w.sleepers.used → (some_notified w.sleepers ≡ true → some_notified v.sleepers ≡ true) → Covers v
+  covered_quiet stay runner picks more quiet fewer keeps = (
+    again w.global v.global stay.global law.covered,
+    λ runs. again (all_queues w) (all_queues v) stay.all (law.runs_covered (sym (ap not same_runs) ∙ subst (λ l. only_runs l ≡ true) change runs)),
+  )
+    where
+      same_runs : list_any (λ (t : Ticker). not (is_run t)) (slice_set w.tickers k u) ≡ list_any (λ (t : Ticker). not (is_run t)) w.tickers
+      same_runs = any-set_same (λ (t : Ticker). not (is_run t)) w.tickers k t u found (ap (λ o. not (is_some o)) runner)
+
+      again : (before after : List ℕ) → (before ≡ [] → after ≡ []) → CoversQueued before w → CoversQueued after v
+      again before after empty covers queued asleep =
+          elim (or_cases (some_notified w.sleepers) (is_obliged w) (covers (λ none. queued (empty none)) (omega arith))) [
+            | inl notified ↦ or_left _ (is_obliged v) (keeps notified)
+            | inr obliged ↦ elim (obliged_by w obliged) [
+              | inl notice ↦ noticed_obliges v (omega arith) (some_notified v.sleepers)
+              | inr other ↦ elim other [
+                | inl pick ↦ picked_obliges v (omega arith) (some_notified v.sleepers)
+                | inr seeks ↦ elim (cases_Bool (has_to_search u.phase)) [
+                  | inl now ↦ searching now (some_notified v.sleepers)
+                  | inr never ↦ searching_obliges v (rw change (any-set_same (λ (t : Ticker). has_to_search t.phase) w.tickers k t u found (never ∙ sym quiet) ∙ seeks)) (some_notified v.sleepers)
+                ]
+              ]
             ]
           ]
-        ]
-      ]
 
   -- the ticker holds the lock, and has something to spend
   pub flag_held : v.holder ≡ Some k → has_to_spend u.phase ≡ true → FlagLaw v
@@ -192,22 +241,32 @@ module _ {T : Type 0} (w v : Execution T) (law : NoNoticeLost w) (k : ℕ) (t u 
       ]
 
 -- a ticker at rest was made
-pub notices_added : {T : Type 0} (w v : Execution T) → NoNoticeLost w → v.tickers ≡ w.tickers ++ new_ticker ∷ [] → v.flag ≡ w.flag → v.picks ≡ w.picks → v.notices ≡ w.notices → v.global ≡ w.global → v.holder ≡ w.holder → v.sleepers.used ≡ w.sleepers.used → v.sleepers.unnotified ≡ w.sleepers.unnotified → NoNoticeLost v
-notices_added w v law tickers flag picks notices queue holder used unnotified =
-    let kept : kept_notices v ≡ kept_notices w = rw tickers (sum_by_push (λ (t : Ticker). notices_in t.phase) w.tickers new_ticker ∙ omega arith) in
-    let seeks : some_search v ≡ some_search w = ap (list_any (λ (t : Ticker). has_to_search t.phase)) tickers ∙ any-push (λ (t : Ticker). has_to_search t.phase) w.tickers new_ticker refl in
+pub notices_added : {T : Type 0} (w v : Execution T) (runner : Option ℕ) → NoNoticeLost w → v.tickers ≡ w.tickers ++ new_ticker runner ∷ [] → v.flag ≡ w.flag → v.picks ≡ w.picks → v.notices ≡ w.notices → v.global ≡ w.global → v.locals ≡ w.locals → v.holder ≡ w.holder → v.sleepers.used ≡ w.sleepers.used → v.sleepers.unnotified ≡ w.sleepers.unnotified → NoNoticeLost v
+notices_added {T} w v runner law tickers flag picks notices global locals holder used unnotified =
+    let kept : kept_notices v ≡ kept_notices w = rw tickers (sum_by_push (λ (t : Ticker). notices_in t.phase) w.tickers (new_ticker runner) ∙ omega arith) in
+    let seeks : some_search v ≡ some_search w = ap (list_any (λ (t : Ticker). has_to_search t.phase)) tickers ∙ any-push (λ (t : Ticker). has_to_search t.phase) w.tickers (new_ticker runner) refl in
     record {
       flag_law = λ on. rw (used, unnotified, picks, holder, tickers) (rw (by_holder w.holder) (law.flag_law (sym flag ∙ on)));
-      covered = λ queued asleep. rw (used, unnotified, notices, kept, picks, seeks) (law.covered (λ none. queued (queue ∙ none)) (subst (λ u. 0 < set.len u) used asleep));
+      covered = again kept seeks w.global v.global (λ none. global ∙ none) law.covered;
+      runs_covered = λ runs. again kept seeks (all_queues w) (all_queues v) (λ none. rw (global, locals) none) (law.runs_covered (fewer (subst (λ l. only_runs l ≡ true) tickers runs)));
     }
   where
-    by_holder : (h : Option ℕ) → holder_spends h (w.tickers ++ new_ticker ∷ []) ≡ holder_spends h w.tickers
+    again : kept_notices v ≡ kept_notices w → some_search v ≡ some_search w → (before after : List ℕ) → (before ≡ [] → after ≡ []) → CoversQueued before w → CoversQueued after v
+    again kept seeks before after empty covers queued asleep = rw (used, unnotified, notices, kept, picks, seeks) (covers (λ none. queued (empty none)) (subst (λ u. 0 < set.len u) used asleep))
+
+    fewer : only_runs (w.tickers ++ new_ticker runner ∷ []) ≡ true → only_runs w.tickers ≡ true
+    fewer runs = elim (cases_Bool (list_any (λ (t : Ticker). not (is_run t)) w.tickers)) [
+      | inl tick ↦ absurd (true≢false (sym runs ∙ ap not (list_any-append (λ (t : Ticker). not (is_run t)) w.tickers (new_ticker runner ∷ []) ∙ or_left _ _ tick)))
+      | inr none ↦ ap not none
+    ]
+
+    by_holder : (h : Option ℕ) → holder_spends h (w.tickers ++ new_ticker runner ∷ []) ≡ holder_spends h w.tickers
     by_holder None = refl
     by_holder (Some q) = elim (cases_eq q (length w.tickers)) [
       | inl same ↦
-          ap (λ j. has_to_spend (ticker_or (slice_get (w.tickers ++ new_ticker ∷ []) j)).phase) same ∙ ap (λ o. has_to_spend (ticker_or o).phase) (get-push_last w.tickers new_ticker)
+          ap (λ j. has_to_spend (ticker_or (slice_get (w.tickers ++ new_ticker runner ∷ []) j)).phase) same ∙ ap (λ o. has_to_spend (ticker_or o).phase) (get-push_last w.tickers (new_ticker runner))
           ∙ sym (ap (λ j. has_to_spend (ticker_or (slice_get w.tickers j)).phase) same ∙ ap (λ o. has_to_spend (ticker_or o).phase) (get_past w.tickers))
-      | inr far ↦ ap (λ o. has_to_spend (ticker_or o).phase) (get-push_other w.tickers new_ticker q far)
+      | inr far ↦ ap (λ o. has_to_spend (ticker_or o).phase) (get-push_other w.tickers (new_ticker runner) q far)
     ]
 
 -- nobody sleeps before the first step
@@ -217,4 +276,5 @@ notices_opening w nobody =
     record {
       flag_law = λ _. or_left _ (holder_spends w.holder w.tickers) (or_left _ (nat_lt 0 w.picks) (or_left _ _ (eq-eqb (set.len w.sleepers.used) 0 unused)));
       covered = λ _ asleep. absurd (omega arith);
+      runs_covered = λ _ _ asleep. absurd (omega arith);
     }

@@ -7,8 +7,10 @@ use Rattle.std.specs.FinMap as map
 use Rattle.std.specs.Vec.{vec_capacity}
 use Rattle.executor_core.specs.Cells.{Slotted, Table}
 use Rattle.executor_core.specs.Cell.{is_held}
-use Rattle.executor_core.specs.Cells.Calls.{cell_at, cancelled_in, woken_in, takes_back_in, with_cell, without_cell, queued_if, IsTaken, TakesFront, after_take, take_first, with_taken_at, after_end_pending, end_pending_at, after_end_ready, end_ready_at, ready_answer, after_end_dropped, end_dropped_at, dropped_answer}
+use Rattle.executor_core.specs.Cells.Calls.{cell_at, cancelled_in, woken_in, takes_back_in, with_cell, without_cell, queued_if, IsTaken, TakesFront, after_take, take_first, with_taken, with_taken_at, with_queues, after_end_pending, end_pending_at, after_end_ready, end_ready_at, ready_answer, after_end_dropped, end_dropped_at, dropped_answer}
 use Rattle.executor_core.specs.Cell.Changes.{taken, takes_back, pended, wakeup_of}
+use Rattle.executor_core.specs.Queues.{QueueLists}
+use Rattle.executor_core.specs.Ring.{IdRing}
 use Rattle.executor_core.specs.World.{Execution}
 use Rattle.executor_core.specs.World.Entries.{infos, is_out, is_unpolled, is_unpolled_future, PolledAgrees, out_entry}
 use Rattle.executor_core.specs.World.Log.{unfollowed, is_cancel, is_take, cancelled, held, woken}
@@ -20,6 +22,7 @@ use Rattle.executor_core.proofs.BoolLemmas.{not-not, or-without_last}
 use Rattle.executor_core.proofs.ListLemmas.{within_get, get_within, length-push, length-slice_set, set-here, set_again}
 use Rattle.executor_core.proofs.World.Entries.{infos-set, entry_of, info_at}
 use Rattle.executor_core.proofs.World.Room.{length-push_if}
+use Rattle.executor_core.proofs.World.Runners.{runner_part}
 use Rattle.executor_core.proofs.World.Steps.{stepped, Done, stepped_sound}
 use Rattle.executor_core.proofs.World.Log.{on_poll, on_take, on_return, on_drop, on_finish, order-push, status_other}
 use Rattle.executor_core.proofs.World.Agreement.{id_of, out_is, held_by_state, state_agrees, CellAt, held_cell, agreed_at, LogChange, log_same, log_pushed, entry_set, cell_put, cell_removed, cell_same, agree_again}
@@ -63,30 +66,30 @@ wakeup_some None = refl
 wakeup_some (Some w) = refl
 
 module _ {P T : Type 0} {table : Table P T (Unit {0})} {log : List (Event T)} {entries : List (TaskEntry P)} (agree : Agree table log entries) (n : ℕ) (e : TaskEntry P) (found : slice_get entries n ≡ Some e) where
-  -- the front of the queue is taken
-  module _ (rest : List ℕ) (slotted : Slotted P T (Unit {0})) (p : P) (front : table.global ≡ n ∷ rest) (here : map.get table.cells n ≡ Some slotted) (state : slotted.cell.state ≡ Scheduled p) where
-    took_is : after_take table ≡ record table { cells = map.insert table.cells n (record { slot = slotted.slot; cell = taken slotted.cell }); global = rest }
-    took_is = ap (take_first table) front ∙ ap (λ (o : Option (Slotted P T (Unit {0}))). record (with_taken_at table n o) { global = rest }) here
+  -- a task is taken out of a queue, and the queues are these then
+  module _ (q : QueueLists ℕ) (slotted : Slotted P T (Unit {0})) (p : P) (here : map.get table.cells n ≡ Some slotted) (state : slotted.cell.state ≡ Scheduled p) where
+    abbrev taken_out : Table P T (Unit {0})
+    taken_out = with_queues q (with_taken table n)
 
-    pub rest_front : (after_take table).global ≡ rest
-    rest_front = ap (λ s. s.global) took_is
+    took_is : taken_out ≡ with_queues q (record table { cells = map.insert table.cells n (record { slot = slotted.slot; cell = taken slotted.cell }) })
+    took_is = ap (λ (o : Option (Slotted P T (Unit {0}))). with_queues q (with_taken_at table n o)) here
 
     pub cancelled_front : slotted.cell.cancelled ≡ cancelled n log
     cancelled_front = (agreed_at agree n e found (Some slotted) here).cancelled
 
     took_for : (purpose : Purpose) (b : Bool) (s : Status T) → status n (log ++ Took n purpose ∷ []) ≡ s → slotted.cell.cancelled ≡ s.cancelled → IsUndropped s true → s.taken ≡ true → s.woken ≡ false → FewPollsFor s → MayFollow log (Took n purpose)
-        → Agree (after_take table) (log ++ Took n purpose ∷ []) (slice_set entries n (record { info = record e.info { to_drop = b }; out = Some (Unpolled p) }))
+        → Agree (taken_out) (log ++ Took n purpose ∷ []) (slice_set entries n (record { info = record e.info { to_drop = b }; out = Some (Unpolled p) }))
     took_for purpose b s on cancel state took woke few follows =
         let h = agreed_at agree n e found (Some slotted) here in
         agree_again agree
-        (cell_put table (after_take table) n (record { slot = slotted.slot; cell = taken slotted.cell }) (ap (λ s. s.next) took_is) (ap (λ s. s.cells) took_is))
+        (cell_put table (taken_out) n (record { slot = slotted.slot; cell = taken slotted.cell }) (ap (λ s. s.next) took_is) (ap (λ s. s.cells) took_is))
         (log_pushed log n (Took n purpose) s refl on)
         (entry_set entries n e _ found)
         (record { slot = h.slot; has_handle = h.has_handle; awaited = h.awaited; cancelled = cancel; state = (state, took, woke); out = sym state.held; polled = tt })
         few
         (order-push log (Took n purpose) agree.order follows)
 
-    pub take_holds : (b : Bool) → slotted.cell.cancelled ≡ b → Agree (after_take table) (log ++ Took n (purpose_of b) ∷ []) (slice_set entries n (record { info = record e.info { to_drop = b }; out = Some (Unpolled p) }))
+    pub take_holds : (b : Bool) → slotted.cell.cancelled ≡ b → Agree (taken_out) (log ++ Took n (purpose_of b) ∷ []) (slice_set entries n (record { info = record e.info { to_drop = b }; out = Some (Unpolled p) }))
     take_holds false fresh =
         let h = agreed_at agree n e found (Some slotted) here in
         let alive = state_agrees slotted (status n log) e (Scheduled p) state h in
@@ -137,6 +140,7 @@ module _ {P T : Type 0} {table : Table P T (Unit {0})} {log : List (Event T)} {e
       pub cancelled : cancelled n log ≡ false
       pub queued : woken_in (cell_at table (id_of n e.info)) ≡ woken n log
       pub global : (after_end_pending table (id_of n e.info) p).global ≡ cond (woken n log) (table.global ++ n ∷ []) table.global
+      pub runners : runner_part (after_end_pending table (id_of n e.info) p) ≡ runner_part table
 
     pended_state : (w : Bool) (p : P) (s : Status T) → s.cancelled ≡ false → s.cancelled_since ≡ false → StateAgrees {P = P} Held w s → StateAgrees (cond w (Scheduled p) (Idle p)) w (record s { held = false })
     pended_state true p s u r h = (record { spawned = h.0.spawned; dropped = h.0.dropped; held = refl; outputs = h.0.outputs; given = h.0.given }, or_left _ s.cancelled_since (or_right (not s.taken) s.woken h.2))
@@ -158,6 +162,7 @@ module _ {P T : Type 0} {table : Table P T (Unit {0})} {log : List (Event T)} {e
               (order-push log (Returned n) agree.order tt);
           cancelled = un;
           queued = ap woken_in the_cell.cell ∙ sym alive.2;
+          runners = ap runner_part ended;
           global = ap (λ x. x.global) ended ∙ ap (λ b. cond b (table.global ++ n ∷ []) table.global) (sym alive.2);
         }
 
@@ -181,6 +186,7 @@ module _ {P T : Type 0} {table : Table P T (Unit {0})} {log : List (Event T)} {e
     pub record Ended (later : Table P T (Unit {0})) (more : List (Event T)) : Type 0 where
       pub holds : Agree later more (slice_set entries n (record { info = record e.info { awaited = false }; out = None }))
       pub global : later.global ≡ table.global
+      pub runners : runner_part later ≡ runner_part table
 
     -- the cell ends in this state, where the handle is there, and else is gone
     ended : (s : Status T) (st : CellState P T) {later : Table P T (Unit {0})} {more : List (Event T)}
@@ -196,6 +202,7 @@ module _ {P T : Type 0} {table : Table P T (Unit {0})} {log : List (Event T)} {e
                 holds = agree_again agree (cell_put table later n (record { slot = e.info.slot; cell = record c { state = st; awaiter = None } }) (ap (λ x. x.next) put) (ap (λ x. x.cells) put)) log_change (entry_set entries n e _ found)
                     (record { slot = refl; has_handle = h.has_handle; awaited = refl; cancelled = h.cancelled ∙ sym cancel; state = state; out = sym hold; polled = tt }) few order;
                 global = ap (λ x. x.global) put;
+                runners = ap runner_part put;
               }
           | inr gone ↦
               let removed : later ≡ without_cell table (id_of n e.info) = is ∙ cond-false c.has_handle _ _ gone in
@@ -203,6 +210,7 @@ module _ {P T : Type 0} {table : Table P T (Unit {0})} {log : List (Event T)} {e
                 holds = agree_again agree (cell_removed table later n (ap (λ x. x.next) removed) (ap (λ x. x.cells) removed)) log_change (entry_set entries n e _ found)
                     (record { spawned = spawn; dropped = drop; held = hold; has_handle = sym h.has_handle ∙ gone; out = sym hold }) few order;
                 global = ap (λ x. x.global) removed;
+                runners = ap runner_part removed;
               }
         ]
 
@@ -244,7 +252,7 @@ module _ {P T : Type 0} {table : Table P T (Unit {0})} {log : List (Event T)} {e
     gone_awaiter_is = ap (λ o. is_some (dropped_answer o)) the_cell.cell ∙ ap is_some (cond-true (is_held the_cell.slotted.cell.state) (wakeup_of the_cell.slotted.cell.awaiter) None cell_held) ∙ wakeup_some the_cell.slotted.cell.awaiter ∙ the_cell.agrees.awaited
 
 -- where a poll of the task may end, its future was not polled
-pub unpolled_now : {P T : Type 0} (a : Inside P T) → IsWorld (execution_of a) a.core.cells a.entries.items (vec_capacity a.log) → {w : Execution T} → execution_of a ≡ w → (n : ℕ) → (held n w.log && not (info n w).to_drop) ≡ true → is_unpolled (slice_get a.entries.items n) ≡ true
+pub unpolled_now : {P T : Type 0} (a : Inside P T) → IsWorld (execution_of a) a.core.cells a.entries.items a.rings.items (vec_capacity a.log) → {w : Execution T} → execution_of a ≡ w → (n : ℕ) → (held n w.log && not (info n w).to_drop) ≡ true → is_unpolled (slice_get a.entries.items n) ≡ true
 unpolled_now {P} a sound view n enabled =
     let parts = and_parts (held n a.log.items) (not (info n (execution_of a)).to_drop) (ap (λ w. held n w.log && not (info n w).to_drop) view ∙ enabled) in
     by_entry (slice_get a.entries.items n) refl (out_is sound.agree n ∙ parts.0) parts.0 (not-true _ parts.1)
@@ -254,7 +262,7 @@ unpolled_now {P} a sound view n enabled =
     by_entry (Some e) found out now fresh = unpolled_there sound.agree n e found now (sym (ap (λ o. (info_or o).to_drop) (info_at a.entries.items n e found)) ∙ fresh)
 
 -- a taken task is one of the tasks
-pub taken_within : {P T : Type 0} {table : Table P T (Unit {0})} {w : Execution T} {entries : List (TaskEntry P)} {room : ℕ} → IsWorld w table entries room → {task : Taken P} → IsTaken table task → task.id.number < length entries
+pub taken_within : {P T : Type 0} {table : Table P T (Unit {0})} {w : Execution T} {entries : List (TaskEntry P)} {rings : List (Option IdRing)} {room : ℕ} → IsWorld w table entries rings room → {task : Taken P} → IsTaken table task → task.id.number < length entries
 taken_within {P} {T} {table} {w} {entries} sound {task} taken = by_entry (slice_get entries task.id.number) refl (sound.agree.each task.id.number)
   where
     by_entry : (o : Option (TaskEntry P)) → slice_get entries task.id.number ≡ o → NumberAgrees (map.get table.cells task.id.number) (status task.id.number w.log) (slice_get entries task.id.number) → task.id.number < length entries
@@ -265,69 +273,80 @@ taken_within {P} {T} {table} {w} {entries} sound {task} taken = by_entry (slice_
 pub cells_alone : {P T : Type 0} (core later : Core P T (Unit {0})) (table : Table P T (Unit {0})) → later ≡ record core { cells = table } → later ≡ record core { cells = later.cells }
 cells_alone core later table is = is ∙ ap (λ t. record core { cells = t }) (sym (ap (λ c. c.cells) is))
 
-module _ {P T : Type 0} (a : Inside P T) (sound : IsWorld (execution_of a) a.core.cells a.entries.items (vec_capacity a.log)) {w : Execution T} (view : execution_of a ≡ w) (far : w.accepted ≢ w.limit) where
+module _ {P T : Type 0} (a : Inside P T) (sound : IsWorld (execution_of a) a.core.cells a.entries.items a.rings.items (vec_capacity a.log)) {w : Execution T} (view : execution_of a ≡ w) (far : w.accepted ≢ w.limit) where
   -- there was no task to take
-  pub take_none : {core : Core P T (Unit {0})} → a.core.cells.global ≡ [] → core ≡ record a.core { cells = after_take a.core.cells } → Done (stepped a (a.accepted + 1) core a.log.items a.entries.items a.notices a.picks) core.cells a.entries.items (vec_capacity a.log) (take_row w.global w) NoTask
+  pub take_none : {core : Core P T (Unit {0})} → a.core.cells.global ≡ [] → core ≡ record a.core { cells = after_take a.core.cells } → Done (stepped a (a.accepted + 1) core a.log.items a.entries.items a.notices a.picks) core.cells a.entries.items a.rings.items (vec_capacity a.log) (take_row w.global w) NoTask
   take_none {core} none core_is =
       let same : core ≡ a.core = core_is ∙ ap (λ (t : Table P T (Unit {0})). record a.core { cells = t }) (ap (take_first a.core.cells) none) in
       let far = rw (← view) at far in
       rw (← view, same) (record {
-        sound = stepped_sound a sound refl far false _ _ _ (λ _. refl) (omega arith) (omega arith) sound.agree;
+        sound = stepped_sound a sound refl far false _ _ _ (λ _. refl) refl (omega arith) (omega arith) sound.agree;
         does = by_row a.core.cells.global none;
       })
     where
       by_row : (queue : List ℕ) → queue ≡ [] → row (take_row queue (execution_of a)) NoTask (record (execution_of a) { accepted = a.accepted + 1 })
       by_row queue is = rw is (refl, refl)
 
-  -- the front of the queue was taken, and its future put out
-  pub record TookFront (table : Table P T (Unit {0})) (n : ℕ) (cancel : Bool) (entries : List (TaskEntry P)) (log : List (Event T)) : Type 0 where
+  -- a task was taken out of a queue, and its future put out
+  pub record TookTask (table : Table P T (Unit {0})) (n : ℕ) (cancel : Bool) (entries : List (TaskEntry P)) (log : List (Event T)) : Type 0 where
     pub agree : Agree table log entries
-    pub front : a.core.cells.global ≡ n ∷ table.global
     pub cancelled : cancelled n a.log.items ≡ cancel
-    pub world : record (execution_of a) { log = log; global = table.global; tasks = infos entries } ≡ taking n table.global (execution_of a)
+    pub world : record (execution_of a) { log = log; tasks = infos entries } ≡ taking n a.core.cells.global (execution_of a)
     pub tasks : length entries ≡ length a.entries.items
     pub events : length log ≡ length a.log.items + 1
 
-  pub took_front : {task : Taken P} {table : Table P T (Unit {0})} → TakesFront a.core.cells table.global task → table ≡ after_take a.core.cells
+  pub took_task : {task : Taken P} {table : Table P T (Unit {0})} (q : QueueLists ℕ) → IsTaken a.core.cells task → table ≡ with_queues q (with_taken a.core.cells task.id.number)
       → {entries : List (TaskEntry P)} → ((e : TaskEntry P) → slice_get a.entries.items task.id.number ≡ Some e → entries ≡ slice_set a.entries.items task.id.number (out_entry e task))
-      → {log : List (Event T)} → log ≡ a.log.items ++ Took task.id.number (purpose_of task.cancelled) ∷ [] → TookFront table task.id.number task.cancelled entries log
-  took_front {task} {table} takes table_is {entries} entries_are log_is =
+      → {log : List (Event T)} → log ≡ a.log.items ++ Took task.id.number (purpose_of task.cancelled) ∷ [] → TookTask table task.id.number task.cancelled entries log
+  took_task {task} {table} q takes table_is {entries} entries_are log_is =
       let n = task.id.number in
-      let at = get_within a.entries.items n (taken_within sound takes.taken) in
+      let at = get_within a.entries.items n (taken_within sound takes) in
       let e : TaskEntry P = at.0 in
-      let cell : Slotted P T (Unit {0}) = record { slot = task.id.slot; cell = takes.taken.cell } in
-      let cancel : cancelled n a.log.items ≡ task.cancelled = sym (cancelled_front sound.agree n e at.1 table.global cell task.future takes.front takes.taken.found takes.taken.future) ∙ sym takes.taken.cancelled in
-      let holds = take_holds sound.agree n e at.1 table.global cell task.future takes.front takes.taken.found takes.taken.future task.cancelled (sym takes.taken.cancelled) in
+      let cell : Slotted P T (Unit {0}) = record { slot = task.id.slot; cell = takes.cell } in
+      let cancel : cancelled n a.log.items ≡ task.cancelled = sym (cancelled_front sound.agree n e at.1 q cell task.future takes.found takes.future) ∙ sym takes.cancelled in
+      let holds = take_holds sound.agree n e at.1 q cell task.future takes.found takes.future task.cancelled (sym takes.cancelled) in
       let are = entries_are e at.1 in
       record {
         agree = rw (table_is, are, log_is) holds;
-        front = takes.front;
         cancelled = cancel;
         world = rw (are, log_is, infos-set a.entries.items n (out_entry e task), info_at a.entries.items n e at.1, cancel) refl;
         tasks = ap length are ∙ length-slice_set a.entries.items n (out_entry e task);
         events = ap length log_is ∙ length-push a.log.items (Took n (purpose_of task.cancelled));
       }
 
-  -- trytick took it
-  pub take_done : {n : ℕ} {cancel : Bool} {core : Core P T (Unit {0})} {entries : List (TaskEntry P)} {log : List (Event T)} → TookFront core.cells n cancel entries log → core ≡ record a.core { cells = after_take a.core.cells }
-      → {notices : ℕ} → notices ≡ a.notices + 1 → {room : ℕ} → room ≡ vec_capacity a.log → {answer : Reply T} → answer ≡ take_reply n cancel
-      → Done (stepped a (a.accepted + 1) core log entries notices a.picks) core.cells entries room (take_row w.global w) answer
-  take_done {n} {cancel} {core} {entries} {log} took core_is more capacity answers =
+  -- a take leaves the runners as they are
+  pub taken_runners : (table : Table P T (Unit {0})) (n : ℕ) → runner_part (with_taken table n) ≡ runner_part table
+  taken_runners table n = by_cell (map.get table.cells n)
+    where
+      by_cell : (o : Option (Slotted P T (Unit {0}))) → runner_part (with_taken_at table n o) ≡ runner_part table
+      by_cell None = refl
+      by_cell (Some s) = refl
+
+  -- trytick took the front
+  pub take_done : {task : Taken P} {core : Core P T (Unit {0})} → TakesFront a.core.cells core.cells.global task → core ≡ record a.core { cells = after_take a.core.cells }
+      → {entries : List (TaskEntry P)} → ((e : TaskEntry P) → slice_get a.entries.items task.id.number ≡ Some e → entries ≡ slice_set a.entries.items task.id.number (out_entry e task))
+      → {log : List (Event T)} → log ≡ a.log.items ++ Took task.id.number (purpose_of task.cancelled) ∷ []
+      → {notices : ℕ} → notices ≡ a.notices + 1 → {room : ℕ} → room ≡ vec_capacity a.log → {answer : Reply T} → answer ≡ take_reply task.id.number task.cancelled
+      → Done (stepped a (a.accepted + 1) core log entries notices a.picks) core.cells entries a.rings.items room (take_row w.global w) answer
+  take_done {task} {core} takes core_is {entries} entries_are {log} log_is more capacity answers =
+      let n = task.id.number in
       let far = rw (← view) at far in
-      let does = by_row a.core.cells.global took.front in
+      let cells_are : core.cells ≡ record (with_taken a.core.cells n) { global = core.cells.global } = ap (λ c. c.cells) core_is ∙ ap (take_first a.core.cells) takes.front in
+      let runners : runner_part core.cells ≡ runner_part a.core.cells = ap runner_part cells_are ∙ taken_runners a.core.cells n in
+      let took = took_task (record { global = core.cells.global; locals = (with_taken a.core.cells n).locals }) takes.taken cells_are entries_are log_is in
       let tasks = took.tasks in
       let events = took.events in
       let same = cells_alone a.core core (after_take a.core.cells) core_is in
       rw (← view, same, more, capacity, answers) (record {
-        sound = stepped_sound a sound refl far true core.cells log entries (λ never. absurd (cc)) (omega arith) (omega arith) took.agree;
-        does = does;
+        sound = stepped_sound a sound refl far true core.cells log entries (λ never. absurd (cc)) runners (omega arith) (omega arith) took.agree;
+        does = by_row a.core.cells.global takes.front took.cancelled took.world (ap (λ p. p.0) runners);
       })
     where
-      by_row : (queue : List ℕ) → queue ≡ n ∷ core.cells.global
-          → row (take_row queue (execution_of a)) (take_reply n cancel) (record (execution_of a) { log = log; accepted = a.accepted + 1; global = core.cells.global; notices = a.notices + 1; tasks = infos entries })
-      by_row queue front = rw front (ap (take_reply n) (sym took.cancelled), ap (λ (x : Execution T). counted (noticed x)) took.world)
+      by_row : (queue : List ℕ) → queue ≡ task.id.number ∷ core.cells.global → cancelled task.id.number a.log.items ≡ task.cancelled → record (execution_of a) { log = log; tasks = infos entries } ≡ taking task.id.number a.core.cells.global (execution_of a) → core.cells.locals ≡ a.core.cells.locals
+          → row (take_row queue (execution_of a)) (take_reply task.id.number task.cancelled) (record (execution_of a) { log = log; accepted = a.accepted + 1; global = core.cells.global; locals = core.cells.locals; notices = a.notices + 1; tasks = infos entries })
+      by_row queue front cancel world locals = rw (front, locals) (ap (take_reply task.id.number) (sym cancel), ap (λ (x : Execution T). counted (noticed (record x { global = core.cells.global }))) world)
 
-module _ {P T : Type 0} (a : Inside P T) (sound : IsWorld (execution_of a) a.core.cells a.entries.items (vec_capacity a.log)) {w : Execution T} (view : execution_of a ≡ w) (far : w.accepted ≢ w.limit) (n : ℕ) {i : TaskInfo} (found : slice_get (infos a.entries.items) n ≡ Some i) where
+module _ {P T : Type 0} (a : Inside P T) (sound : IsWorld (execution_of a) a.core.cells a.entries.items a.rings.items (vec_capacity a.log)) {w : Execution T} (view : execution_of a ≡ w) (far : w.accepted ≢ w.limit) (n : ℕ) {i : TaskInfo} (found : slice_get (infos a.entries.items) n ≡ Some i) where
   module _ (b : Bool) (enabled : held n w.log && b ≡ true) where
     is_held_now : held n a.log.items ≡ true
     is_held_now = (and_parts (held n a.log.items) b (ap (λ w. held n w.log && b) view ∙ enabled)).0
@@ -336,27 +355,27 @@ module _ {P T : Type 0} (a : Inside P T) (sound : IsWorld (execution_of a) a.cor
       -- the future went back
       pub pend_done : {id : TaskId} → id ≡ id_of n i → {core : Core P T (Unit {0})} (p : P) → core ≡ record a.core { cells = after_end_pending a.core.cells id p } → takes_back_in (cell_at a.core.cells id) ≡ true → {queues : Bool} → queues ≡ woken_in (cell_at a.core.cells id)
           → {entries : List (TaskEntry P)} → entries ≡ slice_set a.entries.items n (record { info = i; out = None }) → {log : List (Event T)} → log ≡ a.log.items ++ Returned n ∷ [] → {notices : ℕ} → notices ≡ cond queues (a.notices + 1) a.notices → {kept : Bool} → kept ≡ queues → answer ≡ return_reply n kept
-          → Done (stepped a accepted core log entries notices a.picks) core.cells entries room (pend_row n w) answer
+          → Done (stepped a accepted core log entries notices a.picks) core.cells entries a.rings.items room (pend_row n w) answer
       pend_done same p core_is ours queues_is entries_is log_is noticed keeps answers =
           let step = pend_holds sound.agree n _ (entry_of _ n i found).1 is_held_now p (ap (λ id. takes_back_in (cell_at a.core.cells id)) (sym same) ∙ ours) in
           let queued = queues_is ∙ ap (λ id. woken_in (cell_at a.core.cells id)) same ∙ step.queued in
           let far = rw (← view) at far in
           rw (← view, counted, core_is, entries_is, log_is, noticed, answers, keeps, capacity, same, queued) (record {
-            sound = stepped_sound a sound refl far (woken n a.log.items) _ _ _ (λ never. step.global ∙ cond-false (woken n a.log.items) _ _ never) (let long = length-slice_set a.entries.items n (record { info = i; out = None }) in omega arith) (let long = length-push a.log.items (Returned n) in omega arith) step.holds;
-            does = rw (infos-set a.entries.items n (record { info = i; out = None }), set-here (infos a.entries.items) n i found, step.global, step.cancelled) (refl, refl);
+            sound = stepped_sound a sound refl far (woken n a.log.items) _ _ _ (λ never. step.global ∙ cond-false (woken n a.log.items) _ _ never) step.runners (let long = length-slice_set a.entries.items n (record { info = i; out = None }) in omega arith) (let long = length-push a.log.items (Returned n) in omega arith) step.holds;
+            does = rw (infos-set a.entries.items n (record { info = i; out = None }), set-here (infos a.entries.items) n i found, step.global, ap (λ p. p.0) step.runners, step.cancelled) (refl, refl);
           })
 
       -- the task was cancelled, and its future stays out to be dropped
       pub pend_dropped : {id : TaskId} → id ≡ id_of n i → {core : Core P T (Unit {0})} (p : P) → core ≡ record a.core { cells = after_end_pending a.core.cells id p } → takes_back_in (cell_at a.core.cells id) ≡ false
           → {middle entries : List (TaskEntry P)} (q : P) {j : TaskInfo} → middle ≡ slice_set a.entries.items n (record { info = i; out = None }) → entries ≡ slice_set middle n (record { info = j; out = Some (Polled q) }) → j ≡ record i { to_drop = true } → answer ≡ Drop n
-          → Done (stepped a accepted core a.log.items entries a.notices a.picks) core.cells entries room (pend_row n w) answer
+          → Done (stepped a accepted core a.log.items entries a.notices a.picks) core.cells entries a.rings.items room (pend_row n w) answer
       pend_dropped same p core_is ours {entries = entries} q {j = j} middle_is entries_is info_is answers =
           let e : TaskEntry P = record { info = record i { to_drop = true }; out = Some (Polled q) } in
           let step = pend_stays sound.agree n _ (entry_of _ n i found).1 is_held_now p q (ap (λ id. takes_back_in (cell_at a.core.cells id)) (sym same) ∙ ours) in
           let far = rw (← view) at far in
           let set : entries ≡ slice_set a.entries.items n e = set_again _ _ _ _ _ _ middle_is entries_is ∙ ap (λ (j : TaskInfo). slice_set a.entries.items n (record { info = j; out = Some (Polled q) })) info_is in
           rw (← view, counted, core_is, set, answers, capacity, same, step.same) (record {
-            sound = stepped_sound a sound refl far false _ _ _ (λ _. refl) (let long = length-slice_set a.entries.items n e in omega arith) (omega arith) step.holds;
+            sound = stepped_sound a sound refl far false _ _ _ (λ _. refl) refl (let long = length-slice_set a.entries.items n e in omega arith) (omega arith) step.holds;
             does = rw (infos-set a.entries.items n e, step.cancelled, found) (refl, refl);
           })
 
@@ -364,7 +383,7 @@ module _ {P T : Type 0} (a : Inside P T) (sound : IsWorld (execution_of a) a.cor
       pub ready_done : {id : TaskId} → id ≡ id_of n i → {held_task : HeldTask} {output t : T} → ◌≡◌ {A = HeldTask × T} (held_task, output) (record { id = id; to_drop = false }, t) → {core : Core P T (Unit {0})} → core ≡ record a.core { cells = after_end_ready a.core.cells held_task.id output } → {ended : EndReady T (Unit {0})} → ended ≡ ready_answer output (cell_at a.core.cells held_task.id)
           → {cancel : Bool} → cancel ≡ cancelled_in (cell_at a.core.cells id) → {j : TaskInfo} → j ≡ record i { awaited = false } → {entries : List (TaskEntry P)} → entries ≡ slice_set a.entries.items n (record { info = j; out = None })
           → {log more : List (Event T)} → log ≡ cond (not cancel) (a.log.items ++ Finish n output ∷ []) a.log.items → more ≡ log ++ Dropped n ∷ [] → answer ≡ ready_reply (is_some ended.awaiter) ended.unwanted
-          → Done (stepped a accepted core more entries a.notices a.picks) core.cells entries room (ready_row n t w) answer
+          → Done (stepped a accepted core more entries a.notices a.picks) core.cells entries a.rings.items room (ready_row n t w) answer
       ready_done same {t = t} handed core_is ended_is cancel_is info_is entries_is log_is more_is answers =
           let e : TaskEntry P = record { info = record i { awaited = false }; out = None } in
           let at = (entry_of _ n i found).1 in
@@ -374,14 +393,14 @@ module _ {P T : Type 0} (a : Inside P T) (sound : IsWorld (execution_of a) a.cor
           let gave = ap (λ p. p.1) handed in
           let cancel = cancel_is ∙ ap (λ id. cancelled_in (cell_at a.core.cells id)) same ∙ cancelled_is sound.agree n _ at is_held_now in
           rw (← view, counted, core_is, entries_is, info_is, answers, ended_is, more_is, log_is, cancel, capacity, ours, gave, awaiter_is sound.agree n _ at is_held_now t, unwanted_is sound.agree n _ at is_held_now t) (record {
-            sound = stepped_sound a sound refl far false _ _ _ (λ _. step.global) (let long = length-slice_set a.entries.items n e in omega arith) (let first = length-push_if (not (cancelled n a.log.items)) a.log.items (Finish n t) in let long = length-push (cond (not (cancelled n a.log.items)) (a.log.items ++ Finish n t ∷ []) a.log.items) (Dropped n) in omega arith) step.holds;
-            does = rw (infos-set a.entries.items n e, step.global, found) (refl, refl);
+            sound = stepped_sound a sound refl far false _ _ _ (λ _. step.global) step.runners (let long = length-slice_set a.entries.items n e in omega arith) (let first = length-push_if (not (cancelled n a.log.items)) a.log.items (Finish n t) in let long = length-push (cond (not (cancelled n a.log.items)) (a.log.items ++ Finish n t ∷ []) a.log.items) (Dropped n) in omega arith) step.holds;
+            does = rw (infos-set a.entries.items n e, step.global, ap (λ p. p.0) step.runners, found) (refl, refl);
           })
 
       -- the future was dropped
       pub drop_done : {id : TaskId} → id ≡ id_of n i → {held_task : HeldTask} → held_task ≡ record { id = id; to_drop = true } → {core : Core P T (Unit {0})} → core ≡ record a.core { cells = after_end_dropped a.core.cells held_task.id } → {awaiter : Option (Wakeup (Unit {0}))} → awaiter ≡ dropped_answer (cell_at a.core.cells held_task.id)
           → {j : TaskInfo} → j ≡ record i { awaited = false } → {entries : List (TaskEntry P)} → entries ≡ slice_set a.entries.items n (record { info = j; out = None }) → {log : List (Event T)} → log ≡ a.log.items ++ Dropped n ∷ [] → {there : Bool} → there ≡ is_some awaiter → answer ≡ GoneReply there
-          → Done (stepped a accepted core log entries a.notices a.picks) core.cells entries room (dropped_row n w) answer
+          → Done (stepped a accepted core log entries a.notices a.picks) core.cells entries a.rings.items room (dropped_row n w) answer
       drop_done same handed core_is awaiter_is info_is entries_is log_is there_is answers =
           let e : TaskEntry P = record { info = record i { awaited = false }; out = None } in
           let at = (entry_of _ n i found).1 in
@@ -389,6 +408,6 @@ module _ {P T : Type 0} (a : Inside P T) (sound : IsWorld (execution_of a) a.cor
           let far = rw (← view) at far in
           let ours = ap (λ h. h.id) handed ∙ same in
           rw (← view, counted, core_is, entries_is, info_is, log_is, answers, there_is, awaiter_is, capacity, ours, gone_awaiter_is sound.agree n _ at is_held_now) (record {
-            sound = stepped_sound a sound refl far false _ _ _ (λ _. step.global) (let long = length-slice_set a.entries.items n e in omega arith) (let long = length-push a.log.items (Dropped n) in omega arith) step.holds;
-            does = rw (infos-set a.entries.items n e, step.global, found) (refl, refl);
+            sound = stepped_sound a sound refl far false _ _ _ (λ _. step.global) step.runners (let long = length-slice_set a.entries.items n e in omega arith) (let long = length-push a.log.items (Dropped n) in omega arith) step.holds;
+            does = rw (infos-set a.entries.items n e, step.global, ap (λ p. p.0) step.runners, found) (refl, refl);
           })

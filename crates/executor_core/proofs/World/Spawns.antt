@@ -9,6 +9,7 @@ use Rattle.executor_core.specs.Cells.{Slotted, Table}
 use Rattle.executor_core.specs.Cells.Calls.{after_spawn, IsFree, empty_table}
 use Rattle.executor_core.specs.Cell.Changes.{new_cell}
 use Rattle.executor_core.specs.Sleepers.Calls.{no_sleepers}
+use Rattle.executor_core.specs.Ring.{IdRing}
 use Rattle.executor_core.specs.SpawnError.{last_number}
 use Rattle.executor_core.specs.World.{Execution}
 use Rattle.executor_core.specs.World.Entries.{infos}
@@ -22,6 +23,7 @@ use Rattle.executor_core.proofs.World.Log.{on_spawn, order-push, status_other}
 use Rattle.executor_core.proofs.World.Entries.{infos-push, length-infos, entry_of}
 use Rattle.executor_core.proofs.World.Agreement.{number_agrees_by, cell_or_none}
 use Rattle.executor_core.proofs.World.Notices.{notices_opening}
+use Rattle.executor_core.proofs.World.Runners.{runners_opening}
 use Rattle.executor_core.specs.World.Tickers.{notices_in}
 use Rattle.executor_core.proofs.World.Steps.{stepped, stepped_sound}
 use Rattle.executor_core.proofs.World.Tickers.{tied_opening}
@@ -73,7 +75,7 @@ module _ {P T : Type 0} {table : Table P T (Unit {0})} {log : List (Event T)} {e
     | inr none ↦ absurd (cc (there, ap (λ b. not b || i.has_handle) none.agrees.dropped, none.agrees.has_handle))
   ]
 
-module _ {P T : Type 0} (a : Inside P T) (sound : IsWorld (execution_of a) a.core.cells a.entries.items (vec_capacity a.log)) {w : Execution T} (view : execution_of a ≡ w) (far : w.accepted ≢ w.limit) where
+module _ {P T : Type 0} (a : Inside P T) (sound : IsWorld (execution_of a) a.core.cells a.entries.items a.rings.items (vec_capacity a.log)) {w : Execution T} (view : execution_of a ≡ w) (far : w.accepted ≢ w.limit) where
   -- the numbers of a world do not run out
   pub last_unreached : a.core.cells.next ≡ last_number → ⊥
   last_unreached is =
@@ -86,30 +88,32 @@ module _ {P T : Type 0} (a : Inside P T) (sound : IsWorld (execution_of a) a.cor
 
   -- memory was refused, and nothing changed
   pub spawn_refused : {core : Core P T (Unit {0})} → core ≡ a.core → {entries : List (TaskEntry P)} → entries ≡ a.entries.items
-      → IsWorld (stepped a a.accepted core a.log.items entries a.notices a.picks) core.cells entries (vec_capacity a.log) × Spawns w OutOfMemory (stepped a a.accepted core a.log.items entries a.notices a.picks)
+      → IsWorld (stepped a a.accepted core a.log.items entries a.notices a.picks) core.cells entries a.rings.items (vec_capacity a.log) × Spawns w OutOfMemory (stepped a a.accepted core a.log.items entries a.notices a.picks)
   spawn_refused core_is entries_is = rw (← view, core_is, entries_is) (sound, inl (refl, refl))
 
   pub spawn_done : (slot : ℕ) (p : P) {number : ℕ} → number ≡ a.core.cells.next → IsFree a.core.cells slot → {core : Core P T (Unit {0})} → core ≡ record a.core { cells = after_spawn a.core.cells slot p } → {entry : TaskEntry P} → entry ≡ new_entry slot
       → {reserved entries : List (TaskEntry P)} → entries ≡ reserved ++ entry ∷ [] → reserved ≡ a.entries.items → {log : List (Event T)} → log ≡ a.log.items ++ Spawned number ∷ [] → {notices : ℕ} → notices ≡ a.notices + 1 → {room : ℕ} → room ≡ vec_capacity a.log
-      → IsWorld (stepped a (a.accepted + 1) core log entries notices a.picks) core.cells entries room × Spawns w (Task number) (stepped a (a.accepted + 1) core log entries notices a.picks)
+      → IsWorld (stepped a (a.accepted + 1) core log entries notices a.picks) core.cells entries a.rings.items room × Spawns w (Task number) (stepped a (a.accepted + 1) core log entries notices a.picks)
   spawn_done slot p number_is free core_is entry_is entries_is reserved_is log_is noticed capacity =
       let far = rw (← view) at far in
       rw (← view, core_is, entries_is, reserved_is, entry_is, log_is, number_is, noticed, capacity) (
-        stepped_sound a sound refl far true _ _ _ (λ never. absurd (cc)) (let long = length-push a.entries.items (new_entry slot) in omega arith) (let long = length-push a.log.items (Spawned a.core.cells.next) in omega arith) (spawn_holds sound.agree slot p),
+        stepped_sound a sound refl far true _ _ _ (λ never. absurd (cc)) refl (let long = length-push a.entries.items (new_entry slot) in omega arith) (let long = length-push a.log.items (Spawned a.core.cells.next) in omega arith) (spawn_holds sound.agree slot p),
         inr (slot, free_slot sound.agree slot free, ap Task (sound.agree.next ∙ sym (length-infos a.entries.items)), rw (infos-push a.entries.items (new_entry slot), sound.agree.next ∙ sym (length-infos a.entries.items)) refl),
       )
 
 -- before the first step
-pub opening_sound : {P T : Type 0} {w : Execution T} {table : Table P T (Unit {0})} {entries : List (TaskEntry P)} {room : ℕ} → table ≡ empty_table 0 → w.sleepers ≡ no_sleepers → w.tickers ≡ [] → w.holder ≡ None → w.log ≡ [] → w.tasks ≡ [] → w.accepted ≡ 0 → w.limit ≤ 1000000 → w.picks + w.notices ≡ 0 → room ≡ 3 * w.limit → entries ≡ [] → IsWorld w table entries room
-opening_sound {P} {T} {w} {table} {entries} cells_are nobody no_tickers free no_events no_tasks none bounded unspent capacity no_entries =
+pub opening_sound : {P T : Type 0} {w : Execution T} {table : Table P T (Unit {0})} {entries : List (TaskEntry P)} {rings : List (Option IdRing)} {room : ℕ} → table ≡ empty_table 0 → w.sleepers ≡ no_sleepers → w.tickers ≡ [] → w.holder ≡ None → w.log ≡ [] → w.tasks ≡ [] → w.accepted ≡ 0 → w.limit ≤ 1000000 → w.picks + w.notices ≡ 0 → room ≡ 3 * w.limit → entries ≡ [] → rings ≡ [] → IsWorld w table entries rings room
+opening_sound {P} {T} {w} {table} {entries} {rings} cells_are nobody no_tickers free no_events no_tasks none bounded unspent capacity no_entries no_rings =
     let tasks = ap length no_tasks in
     let events = ap length no_events in
+    let none_made = ap length no_tickers in
     let none_kept = ap (sum_by (λ (t : Ticker). notices_in t.phase)) no_tickers in
     record {
       agree = rw (cells_are, no_events, no_entries) opening_agrees;
       notices = notices_opening w nobody;
       tickers = record { tied = rw (no_tickers, nobody) tied_opening; stores = λ k. rw (no_tickers, free) refl; opened = rw (nobody, free) refl };
-      room = record { within = omega arith; bounded = bounded; few_unspent = omega arith; few_tasks = omega arith; few_events = omega arith; enough = omega arith };
+      runners = rw (no_tickers, cells_are, no_rings) runners_opening;
+      room = record { within = omega arith; bounded = bounded; few_unspent = omega arith; few_tasks = omega arith; few_events = omega arith; few_tickers = omega arith; enough = omega arith };
     }
   where
     no_split : {E : Type 0} (before : List E) (e : E) (after : List E) → [] ≡ before ++ e ∷ after → ⊥

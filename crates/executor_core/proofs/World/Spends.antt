@@ -41,9 +41,9 @@ reply_of_last : {T : Type 0} (last : Option ℕ) → sleeper_reply {T = T} (is_s
 reply_of_last None = refl
 reply_of_last (Some i) = refl
 
-module _ {P T : Type 0} (a : Inside P T) (sound : IsWorld (execution_of a) a.core.cells a.entries.items (vec_capacity a.log)) {w : Execution T} (view : execution_of a ≡ w) (far : w.accepted ≢ w.limit) where
+module _ {P T : Type 0} (a : Inside P T) (sound : IsWorld (execution_of a) a.core.cells a.entries.items a.rings.items (vec_capacity a.log)) {w : Execution T} (view : execution_of a ≡ w) (far : w.accepted ≢ w.limit) where
   pub exchange_done : 0 < floating_notices w → {core : Core P T (Unit {0})} → core ≡ record a.core { flag = true } → {picked kept : Bool} → picked ≡ not a.core.flag → {picks : ℕ} → picks ≡ cond picked (a.picks + 1) a.picks → kept ≡ picked → {answer : Reply T} → answer ≡ pick_reply kept
-      → Done (stepped a (a.accepted + 1) core a.log.items a.entries.items (a.notices - 1) picks) core.cells a.entries.items (vec_capacity a.log) (exchange_row w) answer
+      → Done (stepped a (a.accepted + 1) core a.log.items a.entries.items (a.notices - 1) picks) core.cells a.entries.items a.rings.items (vec_capacity a.log) (exchange_row w) answer
   exchange_done floats core_is picked_is picks_is keeps answers =
       let far = rw (← view) at far in
       let floats = rw (← view) at floats in
@@ -52,7 +52,8 @@ module _ {P T : Type 0} (a : Inside P T) (sound : IsWorld (execution_of a) a.cor
           agree = sound.agree;
           notices = notices_exchanged sound.notices refl refl refl refl;
           tickers = sound.tickers;
-          room = room_again sound.room refl far _ refl refl (let less = fewer (not a.core.flag) a.picks a.notices floats in omega arith) (omega arith) (omega arith);
+          runners = sound.runners;
+          room = room_again sound.room refl far _ refl refl (let less = fewer (not a.core.flag) a.picks a.notices floats in omega arith) (omega arith) (omega arith) (omega arith);
         };
         does = (refl, refl);
       })
@@ -69,7 +70,7 @@ module _ {P T : Type 0} (a : Inside P T) (sound : IsWorld (execution_of a) a.cor
 
   pub notify_done : (nat_lt 0 w.picks && not (is_some w.holder)) ≡ true → SleeperLaw a.core.sleepers → {core : Core P T (Unit {0})} → core ≡ record a.core { sleepers = after_notify a.core.sleepers } → {last : Option ℕ} → last ≡ last_of (keys_of a.core.sleepers.unnotified)
       → {wakeup : Option (Wakeup (Unit {0}))} → wakeup ≡ notify_answer a.core.sleepers → {notified : Bool} → notified ≡ is_some wakeup → {answer : Reply T} → answer ≡ sleeper_reply notified last
-      → Done (stepped a (a.accepted + 1) core a.log.items a.entries.items a.notices (a.picks - 1)) core.cells a.entries.items (vec_capacity a.log) (notify_row w) answer
+      → Done (stepped a (a.accepted + 1) core a.log.items a.entries.items a.notices (a.picks - 1)) core.cells a.entries.items a.rings.items (vec_capacity a.log) (notify_row w) answer
   notify_done out lawful core_is last_is wakeup_is notified_is answers =
       let far = rw (← view) at far in
       let out = rw (← view) at out in
@@ -80,7 +81,8 @@ module _ {P T : Type 0} (a : Inside P T) (sound : IsWorld (execution_of a) a.cor
           agree = sound.agree;
           notices = notices_notified sound.notices lawful refl;
           tickers = record { tied = tied_notified sound.tickers.tied; stores = sound.tickers.stores; opened = sound.tickers.opened };
-          room = room_again sound.room refl far _ refl refl (omega arith) (omega arith) (omega arith);
+          runners = sound.runners;
+          room = room_again sound.room refl far _ refl refl (omega arith) (omega arith) (omega arith) (omega arith);
         };
         does = (by_list (all_unnotified a.core.sleepers), refl);
       })

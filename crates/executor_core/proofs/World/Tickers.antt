@@ -8,14 +8,14 @@ use Rattle.std.specs.FinSet as set
 use Rattle.std.specs.Ordering.{nat_cmp}
 use Rattle.executor_core.specs.Numbers.{times}
 use Rattle.executor_core.specs.Sleepers.{SleeperList, SleeperLaw, has_place}
-use Rattle.executor_core.specs.Sleepers.Calls.{no_sleepers, after_notify, next_number}
+use Rattle.executor_core.specs.Sleepers.Calls.{no_sleepers, after_notify, after_reserve, after_release, next_number}
 use Rattle.executor_core.specs.World.Promises.{numbers_of, holds, NumbersTied, HolderStores}
 use Rattle.executor_core.specs.World.Tickers.{is_awake, in_wake, in_store, has_ended, gave_up, ticker_or, new_ticker}
-use Rattle.executor_core.proofs.ListLemmas.{get-set_same, get-set_other, get-push_last, get-push_other, get_past, sum_by-set, sum_by-at, count_fewer}
+use Rattle.executor_core.proofs.ListLemmas.{get-set_same, get-set_other, get-push_last, get-push_other, get_past, sum_by-set, sum_by-at, count_most, count_fewer}
 use Rattle.executor_core.proofs.SleeperNumberLemmas.{one-other}
 use Rattle.executor_core.proofs.SleeperUseLemmas.{next_fresh, insert_counts, insert_len, remove_counts, remove_len}
 use Rattle.executor_core.specs.declared.interleave.ticker.Phase.{Phase}
-use Rattle.executor_core.specs.declared.interleave.ticker.Phase.TheVariants.{Rest, Search, Sleep, Wake, Store, Ended}
+use Rattle.executor_core.specs.declared.interleave.ticker.Phase.TheVariants.{Rest, Search, Sleep, Wake, Store, Leaving, Ended}
 use Rattle.executor_core.specs.declared.interleave.ticker.Ticker.{Ticker}
 
 -- a ticker whose phase passes a test that an ended one fails was made
@@ -29,6 +29,7 @@ ended_gave_up Search is = absurd (cc)
 ended_gave_up Sleep is = absurd (cc)
 ended_gave_up Wake is = absurd (cc)
 ended_gave_up (Store change) is = absurd (cc)
+ended_gave_up Leaving is = absurd (cc)
 ended_gave_up Ended is = refl
 
 numbers-set : (tickers : List Ticker) (k : ℕ) (u : Ticker) → numbers_of (slice_set tickers k u) ≡ slice_set (numbers_of tickers) k u.number
@@ -77,6 +78,23 @@ module _ (tickers : List Ticker) (k : ℕ) (t u : Ticker) (found : slice_get tic
 abbrev one : Bool → ℕ
 one b = cond b 1 0
 
+module _ {W : Type 0} {tickers : List Ticker} {s : SleeperList W} (tied : NumbersTied tickers s) where
+  -- a ticker that has a number has a place
+  sleeps_placed : (j : ℕ) (x : Ticker) → slice_get tickers j ≡ Some x → not (is_awake x) ≡ true → not (has_ended x.phase) ≡ true
+  sleeps_placed j x is asleep = elim (cases_Bool (has_ended x.phase)) [
+    | inl gone ↦ absurd (false≢true (sym (ap not (eq-eqb x.number 0 (tied.awake j x is (ended_gave_up x.phase gone)))) ∙ asleep))
+    | inr going ↦ ap not going
+  ]
+
+  -- a place more is free, and given back
+  pub reserve_release : after_release (after_reserve s) ≡ s
+  reserve_release =
+      let most = count_most (λ (t : Ticker). not (is_awake t)) (λ (t : Ticker). not (has_ended t.phase)) tickers sleeps_placed in
+      let sleeping = tied.sleeping in
+      let places = tied.places in
+      let same : s.places + 1 - 1 ≡ s.places = omega arith in
+      rw (lt-ltb (set.len s.used) (s.places + 1) (omega arith), same) refl
+
 module _ {W : Type 0} {tickers : List Ticker} {s : SleeperList W} (tied : NumbersTied tickers s) (k : ℕ) (t : Ticker) (found : slice_get tickers k ≡ Some t) where
   -- what has to hold of the change at one ticker
   record TiedChange (u : Ticker) (later : SleeperList W) : Type 0 where
@@ -118,16 +136,10 @@ module _ {W : Type 0} {tickers : List Ticker} {s : SleeperList W} (tied : Number
   -- a ticker that has not ended has a place, which is free where it is awake
   pub has_free : is_awake t ≡ true → has_ended t.phase ≡ false → set.len s.used < s.places
   has_free up going =
-      let fewer = count_fewer (λ (t : Ticker). not (is_awake t)) (λ (t : Ticker). not (has_ended t.phase)) tickers sleeps_placed k t found (ap not up) (ap not going) in
+      let fewer = count_fewer (λ (t : Ticker). not (is_awake t)) (λ (t : Ticker). not (has_ended t.phase)) tickers (sleeps_placed tied) k t found (ap not up) (ap not going) in
       let a = tied.sleeping in
       let b = tied.places in
       omega arith
-    where
-      sleeps_placed : (j : ℕ) (x : Ticker) → slice_get tickers j ≡ Some x → not (is_awake x) ≡ true → not (has_ended x.phase) ≡ true
-      sleeps_placed j x is asleep = elim (cases_Bool (has_ended x.phase)) [
-        | inl gone ↦ absurd (false≢true (sym (ap not (eq-eqb x.number 0 (tied.awake j x is (ended_gave_up x.phase gone)))) ∙ asleep))
-        | inr going ↦ ap not going
-      ]
 
   pub place_free : is_awake t ≡ true → has_ended t.phase ≡ false → has_place s ≡ true
   place_free up going = lt-ltb _ _ (has_free up going)
@@ -203,34 +215,34 @@ module _ {W : Type 0} {tickers : List Ticker} {s : SleeperList W} (tied : Number
       })
 
 -- a new ticker
-module _ {W : Type 0} {tickers : List Ticker} {s : SleeperList W} where
-  pub tied_added : NumbersTied tickers s → NumbersTied (tickers ++ new_ticker ∷ []) (record s { places = s.places + 1 })
+module _ {W : Type 0} {tickers : List Ticker} {s : SleeperList W} (runner : Option ℕ) where
+  pub tied_added : NumbersTied tickers s → NumbersTied (tickers ++ new_ticker runner ∷ []) (record s { places = s.places + 1 })
   tied_added tied =
       record {
         numbers = λ i more.
             let before = tied.numbers i more in
             let push = sum_by_push (λ n. one (n == i)) (numbers_of tickers) 0 in
             let other = one-other 0 i (λ is. absurd (omega arith)) in
-            let now : times i (numbers_of (tickers ++ new_ticker ∷ [])) ≡ times i (numbers_of tickers ++ 0 ∷ []) = ap (times i) (map-append (λ (t : Ticker). t.number) tickers (new_ticker ∷ [])) in
+            let now : times i (numbers_of (tickers ++ new_ticker runner ∷ [])) ≡ times i (numbers_of tickers ++ 0 ∷ []) = ap (times i) (map-append (λ (t : Ticker). t.number) tickers (new_ticker runner ∷ [])) in
             omega arith;
-        sleeping = let before = tied.sleeping in let push = sum_by_push (λ (t : Ticker). one (not (is_awake t))) tickers new_ticker in omega arith;
-        places = let before = tied.places in let push = sum_by_push (λ (t : Ticker). one (not (has_ended t.phase))) tickers new_ticker in omega arith;
+        sleeping = let before = tied.sleeping in let push = sum_by_push (λ (t : Ticker). one (not (is_awake t))) tickers (new_ticker runner) in omega arith;
+        places = let before = tied.places in let push = sum_by_push (λ (t : Ticker). one (not (has_ended t.phase))) tickers (new_ticker runner) in omega arith;
         awake = λ q t is gone. elim (cases_eq q (length tickers)) [
-          | inl same ↦ let it : new_ticker ≡ t = cc (sym (get-push_last tickers new_ticker), sym (ap (λ j. slice_get (tickers ++ new_ticker ∷ []) j) same), is) in absurd (true≢false (sym gone ∙ ap (λ (t : Ticker). gave_up t.phase) (sym it)))
-          | inr far ↦ tied.awake q t (sym (get-push_other tickers new_ticker q far) ∙ is) gone
+          | inl same ↦ let it : new_ticker runner ≡ t = cc (sym (get-push_last tickers (new_ticker runner)), sym (ap (λ j. slice_get (tickers ++ new_ticker runner ∷ []) j) same), is) in absurd (true≢false (sym gone ∙ ap (λ (t : Ticker). gave_up t.phase) (sym it)))
+          | inr far ↦ tied.awake q t (sym (get-push_other tickers (new_ticker runner) q far) ∙ is) gone
         ];
         asleep = λ q t is woken. elim (cases_eq q (length tickers)) [
-          | inl same ↦ let it : new_ticker ≡ t = cc (sym (get-push_last tickers new_ticker), sym (ap (λ j. slice_get (tickers ++ new_ticker ∷ []) j) same), is) in absurd (true≢false (sym woken ∙ ap (λ (t : Ticker). in_wake t.phase) (sym it)))
-          | inr far ↦ tied.asleep q t (sym (get-push_other tickers new_ticker q far) ∙ is) woken
+          | inl same ↦ let it : new_ticker runner ≡ t = cc (sym (get-push_last tickers (new_ticker runner)), sym (ap (λ j. slice_get (tickers ++ new_ticker runner ∷ []) j) same), is) in absurd (true≢false (sym woken ∙ ap (λ (t : Ticker). in_wake t.phase) (sym it)))
+          | inr far ↦ tied.asleep q t (sym (get-push_other tickers (new_ticker runner) q far) ∙ is) woken
         ];
       }
 
-pub stores_added : (holder : Option ℕ) (tickers : List Ticker) → HolderStores holder tickers → HolderStores holder (tickers ++ new_ticker ∷ [])
-stores_added holder tickers stores q = elim (cases_eq q (length tickers)) [
+pub stores_added : (runner holder : Option ℕ) (tickers : List Ticker) → HolderStores holder tickers → HolderStores holder (tickers ++ new_ticker runner ∷ [])
+stores_added runner holder tickers stores q = elim (cases_eq q (length tickers)) [
   | inl same ↦
-      ap (λ j. store_at j (tickers ++ new_ticker ∷ [])) same ∙ ap (λ o. in_store (ticker_or o).phase) (get-push_last tickers new_ticker)
+      ap (λ j. store_at j (tickers ++ new_ticker runner ∷ [])) same ∙ ap (λ o. in_store (ticker_or o).phase) (get-push_last tickers (new_ticker runner))
       ∙ sym (ap (λ o. in_store (ticker_or o).phase) (get_past tickers)) ∙ stores (length tickers) ∙ ap (λ j. holds j holder) (sym same)
-  | inr far ↦ ap (λ o. in_store (ticker_or o).phase) (get-push_other tickers new_ticker q far) ∙ stores q
+  | inr far ↦ ap (λ o. in_store (ticker_or o).phase) (get-push_other tickers (new_ticker runner) q far) ∙ stores q
 ]
 
 -- a notification leaves the numbers in use and the places

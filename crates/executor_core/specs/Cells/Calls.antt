@@ -1,7 +1,9 @@
 -- What each call makes of the table, and what it answers.
-use Rattle.std.specs.Prelude.{◌≡◌, ◌≢◌, ℕ, ◌+◌, ◌==◌, Bool, true, false, List, [], ◌∷◌, ◌++◌, Option, Some, None, cond, is_some, count_by, ◌&&◌, ◌||◌, not}
+use Rattle.std.specs.Prelude.{◌≡◌, ◌≢◌, ℕ, ◌+◌, ◌-◌, ◌==◌, nat_lt, Bool, true, false, List, [], ◌∷◌, ◌++◌, length, Option, Some, None, cond, is_some, count_by, ◌&&◌, ◌||◌, not}
 use Rattle.std.specs.FinMap as map
 use Rattle.executor_core.specs.Cells.{Slotted, Table}
+use Rattle.executor_core.specs.Cells.Law.{queues_of}
+use Rattle.executor_core.specs.Queues.{QueueLists, search, fair, registered, unregistered, is_registered, entries_of}
 use Rattle.executor_core.specs.Cell.{is_idle, is_held, is_scheduled, is_undropped}
 use Rattle.executor_core.specs.Cell.Changes.{new_cell, woken, taken, pended, readied, awaited, cancelled_cell, detached, disposed, takes_back, output_of, is_finished_state, wakeup_of}
 use Rattle.executor_core.specs.declared.task.cell.Cell.{Cell}
@@ -18,7 +20,7 @@ use Rattle.executor_core.specs.declared.task.table.EndPending.TheVariants.{Back,
 
 -- no task, the next one getting this number
 abbrev pub empty_table : {P T W : Type 0} → ℕ → Table P T W
-empty_table next = record { next = next; cells = map.empty; global = [] }
+empty_table next = record { next = next; cells = map.empty; global = []; locals = []; next_runner = 0; free_places = 0 }
 
 -- the cell of an id, and what is read of it
 module _ {P T W : Type 0} where
@@ -138,6 +140,53 @@ module _ {P T W : Type 0} where
   pub record TakesFront (table : Table P T W) (rest : List ℕ) (task : Taken P) : Type 0 where
     pub taken : IsTaken table task
     pub front : table.global ≡ task.id.number ∷ rest
+
+-- search
+module _ {P T W : Type 0} where
+  abbrev pub with_queues : QueueLists ℕ → Table P T W → Table P T W
+  with_queues q table = record table { global = q.global; locals = q.locals }
+
+  abbrev pub search_to : Option ℕ × QueueLists ℕ → Table P T W → Table P T W
+  search_to (None, q) table = with_queues q table
+  search_to (Some n, q) table = with_queues q (with_taken table n)
+
+  -- what the runner's search with this word finds, and the queues after it
+  abbrev pub search_in : Table P T W → ℕ → ℕ → Option ℕ × QueueLists ℕ
+  search_in table k word = search k word (queues_of table)
+
+  abbrev pub after_search : Table P T W → ℕ → ℕ → Table P T W
+  after_search table k word = search_to (search_in table k word) table
+
+  -- the task is the one that the search finds
+  pub record TakesFound (table : Table P T W) (k word : ℕ) (task : Taken P) : Type 0 where
+    pub taken : IsTaken table task
+    pub found : (search_in table k word).0 ≡ Some task.id.number
+
+-- the other calls of a runner
+module _ {P T W : Type 0} where
+  abbrev pub after_fair : Table P T W → ℕ → Table P T W
+  after_fair table k = with_queues (fair k (queues_of table)) table
+
+  abbrev pub after_reserve_runner : Table P T W → Table P T W
+  after_reserve_runner table = record table { next_runner = table.next_runner + 1; free_places = table.free_places + 1 }
+
+  -- a free place goes, unless the runner is registered
+  abbrev pub after_release_runner : Table P T W → ℕ → Table P T W
+  after_release_runner table k = cond (is_registered k table.locals) table (record table { free_places = table.free_places - 1 })
+
+  -- a reserved place is free, and the runner is not registered
+  abbrev pub may_register : Table P T W → ℕ → Bool
+  may_register table k = nat_lt 0 table.free_places && not (is_registered k table.locals)
+
+  abbrev pub after_register : Table P T W → ℕ → ℕ → Table P T W
+  after_register table k capacity = with_queues (registered k capacity (queues_of table)) (record table { free_places = table.free_places - 1 })
+
+  abbrev pub after_unregister : Table P T W → ℕ → Table P T W
+  after_unregister table k = with_queues (unregistered k (queues_of table)) table
+
+  -- its queue has entries
+  abbrev pub unregister_queues : Table P T W → ℕ → Bool
+  unregister_queues table k = nat_lt 0 (length (entries_of k table.locals))
 
 -- end_pending
 module _ {P T W : Type 0} where

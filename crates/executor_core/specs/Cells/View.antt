@@ -1,17 +1,22 @@
 -- How the fields of `Cells` are seen, and what holds of them.
-use Rattle.std.specs.Prelude.{◌≡◌, ℕ, ◌+◌, ◌<◌, ◌≤◌, Bool, true, false, ◌||◌, List, [], ◌∷◌, length, map as list_map, Option, Some, None, count_by, slice_index_or}
+use Rattle.std.specs.Prelude.{◌≡◌, ℕ, ◌+◌, ◌<◌, ◌≤◌, Bool, true, false, ◌||◌, List, [], ◌∷◌, length, map, Option, Some, None, count_by, slice_index_or, slice_set}
 use Rattle.std.specs.Ordering.{nat_cmp}
-use Rattle.std.specs.FinMap as map
+use Rattle.std.specs.FinMap as fin_map
 use Rattle.std.specs.List.{All}
+use Rattle.executor_core.specs.Queues.{map_local}
+use Rattle.executor_core.specs.Queues.State.{QueueState}
 use Rattle.executor_core.specs.Cells.{Slotted, Table}
-use Rattle.executor_core.specs.Cell.{is_idle, is_held, is_undropped}
+use Rattle.executor_core.specs.Cell.{is_idle, is_held, is_scheduled, is_undropped}
+use Rattle.executor_core.specs.Cell.Changes.{taken}
 use Rattle.executor_core.specs.Cells.Law.{ScheduledOnce}
 use Rattle.executor_core.specs.declared.task.cell.Cell.{Cell}
 use Rattle.executor_core.specs.declared.task.cell.Numbered.{Numbered}
+use Rattle.executor_core.specs.declared.task.cell.CellState.TheVariants.{Scheduled}
 use Rattle.executor_core.specs.declared.task.id.TaskId.{TaskId}
+use Rattle.executor_core.specs.declared.task.values.Taken.{Taken}
 
 abbrev pub numbers_of : List TaskId → List ℕ
-numbers_of ids = list_map (λ id. id.number) ids
+numbers_of ids = map (λ id. id.number) ids
 
 module _ {P T W : Type 0} where
   -- a cell of this slot
@@ -24,30 +29,52 @@ module _ {P T W : Type 0} where
   by_number slot (None ∷ rest) = by_number (slot + 1) rest
   by_number slot (Some e ∷ rest) = (e.number, seen slot e.cell) ∷ by_number (slot + 1) rest
 
-  unfoldable pub cells_of : List (Option (Numbered (Cell P T W))) → map.FinMap nat_cmp (Slotted P T W)
-  cells_of slots = map.from_entries (by_number 0 slots)
+  unfoldable pub cells_of : List (Option (Numbered (Cell P T W))) → fin_map.FinMap nat_cmp (Slotted P T W)
+  cells_of slots = fin_map.from_entries (by_number 0 slots)
 
-  abbrev pub table_of : ℕ → List (Option (Numbered (Cell P T W))) → List TaskId → Table P T W
-  table_of next slots ids = record { next = next; cells = cells_of slots; global = numbers_of ids }
+  abbrev pub table_of : ℕ → List (Option (Numbered (Cell P T W))) → QueueState → Table P T W
+  table_of next slots q =
+      record {
+        next = next;
+        cells = cells_of slots;
+        global = numbers_of q.lists.global;
+        locals = map (map_local (λ id. id.number)) q.lists.locals;
+        next_runner = q.next_runner;
+        free_places = q.free_places;
+      }
 
   -- the future is there and not queued, or out: so it may be queued later
   abbrev pub is_queueable : Option (Numbered (Cell P T W)) → Bool
   is_queueable None = false
   is_queueable (Some e) = is_idle e.cell.state || is_held e.cell.state
 
+  -- there is such a cell, and it is scheduled
+  abbrev pub scheduled_slot : Option (Numbered (Cell P T W)) → Bool
+  scheduled_slot None = false
+  scheduled_slot (Some e) = is_scheduled e.cell.state
+
+  -- the slots after the task was taken out of the cell in the id's slot
+  pub record TakesOut (slots later : List (Option (Numbered (Cell P T W)))) (id : TaskId) (task : Taken P) : Type 0 where
+    pub entry : Numbered (Cell P T W)
+    pub there : slice_index_or slots id.slot None ≡ Some entry
+    pub written : later ≡ slice_set slots id.slot (Some (record { number = entry.number; cell = taken entry.cell }))
+    pub same_id : task.id ≡ id
+    pub future : entry.cell.state ≡ Scheduled task.future
+    pub cancelled : task.cancelled ≡ entry.cell.cancelled
+
   -- each number has one slot
   abbrev pub Distinct : List (Option (Numbered (Cell P T W))) → Type 0
   Distinct slots = (i j : ℕ) (c d : Numbered (Cell P T W)) → slice_index_or slots i None ≡ Some c → slice_index_or slots j None ≡ Some d → c.number ≡ d.number → i ≡ j
 
   -- the id's number has a cell, in the id's slot
-  abbrev pub Placed : map.FinMap nat_cmp (Slotted P T W) → TaskId → Type 0
-  Placed cells id = (t : Slotted P T W) × (map.get cells id.number ≡ Some t) × (t.slot ≡ id.slot)
+  abbrev pub Placed : fin_map.FinMap nat_cmp (Slotted P T W) → TaskId → Type 0
+  Placed cells id = (t : Slotted P T W) × (fin_map.get cells id.number ≡ Some t) × (t.slot ≡ id.slot)
 
   -- a cell whose future was dropped has its handle, and no awaiter
   abbrev pub Settled : Cell P T W → Type 0
   Settled c = is_undropped c.state ≡ false → (c.awaiter ≡ None) × (c.has_handle ≡ true)
 
-  -- the slots, the global queue with its capacity, and the count of undropped futures fit together
+  -- the slots, the ids of all queues, the room of the global one, and the count of undropped futures fit together
   pub record IsSound (next : ℕ) (slots : List (Option (Numbered (Cell P T W)))) (ids : List TaskId) (capacity undropped : ℕ) : Type 0 where
     pub below : (i : ℕ) (c : Numbered (Cell P T W)) → slice_index_or slots i None ≡ Some c → c.number < next
     pub distinct : Distinct slots
@@ -56,3 +83,4 @@ module _ {P T W : Type 0} where
     pub settled : (i : ℕ) (c : Numbered (Cell P T W)) → slice_index_or slots i None ≡ Some c → Settled c.cell
     pub counted : undropped ≡ length ids + count_by is_queueable slots
     pub room : undropped ≤ capacity
+    pub numbered : undropped ≤ next

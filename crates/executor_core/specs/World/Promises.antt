@@ -3,9 +3,10 @@ use Rattle.std.specs.Prelude.{◌≡◌, ◌≢◌, ℕ, ◌+◌, ◌==◌, ◌<
 use Rattle.std.specs.List.{list_any}
 use Rattle.std.specs.FinSet as set
 use Rattle.executor_core.specs.Numbers.{times}
+use Rattle.executor_core.specs.Queues.{QueueLists, all_entries}
 use Rattle.executor_core.specs.Sleepers.{SleeperList, is_notified}
 use Rattle.executor_core.specs.World.{Execution}
-use Rattle.executor_core.specs.World.Tickers.{is_awake, in_wake, in_store, has_ended, gave_up, notices_in, has_to_search, has_to_spend, ticker_or}
+use Rattle.executor_core.specs.World.Tickers.{is_awake, is_run, in_wake, in_store, has_ended, gave_up, notices_in, has_to_search, has_to_spend, ticker_or}
 use Rattle.executor_core.specs.World.Log.{cancelled, held, dropped, owed, outputs, given, polls, wakes}
 use Rattle.executor_core.specs.declared.interleave.ticker.Ticker.{Ticker}
 use Rattle.executor_core.specs.declared.interleave.event.Purpose.TheVariants.{ToPoll, ToDrop}
@@ -48,10 +49,18 @@ abbrev pub holder_spends : Option ℕ → List Ticker → Bool
 holder_spends None tickers = false
 holder_spends (Some k) tickers = has_to_spend (ticker_or (slice_get tickers k)).phase
 
+-- every ticker is a run
+abbrev pub only_runs : List Ticker → Bool
+only_runs tickers = not (list_any (λ t. not (is_run t)) tickers)
+
 module _ {T : Type 0} where
+  -- the queues of the world
+  abbrev pub queues : Execution T → QueueLists ℕ
+  queues w = record { global = w.global; locals = w.locals }
+
   -- the numbers of all queues together
   abbrev pub all_queues : Execution T → List ℕ
-  all_queues w = w.global
+  all_queues w = all_entries (queues w)
 
   -- the notices that any party may spend
   abbrev pub floating_notices : Execution T → ℕ
@@ -78,14 +87,23 @@ module _ {T : Type 0} where
   abbrev pub FlagLaw : Execution T → Type 0
   FlagLaw w = w.flag ≡ true → is_notified w.sleepers || nat_lt 0 w.picks || holder_spends w.holder w.tickers ≡ true
 
-  -- where the global queue is not empty and a number is in use, one is notified, or an obligation is out
+  -- where these are queued and a number is in use, one is notified, or an obligation is out
+  abbrev pub CoversQueued : List ℕ → Execution T → Type 0
+  CoversQueued queued w = queued ≢ [] → 0 < set.len w.sleepers.used → some_notified w.sleepers || is_obliged w ≡ true
+
+  -- this holds of the global queue
   abbrev pub Covered : Execution T → Type 0
-  Covered w = w.global ≢ [] → 0 < set.len w.sleepers.used → some_notified w.sleepers || is_obliged w ≡ true
+  Covered w = CoversQueued w.global w
+
+  -- and of all queues together where every ticker is a run, since a run searches all of them
+  abbrev pub RunsCovered : Execution T → Type 0
+  RunsCovered w = only_runs w.tickers ≡ true → CoversQueued (all_queues w) w
 
   -- no notice is lost
   pub record NoNoticeLost (w : Execution T) : Type 0 where
     pub flag_law : FlagLaw w
     pub covered : Covered w
+    pub runs_covered : RunsCovered w
 
 -- the tie between the tickers and the list of sleepers
 -- the numbers of the tickers, 0 being that of one that is awake
@@ -125,4 +143,5 @@ module _ {T : Type 0} where
     pub few_polls : FewPolls w.log
     pub flag_law : FlagLaw w
     pub covered : Covered w
+    pub runs_covered : RunsCovered w
     pub tickers : TickersTied w.tickers w.holder w.sleepers

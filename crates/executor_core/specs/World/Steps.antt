@@ -1,12 +1,16 @@
 -- Which step a world takes at a request, row by row.
-use Rattle.std.specs.Prelude.{◌≡◌, ◌≢◌, ◌⊎◌, ℕ, ◌+◌, ◌-◌, nat_lt, is_some, Bool, true, false, List, [], ◌∷◌, ◌++◌, length, Option, Some, None, cond, ◌&&◌, ◌||◌, not, slice_get, slice_set}
+use Rattle.std.specs.Prelude.{◌≡◌, ◌≢◌, ◌⊎◌, ℕ, ◌+◌, ◌-◌, nat_lt, is_some, Bool, true, false, count_by, List, [], ◌∷◌, ◌++◌, length, Option, Some, None, cond, ◌&&◌, ◌||◌, not, slice_get, slice_set}
 use Rattle.executor_core.specs.World.Log.{spawned, dropped, cancelled, held, woken, idle, outputs}
 use Rattle.std.specs.Map.{keys_of}
 use Rattle.executor_core.specs.World.{Execution}
-use Rattle.executor_core.specs.World.Promises.{floating_notices, holds}
+use Rattle.executor_core.specs.World.Promises.{queues, floating_notices, holds}
 use Rattle.executor_core.specs.Sleepers.{is_notified, is_notified_number}
 use Rattle.executor_core.specs.Sleepers.Calls.{no_sleepers, closed, last_of, all_unnotified, after_notify, after_reserve, after_release, next_number, after_insert, after_update, after_remove}
-use Rattle.executor_core.specs.World.Tickers.{at_rest, in_search, in_sleep, in_wake, has_ended, notices_in, ticker_or, is_awake, new_ticker, polled, searched, slept, rested, woke, dropped as dropped_ticker, ended, stored}
+use Rattle.executor_core.specs.World.Tickers.{at_rest, in_search, in_sleep, in_wake, has_ended, notices_in, ticker_or, is_awake, is_run, runner_of, has_queue, is_new_run, may_search, may_go, new_ticker, polled, searched, slept, rested, woke, dropped as dropped_ticker, ended, stored, left}
+use Rattle.executor_core.specs.Cells.{Table}
+use Rattle.executor_core.specs.Cells.Calls.{IsTaken}
+use Rattle.executor_core.specs.declared.task.values.Taken.{Taken}
+use Rattle.executor_core.specs.Queues.{QueueLists, search_global, search, fair, fair_count, registered, unregistered, entries_of}
 use Rattle.executor_core.specs.declared.interleave.entry.TaskInfo.{TaskInfo}
 use Rattle.executor_core.specs.declared.interleave.ticker.Ticker.{Ticker}
 use Rattle.executor_core.specs.declared.interleave.event.Purpose.{Purpose}
@@ -14,7 +18,7 @@ use Rattle.executor_core.specs.declared.interleave.event.Purpose.TheVariants.{To
 use Rattle.executor_core.specs.declared.interleave.event.Event.{Event}
 use Rattle.executor_core.specs.declared.interleave.event.Event.TheVariants.{Spawned, Woken, Cancelled, Took, Returned, Finished, Dropped, Got}
 use Rattle.executor_core.specs.declared.interleave.request.Step.{Step}
-use Rattle.executor_core.specs.declared.interleave.request.Step.TheVariants.{Spawn, Wake, TryTick, Pend, Ready, PollHandle, Cancel, Detach, DropHandle, Dropped as DropDone, Exchange, Notify, Tick, Poll, Search, Sleep, Yield, Remove, Store, Drop}
+use Rattle.executor_core.specs.declared.interleave.request.Step.TheVariants.{Spawn, Wake, TryTick, Pend, Ready, PollHandle, Cancel, Detach, DropHandle, Dropped as DropDone, Exchange, Notify, Tick, Run, Register, Poll, Search, Sleep, Yield, Remove, Store, Fair, Unregister, Drop}
 use Rattle.executor_core.specs.declared.interleave.reply.Reply.{Reply}
 use Rattle.executor_core.specs.declared.interleave.reply.Reply.TheVariants as reply
 
@@ -32,7 +36,11 @@ new_info slot = record { slot = slot; has_handle = true; awaited = false; to_dro
 
 -- a world before its first step
 abbrev pub opening : {T : Type 0} → ℕ → Execution T
-opening limit = record { log = []; accepted = 0; limit = limit; global = []; notices = 0; picks = 0; flag = true; sleepers = no_sleepers; tasks = []; tickers = []; holder = None }
+opening limit = record { log = []; accepted = 0; limit = limit; global = []; locals = []; notices = 0; picks = 0; flag = true; sleepers = no_sleepers; tasks = []; tickers = []; holder = None }
+
+-- for how many tasks a run's own queue has room
+abbrev pub local_places : ℕ
+local_places = 512
 
 -- what a task is taken for
 abbrev pub purpose_of : Bool → Purpose
@@ -48,6 +56,9 @@ module _ {T : Type 0} where
 
   abbrev pub noticed : Execution T → Execution T
   noticed w = record w { notices = w.notices + 1 }
+
+  abbrev pub noticed_where : Bool → Execution T → Execution T
+  noticed_where b w = record w { notices = cond b (w.notices + 1) w.notices }
 
   -- the event is logged where this holds
   abbrev pub logged_where : Bool → Event T → Execution T → Execution T
@@ -173,6 +184,16 @@ module _ {T : Type 0} where
   notify_row w =
       (cond (all_unnotified w.sleepers) (notify_reply (last_of (keys_of w.sleepers.unnotified))) reply.Nobody, record w { picks = w.picks - 1; sleepers = after_notify w.sleepers })
 
+-- what the ticker's search finds: a tick looks at the global queue, a run at its runner's own, then the global one, then the others
+abbrev pub found_by : Option ℕ → ℕ → QueueLists ℕ → Option ℕ × QueueLists ℕ
+found_by None word q = search_global q
+found_by (Some r) word q = search r word q
+
+-- the task is the one that was found
+pub record TakesTask {P T W : Type 0} (table : Table P T W) (found : Option ℕ) (task : Taken P) : Type 0 where
+  pub taken : IsTaken table task
+  pub number : found ≡ Some task.id.number
+
 -- the rows of the tickers
 module _ {T : Type 0} where
   abbrev pub ticker : ℕ → Execution T → Ticker
@@ -186,21 +207,53 @@ module _ {T : Type 0} where
   abbrev pub placed : Execution T → Execution T
   placed w = record w { sleepers = after_release w.sleepers }
 
-  -- tick: a ticker with a place, at rest
+  -- tick or run: a ticker with a place, at rest
+  abbrev pub ticker_row : Option ℕ → Execution T → Execution T
+  ticker_row runner w = record w { tickers = w.tickers ++ new_ticker runner ∷ []; sleepers = after_reserve w.sleepers }
+
   abbrev pub tick_row : Execution T → Execution T
-  tick_row w = record w { tickers = w.tickers ++ new_ticker ∷ []; sleepers = after_reserve w.sleepers }
+  tick_row w = ticker_row None w
+
+  -- the runners of the runs are numbered from 0
+  abbrev pub run_row : Execution T → Execution T
+  run_row w = ticker_row (Some (count_by is_run w.tickers)) w
+
+  abbrev pub with_queues : QueueLists ℕ → Execution T → Execution T
+  with_queues q w = record w { global = q.global; locals = q.locals }
+
+  -- register k: an empty queue for its runner
+  abbrev pub register_row : ℕ → Execution T → Reply T × Execution T
+  register_row k w = (reply.Done, with_queues (registered (runner_of (ticker k w)) local_places (queues w)) w)
+
+  -- fair k: half of the global queue goes to its own
+  abbrev pub fair_row : ℕ → Execution T → Reply T × Execution T
+  fair_row k w = let r = runner_of (ticker k w) in (reply.Moved (fair_count r (queues w)), with_queues (fair r (queues w)) w)
+
+  -- unregister k: its queue goes to the global end, with a notice where it had something
+  abbrev pub unregister_row : ℕ → Execution T → Reply T × Execution T
+  unregister_row k w =
+      let r = runner_of (ticker k w) in
+      let some = nat_lt 0 (length (entries_of r w.locals)) in
+      (notice_reply some, with_ticker k (left (ticker k w)) (noticed_where some (with_queues (unregistered r (queues w)) w)))
 
   -- poll k
   abbrev pub poll_row : ℕ → Execution T → Reply T × Execution T
   poll_row k w = (reply.Done, with_ticker k (polled (ticker k w)) w)
 
-  -- search k: the front of the global queue is taken; one that is awake has ended then, another one keeps the notice
-  abbrev pub found_row : Bool → ℕ → Execution T → Execution T
-  found_row awake k w = with_ticker k (searched true (ticker k w)) (cond awake (placed (noticed w)) w)
+  -- search k: the notice of one that is awake floats, and a tick has ended then; another one keeps the notice
+  abbrev pub placed_where : Bool → Execution T → Execution T
+  placed_where b w = cond b (placed w) w
 
-  abbrev pub search_row : ℕ → List ℕ → Execution T → Reply T × Execution T
-  search_row k [] w = (reply.NoTask, with_ticker k (searched false (ticker k w)) w)
-  search_row k (n ∷ rest) w = (take_reply n (cancelled n w.log), found_row (is_awake (ticker k w)) k (taking n rest w))
+  abbrev pub found_row : Bool → ℕ → Execution T → Execution T
+  found_row awake k w = with_ticker k (searched true (ticker k w)) (cond awake (placed_where (not (is_run (ticker k w))) (noticed w)) w)
+
+  -- a task that was found is taken, and the queues are these then
+  abbrev pub search_to_row : ℕ → Option ℕ × QueueLists ℕ → Execution T → Reply T × Execution T
+  search_to_row k (None, q) w = (reply.NoTask, with_ticker k (searched false (ticker k w)) (with_queues q w))
+  search_to_row k (Some n, q) w = (take_reply n (cancelled n w.log), found_row (is_awake (ticker k w)) k (with_queues q (taking n w.global w)))
+
+  abbrev pub search_row : ℕ → ℕ → Execution T → Reply T × Execution T
+  search_row k word w = search_to_row k (found_by (ticker k w).runner word (queues w)) w
 
   -- the lock of the sleepers is held by this ticker
   abbrev pub held_by : ℕ → Execution T → Execution T
@@ -247,15 +300,12 @@ module _ {T : Type 0} where
   abbrev pub drop_row : ℕ → Execution T → Reply T × Execution T
   drop_row k w = cond (is_awake (ticker k w)) (reply.Awake, placed (with_ticker k (ended (ticker k w)) w)) (removed_row dropped_ticker k w)
 
-  -- a ticker that has ended gives its place back, and its notices float as one
-  abbrev pub settled : Ticker → Execution T → Execution T
-  settled before w = placed (record w { notices = cond (nat_lt 0 (notices_in before.phase)) (w.notices + 1) w.notices })
-
-  -- store k: the flag gets what the list says, and the lock is given up
+  -- store k: the flag gets what the list says, the lock is given up, and the ticker's notices float as one; one that has ended
+  -- gives its place back
   abbrev pub store_row : ℕ → Execution T → Reply T × Execution T
   store_row k w =
       let later = with_ticker k (stored (ticker k w)) (record w { flag = is_notified w.sleepers; sleepers = closed w.sleepers; holder = None }) in
-      (reply.Stored (is_notified w.sleepers), cond (has_ended (stored (ticker k w)).phase) (settled (ticker k w) later) later)
+      (reply.Stored (is_notified w.sleepers), placed_where (has_ended (stored (ticker k w)).phase) (noticed_where (nat_lt 0 (notices_in (ticker k w).phase)) later))
 
 -- what a step does
 module _ {T : Type 0} where
@@ -270,10 +320,10 @@ module _ {T : Type 0} where
       ⊎ ((slot : ℕ) × FreeSlot old slot × (answer ≡ reply.Task (length old.tasks)) × (new ≡ counted (spawn_row slot old)))
 
   -- memory was refused, or there is a new ticker
-  abbrev pub Ticks : Execution T → Reply T → Execution T → Type 0
-  Ticks old answer new =
+  abbrev pub Makes : (Execution T → Execution T) → Execution T → Reply T → Execution T → Type 0
+  Makes row old answer new =
       ((answer ≡ reply.OutOfMemory) × (new ≡ old))
-      ⊎ ((answer ≡ reply.Ticker (length old.tickers)) × (new ≡ counted (tick_row old)))
+      ⊎ ((answer ≡ reply.Ticker (length old.tickers)) × (new ≡ counted (row old)))
 
   abbrev pub row : Reply T × Execution T → Reply T → Execution T → Type 0
   row r answer new = (answer ≡ r.0) × (new ≡ counted r.1)
@@ -294,13 +344,17 @@ module _ {P T : Type 0} where
   enabled Exchange w = nat_lt 0 (floating_notices w)
   enabled Notify w = nat_lt 0 w.picks && not (is_some w.holder)
   enabled Tick w = true
-  enabled (Poll k) w = at_rest (ticker k w).phase
+  enabled Run w = true
+  enabled (Register k) w = is_new_run w.locals (ticker k w)
+  enabled (Poll k) w = at_rest (ticker k w).phase && may_search w.locals (ticker k w)
   enabled (Search k word) w = in_search (ticker k w).phase
   enabled (Sleep k) w = in_sleep (ticker k w).phase && not (is_some w.holder)
   enabled (Yield k) w = in_sleep (ticker k w).phase
   enabled (Remove k) w = in_wake (ticker k w).phase && not (is_some w.holder)
   enabled (Store k) w = holds k w.holder
-  enabled (Drop k) w = at_rest (ticker k w).phase && (is_awake (ticker k w) || not (is_some w.holder))
+  enabled (Fair k) w = at_rest (ticker k w).phase && has_queue w.locals (ticker k w)
+  enabled (Unregister k) w = at_rest (ticker k w).phase && has_queue w.locals (ticker k w)
+  enabled (Drop k) w = may_go w.locals (ticker k w) && (is_awake (ticker k w) || not (is_some w.holder))
 
   -- what an enabled step does
   abbrev pub Does : Step P T → Execution T → Reply T → Execution T → Type 0
@@ -316,13 +370,17 @@ module _ {P T : Type 0} where
   Does (DropDone n) old answer new = row (dropped_row n old) answer new
   Does Exchange old answer new = row (exchange_row old) answer new
   Does Notify old answer new = row (notify_row old) answer new
-  Does Tick old answer new = Ticks old answer new
+  Does Tick old answer new = Makes tick_row old answer new
+  Does Run old answer new = Makes run_row old answer new
+  Does (Register k) old answer new = row (register_row k old) answer new
   Does (Poll k) old answer new = row (poll_row k old) answer new
-  Does (Search k word) old answer new = row (search_row k old.global old) answer new
+  Does (Search k word) old answer new = row (search_row k word old) answer new
   Does (Sleep k) old answer new = row (sleep_row k old) answer new
   Does (Yield k) old answer new = row (yield_row k old) answer new
   Does (Remove k) old answer new = row (remove_row k old) answer new
   Does (Store k) old answer new = row (store_row k old) answer new
+  Does (Fair k) old answer new = row (fair_row k old) answer new
+  Does (Unregister k) old answer new = row (unregister_row k old) answer new
   Does (Drop k) old answer new = row (drop_row k old) answer new
 
   -- a step: refused where the log is full, else where it is not enabled, else done

@@ -58,6 +58,8 @@ pub enum Reply<T> {
     Unnotified,
     /// The flag has this value from now on.
     Stored(bool),
+    /// So many tasks were moved to the queue of the run.
+    Moved(usize),
     /// The ticker that was dropped had no number.
     Awake,
     /// Refused: the world took as many steps as it may.

@@ -27,12 +27,16 @@ pub enum Step<P, T> {
     Exchange,
     /// A pick is spent: a sleeper is notified.
     Notify,
-    /// A ticker is made, which is at rest.
+    /// A tick is made, which is at rest.
     Tick,
+    /// A run is made, which is at rest.
+    Run,
+    /// The runner of this run gets a queue of its own.
+    Register(usize),
     /// This ticker is polled.
     Poll(usize),
-    /// This ticker searches for a task. The word says where a walk over local queues starts, which
-    /// a ticker without a local queue does not make.
+    /// This ticker searches for a task. The word says where the walk of a run over the queues of
+    /// the other runners starts; a tick does not use it.
     Search(usize, u64),
     /// This ticker goes to sleep.
     Sleep(usize),
@@ -42,6 +46,10 @@ pub enum Step<P, T> {
     Remove(usize),
     /// This ticker changed the list of sleepers, and stores the flag.
     Store(usize),
+    /// Half of the global queue goes to the queue of this run.
+    Fair(usize),
+    /// The queue of this run ends, and what stands in it goes to the global end.
+    Unregister(usize),
     /// This ticker is dropped.
     Drop(usize),
 }

@@ -6,6 +6,7 @@ pub(crate) mod enabled;
 pub(crate) mod handles;
 pub(crate) mod notices;
 pub(crate) mod polls;
+pub(crate) mod runs;
 pub(crate) mod tasks;
 pub(crate) mod tickers;
 

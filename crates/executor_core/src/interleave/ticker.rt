@@ -6,20 +6,24 @@
 //!
 //! | phase | the next step |
 //! |---|---|
-//! | `Rest` | a poll, or its drop |
+//! | `Rest` | a poll, or the drop of a tick; a run registers before its first poll, and may take a fair part or unregister after that |
 //! | `Search` | a search |
 //! | `Sleep` | going to sleep, or a yield |
 //! | `Wake` | the removal of its number |
 //! | `Store` | the store of the flag |
+//! | `Leaving` | its drop |
 //! | `Ended` | none |
+//!
+//! A ticker is a tick or a run. A tick ends once its task runs. A run is at rest then, and has the
+//! queue of a runner, which it registers before its first poll and unregisters before its drop.
 
 ghost use Rattle.std.specs.Prelude.{◌≡◌, nat_lt, slice_get, slice_set};
-ghost use Rattle.executor_core.specs.World.Tickers.{is_awake, has_ended, notices_in, ticker_or, new_ticker, polled, searched, slept, rested, woke, dropped, ended, stored};
+ghost use Rattle.executor_core.specs.World.Tickers.{is_awake, is_run, has_ended, notices_in, ticker_or, new_ticker, after_task, polled, searched, slept, rested, woke, dropped, ended, stored, left};
 
 /// Which step of a ticker comes next.
 #[derive(Debug, Clone, Copy, PartialEq)]
 pub enum Phase {
-    /// It waits to be polled or dropped.
+    /// It waits to be polled or dropped, or to register, to take a fair part or to unregister.
     Rest,
     /// It has still to search for a task.
     Search,
@@ -30,7 +34,9 @@ pub enum Phase {
     Wake,
     /// It changed the list of sleepers, and has still to store the flag.
     Store(ListChange),
-    /// It found a task and is awake, or was dropped.
+    /// Its runner is unregistered, and it has still to be dropped.
+    Leaving,
+    /// It is a tick that found a task and is awake, or it was dropped.
     Ended,
 }
 
@@ -54,6 +60,8 @@ pub struct Ticker {
     pub(crate) phase: Phase,
     /// The number under which it sleeps, or 0 where it is awake.
     pub(crate) number: usize,
+    /// The number of its runner, where it is a run.
+    pub(crate) runner: Option<u64>,
 }
 
 impl Phase {
@@ -78,13 +86,32 @@ impl Phase {
 }
 
 impl Ticker {
-    // One that was just made.
-    pub(crate) fn new() -> Ticker
-        ensures { result ≡ new_ticker }
+    // One that was just made: a tick, or the run of this runner.
+    pub(crate) fn new(runner: Option<u64>) -> Ticker
+        ensures { result ≡ new_ticker runner }
     {
         Ticker {
             phase: Phase::Rest,
             number: 0,
+            runner,
+        }
+    }
+
+    // Whether it is a run.
+    pub(crate) fn is_run(self) -> bool
+        ensures { result ≡ is_run self }
+    {
+        self.runner.is_some()
+    }
+
+    // What comes next once its task runs.
+    fn after_task(self) -> Phase
+        ensures { result ≡ after_task self }
+    {
+        if self.is_run() {
+            Phase::Rest
+        } else {
+            Phase::Ended
         }
     }
 
@@ -111,7 +138,7 @@ impl Ticker {
     {
         let phase = match (found, self.is_awake()) {
             (false, _) => Phase::Sleep,
-            (true, true) => Phase::Ended,
+            (true, true) => self.after_task(),
             (true, false) => Phase::Wake,
         };
         Ticker { phase, ..self }
@@ -124,6 +151,7 @@ impl Ticker {
         Ticker {
             phase: Phase::Store(ListChange::Slept),
             number,
+            ..self
         }
     }
 
@@ -144,6 +172,7 @@ impl Ticker {
         Ticker {
             phase: Phase::Store(ListChange::Woke { notified }),
             number: 0,
+            ..self
         }
     }
 
@@ -154,6 +183,7 @@ impl Ticker {
         Ticker {
             phase: Phase::Store(ListChange::Dropped { notified }),
             number: 0,
+            ..self
         }
     }
 
@@ -173,9 +203,20 @@ impl Ticker {
     {
         let phase = match self.phase {
             Phase::Store(ListChange::Slept) => Phase::Search,
+            Phase::Store(ListChange::Woke { .. }) => self.after_task(),
             _ => Phase::Ended,
         };
         Ticker { phase, ..self }
+    }
+
+    // The same after its runner was unregistered.
+    pub(crate) fn left(self) -> Ticker
+        ensures { result ≡ left self }
+    {
+        Ticker {
+            phase: Phase::Leaving,
+            ..self
+        }
     }
 }
 
@@ -188,6 +229,7 @@ pub(crate) fn ticker_at(tickers: &Vec<Ticker>, k: usize) -> Ticker
         None => Ticker {
             phase: Phase::Ended,
             number: 0,
+            runner: None,
         },
     }
 }

@@ -60,11 +60,13 @@ impl<W> Model for Sleepers<W> {
     ghost invariant = { λ a. IsSoundList a.notified a.unnotified.items a.free.items a.places (vec_capacity a.unnotified) (vec_capacity a.free) };
 }
 
-// Room for this many items in all.
+// Room for this many items in all. Where there is room, nothing is refused.
 fn reserve_places<T>(items: &mut Vec<T>, places: usize) -> Result<(), OutOfMemory>
     ensures items { items.new.items ≡ items.old.items }
     ensures capacity { vec_capacity items.old ≤ vec_capacity items.new }
     ensures room { OnOk result (places ≤ vec_capacity items.new) }
+    ensures refused { OnErr result (vec_capacity items.old < places) }
+    ensures unchanged { OnErr result (vec_capacity items.new ≡ vec_capacity items.old) }
 {
     items.reserve(places.saturating_sub(items.len()))?;
     Ok(())

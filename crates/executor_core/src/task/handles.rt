@@ -63,7 +63,7 @@ impl<P, T, W> Cells<P, T, W> {
         if !cancel_cell(&mut self.cells[id.slot].cell) {
             return None;
         }
-        Some(self.global.push(id))
+        Some(self.queues.push(id))
     }
 
     /// Ends the handle of a task, which runs on without it. It stands for

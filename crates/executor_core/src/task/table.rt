@@ -4,13 +4,13 @@ ghost use Rattle.executor_core.specs.Cells.Calls.{wakes, after_wake, after_end_p
 ghost use Rattle.executor_core.specs.SpawnError.{last_number, Refuses};
 ghost use Rattle.executor_core.specs.Cells.Law.{LockLaw};
 
+use crate::queue::queues::Queues;
 use crate::task::cell::{
     Cell, Numbered, awaiter_of_held, dispose_cell, has_future, is_held, keeps_future, new_cell,
     pend_cell, ready_cell, takes_back, wake_cell,
 };
 use crate::task::error::{OutOfMemory, SpawnError};
 use crate::task::id::TaskId;
-use crate::task::task_queue::TaskQueue;
 use crate::task::values::{Held, Notice, Wakeup};
 use slab::Slab;
 use std::alloc::Global;
@@ -41,7 +41,7 @@ pub enum EndPending<P> {
 pub struct Cells<P, T, W> {
     pub(crate) next: u64,
     pub(crate) cells: Slab<Numbered<Cell<P, T, W>>>,
-    pub(crate) global: TaskQueue,
+    pub(crate) queues: Queues,
     pub(crate) undropped: usize,
 }
 
@@ -53,28 +53,34 @@ impl<P, T, W> Model for Cells<P, T, W> {
     ghost coded = { table_code P.code T.code W.code };
 
     ghost use Rattle.executor_core.specs.Cells.View.{table_of, IsSound};
+    ghost use Rattle.executor_core.specs.Queues.{all_entries};
 
-    ghost view = { λ a. table_of a.next a.cells.slots a.global.ids };
+    ghost view = { λ a. table_of a.next a.cells.slots a.queues };
 
-    ghost invariant = { λ a. IsSound a.next a.cells.slots a.global.ids a.global.room a.undropped };
+    ghost invariant = { λ a. IsSound a.next a.cells.slots (all_entries a.queues.lists) a.queues.room a.undropped };
 }
 
 impl<P, T, W> Cells<P, T, W> {
-    /// No task, and none was there before. It takes no memory, and so is not refused.
+    /// No task, and none was there before.
+    ///
+    /// # Errors
+    ///
+    /// `OutOfMemory` where the memory of the global queue was refused.
     pub fn new(alloc: Global) -> Result<Self, OutOfMemory>
-        ensures { result ≡ Ok (empty_table 0) }
+        ensures { IfOk result (λ cells. cells ≡ empty_table 0) }
     {
         Self::first_number(alloc, 0)
     }
 
-    /// The same, with this number for the first task. It takes no memory either.
+    /// The same, with this number for the first task.
     pub fn first_number(alloc: Global, first: u64) -> Result<Self, OutOfMemory>
-        ensures { result ≡ Ok (empty_table first) }
+        ensures { IfOk result (λ cells. cells ≡ empty_table first) }
     {
+        let queues = Queues::new(alloc)?;
         Ok(Cells {
             next: first,
             cells: Slab::new(alloc),
-            global: TaskQueue::new(alloc),
+            queues,
             undropped: 0,
         })
     }
@@ -100,14 +106,14 @@ impl<P, T, W> Cells<P, T, W> {
         if self.cells.reserve(1).is_err() {
             return Err(SpawnError::OutOfMemory(future));
         }
-        if self.global.reserve_beside(self.undropped).is_err() {
+        if self.queues.reserve_beside(self.undropped).is_err() {
             return Err(SpawnError::OutOfMemory(future));
         }
         let number = self.next;
         let cell = new_cell(future);
         let slot = self.cells.insert_reserved(Numbered { number, cell });
         let id = TaskId { number, slot };
-        let notice = self.global.push(id);
+        let notice = self.queues.push(id);
         self.next = number + 1;
         self.undropped += 1;
         Ok((id, notice))
@@ -126,7 +132,7 @@ impl<P, T, W> Cells<P, T, W> {
         if !wake_cell(&mut self.cells[id.slot].cell) {
             return None;
         }
-        Some(self.global.push(id))
+        Some(self.queues.push(id))
     }
 
     /// The end of a poll that was pending: the future goes back, or is to be dropped.
@@ -144,7 +150,7 @@ impl<P, T, W> Cells<P, T, W> {
         if !pend_cell(&mut self.cells[id.slot].cell, future) {
             return EndPending::Back(None);
         }
-        EndPending::Back(Some(self.global.push(id)))
+        EndPending::Back(Some(self.queues.push(id)))
     }
 
     /// The end of a poll that gave this output, whose future was dropped.

@@ -1,5 +1,5 @@
 //! The lines of tickers.
-use super::{expect_run, whole};
+use super::{Turn, expect_run, expect_turns, whole};
 use std::test::Fail;
 
 // What is read, and what is written.
@@ -83,8 +83,8 @@ const LINES: [&[u8]; 7] = [
     b"drop 0\n",
 ];
 
-// Lines that are taken, the replies, and which of a ticker's lines may come next.
-const TURNS: [(&[u8], &str, &[&[u8]]); 8] = [
+// How a tick goes through its phases.
+const TURNS: [Turn<'static>; 8] = [
     (b"tick\n", "ticker 0\n", &[b"poll 0\n", b"drop 0\n"]),
     (b"poll 0\n", "done\n", &[b"search 0 0\n"]),
     (b"search 0 0\n", "none\n", &[b"sleep 0\n", b"yield 0\n"]),
@@ -97,18 +97,5 @@ const TURNS: [(&[u8], &str, &[&[u8]]); 8] = [
 
 #[test]
 fn a_ticker_takes_no_step_out_of_turn(rt: HostRuntime) -> Result<(), Fail> {
-    let mut input = Vec::new(rt.alloc());
-    let mut output = String::new(rt.alloc());
-    for (lines, replies, next) in TURNS {
-        input.extend_from_slice(lines)?;
-        output.push_str(replies)?;
-        for line in LINES {
-            if !next.contains(&line) {
-                input.extend_from_slice(line)?;
-                output.push_str("not now\n")?;
-            }
-        }
-    }
-    expect_run(&rt, rt.alloc(), whole(&input), &output, 0);
-    Ok(())
+    expect_turns(&rt, rt.alloc(), &LINES, &TURNS)
 }

@@ -3,12 +3,13 @@ ghost use Rattle.std.specs.Prelude.{◌≡◌, ◌&&◌, ◌||◌, not, is_some}
 ghost use Rattle.executor_core.specs.World.Log.{held};
 ghost use Rattle.executor_core.specs.World.Promises.{holds};
 ghost use Rattle.executor_core.specs.World.Steps.{info, ticker, enabled};
-ghost use Rattle.executor_core.specs.World.Tickers.{at_rest, is_awake};
+ghost use Rattle.executor_core.specs.World.Tickers.{at_rest, is_awake, has_queue, is_new_run, may_search, may_go};
 
 use crate::interleave::World;
 use crate::interleave::entry::find_info;
 use crate::interleave::request::Step;
 use crate::interleave::ticker::{Phase, Ticker, ticker_at};
+use crate::queue::RunnerKey;
 
 impl<P: Drop, T: Copy> World<P, T> {
     // Whether a poll of the task may end.
@@ -65,12 +66,50 @@ impl<P: Drop, T: Copy> World<P, T> {
         }
     }
 
-    // Whether the ticker may be dropped. One that has a number needs the sleepers' lock.
-    fn may_drop_ticker(&self, k: usize) -> bool
-        ensures { result ≡ (at_rest (ticker k self.now).phase && (is_awake (ticker k self.now) || not (is_some self.now.holder))) }
+    // Whether the ticker's runner is registered.
+    fn has_queue(&self, ticker: Ticker) -> bool
+        ensures { result ≡ has_queue self.now.locals ticker }
+    {
+        match ticker.runner {
+            Some(number) => self.core.cells.is_registered(RunnerKey { number }),
+            None => false,
+        }
+    }
+
+    // Whether the ticker is a run that has still to register its runner.
+    pub(crate) fn is_new_run(&self, ticker: Ticker) -> bool
+        ensures { result ≡ is_new_run self.now.locals ticker }
+    {
+        ticker.is_run() && matches!(ticker.phase, Phase::Rest) && !self.has_queue(ticker)
+    }
+
+    // Whether the ticker may be polled.
+    fn may_poll(&self, k: usize) -> bool
+        ensures { result ≡ (at_rest (ticker k self.now).phase && may_search self.now.locals (ticker k self.now)) }
     {
         let ticker = self.ticker(k);
-        matches!(ticker.phase, Phase::Rest) && (ticker.is_awake() || self.is_free())
+        matches!(ticker.phase, Phase::Rest) && (!ticker.is_run() || self.has_queue(ticker))
+    }
+
+    // Whether the ticker is at rest, and its runner is registered.
+    fn rests_registered(&self, k: usize) -> bool
+        ensures { result ≡ (at_rest (ticker k self.now).phase && has_queue self.now.locals (ticker k self.now)) }
+    {
+        let ticker = self.ticker(k);
+        matches!(ticker.phase, Phase::Rest) && self.has_queue(ticker)
+    }
+
+    // Whether the ticker may be dropped. One that has a number needs the sleepers' lock.
+    fn may_drop_ticker(&self, k: usize) -> bool
+        ensures { result ≡ (may_go self.now.locals (ticker k self.now) && (is_awake (ticker k self.now) || not (is_some self.now.holder))) }
+    {
+        let ticker = self.ticker(k);
+        let may_go = match ticker.phase {
+            Phase::Rest => !self.has_queue(ticker),
+            Phase::Leaving => true,
+            _ => false,
+        };
+        may_go && (ticker.is_awake() || self.is_free())
     }
 
     // Whether the step is enabled.
@@ -90,12 +129,16 @@ impl<P: Drop, T: Copy> World<P, T> {
             Step::Exchange => self.notices > 0,
             Step::Notify => self.picks > 0 && self.is_free(),
             Step::Tick => true,
-            Step::Poll(k) => matches!(self.ticker(*k).phase, Phase::Rest),
+            Step::Run => true,
+            Step::Register(k) => self.is_new_run(self.ticker(*k)),
+            Step::Poll(k) => self.may_poll(*k),
             Step::Search(k, _) => matches!(self.ticker(*k).phase, Phase::Search),
             Step::Sleep(k) => matches!(self.ticker(*k).phase, Phase::Sleep) && self.is_free(),
             Step::Yield(k) => matches!(self.ticker(*k).phase, Phase::Sleep),
             Step::Remove(k) => matches!(self.ticker(*k).phase, Phase::Wake) && self.is_free(),
             Step::Store(k) => self.is_held_by(*k),
+            Step::Fair(k) => self.rests_registered(*k),
+            Step::Unregister(k) => self.rests_registered(*k),
             Step::Drop(k) => self.may_drop_ticker(*k),
         }
     }

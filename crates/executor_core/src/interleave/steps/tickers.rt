@@ -3,12 +3,14 @@
 //! A ticker's step is one call on the tasks or one on the sleepers. What a change of the sleepers'
 //! list carries stands in the ticker's phase until the store. The list is not changed in between,
 //! since the ticker holds it, so the flag that is stored is that of the change.
-ghost use Rattle.std.specs.Prelude.{◌≡◌, ◌≢◌, ◌&&◌, ◌||◌, true, false, not, is_some};
+ghost use Rattle.std.specs.Prelude.{◌≡◌, ◌≢◌, ◌-◌, ◌&&◌, ◌||◌, true, false, not, is_some, cond, None, IfNone, IfSome};
+ghost use Rattle.executor_core.specs.Cells.Calls.{search_to};
+ghost use Rattle.executor_core.specs.Cells.Law.{queues_of};
 ghost use Rattle.executor_core.specs.Sleepers.{SleeperLaw, is_notified_number};
 ghost use Rattle.executor_core.specs.Sleepers.Calls.{after_remove};
 ghost use Rattle.executor_core.specs.World.Promises.{holds};
-ghost use Rattle.executor_core.specs.World.Tickers.{at_rest, in_search, in_sleep, in_wake, is_awake};
-ghost use Rattle.executor_core.specs.World.Steps.{ticker, row, Ticks, poll_row, search_row, sleep_row, insert_row, update_row, yield_row, remove_row, store_row, drop_row};
+ghost use Rattle.executor_core.specs.World.Tickers.{at_rest, in_search, in_sleep, in_wake, is_awake, is_new_run, may_search, may_go};
+ghost use Rattle.executor_core.specs.World.Steps.{ticker, row, Makes, tick_row, found_by, TakesTask, poll_row, search_row, sleep_row, insert_row, update_row, yield_row, remove_row, store_row, drop_row};
 
 use crate::interleave::World;
 use crate::interleave::reply::{Reply, reply_of_removal};
@@ -16,8 +18,9 @@ use crate::interleave::steps::notices::{count_if, keep_notice};
 use crate::interleave::steps::polls::put_out;
 use crate::interleave::ticker::{Ticker, set_ticker, ticker_at};
 use crate::plain_core::Core;
+use crate::queue::RunnerKey;
 use crate::sleepers::{Removed, Update};
-use crate::task::Change;
+use crate::task::{Change, Notice, Taken};
 
 // Takes a sleeper out, and says whether it was notified.
 fn remove_number<P, T>(core: &mut Core<P, T, ()>, number: usize) -> bool
@@ -37,10 +40,40 @@ fn remove_number<P, T>(core: &mut Core<P, T, ()>, number: usize) -> bool
     }
 }
 
+// The search of this ticker: a tick looks at the global queue, a run also at those of the runners.
+fn search_of<P, T>(
+    core: &mut Core<P, T, ()>,
+    ticker: Ticker,
+    word: u64,
+) -> Option<(Taken<P>, Notice)>
+    ensures state { core.new ≡ record core.old { cells = search_to (found_by ticker.runner word (queues_of core.old.cells)) core.old.cells } }
+    ensures none { IfNone result ((found_by ticker.runner word (queues_of core.old.cells)).0 ≡ None) }
+    ensures some { IfSome result (λ r. TakesTask core.old.cells (found_by ticker.runner word (queues_of core.old.cells)).0 r.0) }
+{
+    match ticker.runner {
+        Some(number) => core.search(RunnerKey { number }, word, None),
+        None => core.take_global(None),
+    }
+}
+
+// Gives the runner's place back where the ticker is a new run.
+fn release_place<P, T>(core: &mut Core<P, T, ()>, ticker: Ticker, is_new: bool)
+    requires { is_new ≡ is_new_run core.old.cells.locals ticker }
+    ensures { core.new ≡ record core.old { cells = record core.old.cells { free_places = cond is_new (core.old.cells.free_places - 1) core.old.cells.free_places } } }
+{
+    if !is_new {
+        return;
+    }
+    let Some(number) = ticker.runner else {
+        unreachable!()
+    };
+    core.release_runner(RunnerKey { number });
+}
+
 impl<P: Drop, T: Copy> World<P, T> {
     pub(crate) fn tick(&mut self) -> Reply<T>
         requires room { self.old.accepted ≢ self.old.limit }
-        ensures { Ticks self.old result self.new }
+        ensures { Makes tick_row self.old result self.new }
     {
         if self.tickers.try_reserve(1).is_err() {
             return Reply::OutOfMemory;
@@ -50,13 +83,13 @@ impl<P: Drop, T: Copy> World<P, T> {
         }
         let k = self.tickers.len();
         self.accepted += 1;
-        self.tickers.push_reserved(Ticker::new());
+        self.tickers.push_reserved(Ticker::new(None));
         Reply::Ticker(k)
     }
 
     pub(crate) fn poll(&mut self, k: usize) -> Reply<T>
         requires room { self.old.accepted ≢ self.old.limit }
-        requires enabled { at_rest (ticker k self.old).phase ≡ true }
+        requires enabled { (at_rest (ticker k self.old).phase && may_search self.old.locals (ticker k self.old)) ≡ true }
         ensures { row (poll_row k self.old) result self.new }
     {
         self.accepted += 1;
@@ -65,14 +98,14 @@ impl<P: Drop, T: Copy> World<P, T> {
         Reply::Done
     }
 
-    pub(crate) fn search(&mut self, k: usize) -> Reply<T>
+    pub(crate) fn search(&mut self, k: usize, word: u64) -> Reply<T>
         requires room { self.old.accepted ≢ self.old.limit }
         requires enabled { in_search (ticker k self.old).phase ≡ true }
-        ensures { row (search_row k self.old.global self.old) result self.new }
+        ensures { row (search_row k word self.old) result self.new }
     {
         self.accepted += 1;
         let ticker = ticker_at(&self.tickers, k);
-        let Some((taken, notice)) = self.core.take_global(None) else {
+        let Some((taken, notice)) = search_of(&mut self.core, ticker, word) else {
             set_ticker(&mut self.tickers, k, ticker.searched(false));
             return Reply::NoTask;
         };
@@ -84,6 +117,9 @@ impl<P: Drop, T: Copy> World<P, T> {
             return reply;
         }
         keep_notice(&mut self.notices, Some(notice));
+        if ticker.is_run() {
+            return reply;
+        }
         self.core.release();
         reply
     }
@@ -177,17 +213,17 @@ impl<P: Drop, T: Copy> World<P, T> {
         self.core.store(Change { notified, carried });
         self.holder = None;
         set_ticker(&mut self.tickers, k, ticker.stored());
+        count_if(&mut self.notices, ticker.phase.notices() > 0);
         if !ticker.stored().phase.has_ended() {
             return Reply::Stored(notified);
         }
-        count_if(&mut self.notices, ticker.phase.notices() > 0);
         self.core.release();
         Reply::Stored(notified)
     }
 
     pub(crate) fn drop_ticker(&mut self, k: usize) -> Reply<T>
         requires room { self.old.accepted ≢ self.old.limit }
-        requires enabled { (at_rest (ticker k self.old).phase && (is_awake (ticker k self.old) || not (is_some self.old.holder))) ≡ true }
+        requires enabled { (may_go self.old.locals (ticker k self.old) && (is_awake (ticker k self.old) || not (is_some self.old.holder))) ≡ true }
         ensures { row (drop_row k self.old) result self.new }
     {
         if ticker_at(&self.tickers, k).is_awake() {
@@ -199,12 +235,14 @@ impl<P: Drop, T: Copy> World<P, T> {
 
     fn drop_awake(&mut self, k: usize) -> Reply<T>
         requires room { self.old.accepted ≢ self.old.limit }
-        requires enabled { at_rest (ticker k self.old).phase ≡ true }
+        requires enabled { may_go self.old.locals (ticker k self.old) ≡ true }
         requires awake { is_awake (ticker k self.old) ≡ true }
         ensures { row (drop_row k self.old) result self.new }
     {
-        self.accepted += 1;
         let ticker = ticker_at(&self.tickers, k);
+        let is_new = self.is_new_run(ticker);
+        self.accepted += 1;
+        release_place(&mut self.core, ticker, is_new);
         set_ticker(&mut self.tickers, k, ticker.ended());
         self.core.release();
         Reply::Awake
@@ -212,7 +250,7 @@ impl<P: Drop, T: Copy> World<P, T> {
 
     fn drop_asleep(&mut self, k: usize) -> Reply<T>
         requires room { self.old.accepted ≢ self.old.limit }
-        requires enabled { (at_rest (ticker k self.old).phase && not (is_some self.old.holder)) ≡ true }
+        requires enabled { (may_go self.old.locals (ticker k self.old) && not (is_some self.old.holder)) ≡ true }
         requires asleep { is_awake (ticker k self.old) ≡ false }
         ensures { row (drop_row k self.old) result self.new }
     {

@@ -1,5 +1,6 @@
 use Rattle.std.proofs.Common.{◌≤◌, ◌+◌, sym, ap, ◌∙◌, subst, length, ◌++◌}
 use Rattle.executor_core.specs.World.Steps.{StepTo}
+use Rattle.executor_core.proofs.World.Order.{lone_order}
 use Rattle.executor_core.proofs.World.Runs.{fold_on, snoc_rest}
 use Rattle.executor_core.proofs.ListLemmas.{length-push}
 use Rattle.executor_core.proofs.interleave.World.run.Goals as goal
@@ -12,3 +13,6 @@ loop-step-preserved g c =
       ap length c.push_reserved.ensures.items ∙ length-push _ _ ∙ ap (λ k. k + 1) h.2 ∙ sym (length-push _ _),
       subst (λ k. length c.args.steps.items ≤ k) (sym c.push_reserved.ensures.capacity) h.3,
     )
+
+pub returns-clause-order : goal.returns-clause-order
+returns-clause-order g c = lone_order _ _ _ _

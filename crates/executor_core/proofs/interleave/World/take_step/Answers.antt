@@ -128,3 +128,27 @@ drop_ticker-requires g c = record { room = (subst (λ w. w.accepted ≢ w.limit)
 
 pub returns-in-Drop : goal.returns-in-Drop
 returns-in-Drop g c = step_done _ _ _ c.in-Drop.is _ _ (subst (λ w. w.accepted ≢ w.limit) c.self.view_is c.if-self.false) (sym c.is_enabled.ensures ∙ c.if-not-is_enabled.false) c.drop_ticker.ensures
+
+pub make_run-requires : goal.make_run-requires
+make_run-requires g c = record { room = (subst (λ w. w.accepted ≢ w.limit) c.self.view_is c.if-self.false) }
+
+pub returns-in-Run : goal.returns-in-Run
+returns-in-Run g c = step_done _ _ _ c.in-Run.is _ _ (subst (λ w. w.accepted ≢ w.limit) c.self.view_is c.if-self.false) (sym c.is_enabled.ensures ∙ c.if-not-is_enabled.false) c.make_run.ensures
+
+pub register-requires : goal.register-requires
+register-requires g c = record { room = (subst (λ w. w.accepted ≢ w.limit) c.self.view_is c.if-self.false); enabled = step_enabled _ _ c.in-Register.is (sym c.is_enabled.ensures ∙ c.if-not-is_enabled.false) }
+
+pub returns-in-Register : goal.returns-in-Register
+returns-in-Register g c = step_done _ _ _ c.in-Register.is _ _ (subst (λ w. w.accepted ≢ w.limit) c.self.view_is c.if-self.false) (sym c.is_enabled.ensures ∙ c.if-not-is_enabled.false) c.register.ensures
+
+pub fair-requires : goal.fair-requires
+fair-requires g c = record { room = (subst (λ w. w.accepted ≢ w.limit) c.self.view_is c.if-self.false); enabled = step_enabled _ _ c.in-Fair.is (sym c.is_enabled.ensures ∙ c.if-not-is_enabled.false) }
+
+pub returns-in-Fair : goal.returns-in-Fair
+returns-in-Fair g c = step_done _ _ _ c.in-Fair.is _ _ (subst (λ w. w.accepted ≢ w.limit) c.self.view_is c.if-self.false) (sym c.is_enabled.ensures ∙ c.if-not-is_enabled.false) c.fair.ensures
+
+pub unregister-requires : goal.unregister-requires
+unregister-requires g c = record { room = (subst (λ w. w.accepted ≢ w.limit) c.self.view_is c.if-self.false); enabled = step_enabled _ _ c.in-Unregister.is (sym c.is_enabled.ensures ∙ c.if-not-is_enabled.false) }
+
+pub returns-in-Unregister : goal.returns-in-Unregister
+returns-in-Unregister g c = step_done _ _ _ c.in-Unregister.is _ _ (subst (λ w. w.accepted ≢ w.limit) c.self.view_is c.if-self.false) (sym c.is_enabled.ensures ∙ c.if-not-is_enabled.false) c.unregister.ensures

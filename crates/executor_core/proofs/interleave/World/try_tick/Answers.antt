@@ -1,5 +1,5 @@
-use Rattle.std.proofs.Common.{refl, ap}
-use Rattle.executor_core.proofs.World.Polls.{taken_within, took_front, take_done, take_none}
+use Rattle.std.proofs.Common.{refl}
+use Rattle.executor_core.proofs.World.Polls.{taken_within, take_done, take_none}
 use Rattle.executor_core.proofs.World.Room.{count_fits, event_fits, notice_fits}
 use Rattle.executor_core.proofs.interleave.World.try_tick.Goals as goal
 
@@ -19,11 +19,7 @@ pub returns-in_default : goal.returns-in_default
 returns-in_default g c = (take_none c.self.inside c.self.invariant c.self.view_is c.requires.room c.in_default.ensures.none c.take_global.ensures.state).does
 
 pub invariant_of-self-2 : goal.invariant_of-self-2
-invariant_of-self-2 g c =
-    let took = took_front c.self.inside c.self.invariant c.self.view_is c.requires.room c.in-Some.ensures.some (ap (λ core. core.cells) c.take_global.ensures.state) c.put_out.ensures.entries c.put_out.ensures.log in
-    (take_done c.self.inside c.self.invariant c.self.view_is c.requires.room took c.take_global.ensures.state c.keep_notice.ensures.counted c.put_out.ensures.capacity c.put_out.ensures.reply).sound
+invariant_of-self-2 g c = (take_done c.self.inside c.self.invariant c.self.view_is c.requires.room c.in-Some.ensures.some c.take_global.ensures.state c.put_out.ensures.entries c.put_out.ensures.log c.keep_notice.ensures.counted c.put_out.ensures.capacity c.put_out.ensures.reply).sound
 
 pub returns : goal.returns
-returns g c =
-    let took = took_front c.self.inside c.self.invariant c.self.view_is c.requires.room c.in-Some.ensures.some (ap (λ core. core.cells) c.take_global.ensures.state) c.put_out.ensures.entries c.put_out.ensures.log in
-    (take_done c.self.inside c.self.invariant c.self.view_is c.requires.room took c.take_global.ensures.state c.keep_notice.ensures.counted c.put_out.ensures.capacity c.put_out.ensures.reply).does
+returns g c = (take_done c.self.inside c.self.invariant c.self.view_is c.requires.room c.in-Some.ensures.some c.take_global.ensures.state c.put_out.ensures.entries c.put_out.ensures.log c.keep_notice.ensures.counted c.put_out.ensures.capacity c.put_out.ensures.reply).does

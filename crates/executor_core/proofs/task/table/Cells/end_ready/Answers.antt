@@ -17,23 +17,23 @@ returns-then-not-is_held-clause-answer g c =
     sym (ready_answer-absent c.args.output _ none)
 
 pub index-requires : goal.index-requires
-index-requires g c = let at = passes_at c.self.invariant c.self.view_is held_in refl c.args.held.id c.is_held.ensures c.if-not-is_held.false in rw at.there refl
+index-requires g c = let at = passes_at c.self.invariant c.self.inside.queues c.self.view_is held_in refl c.args.held.id c.is_held.ensures c.if-not-is_held.false in rw at.there refl
 
 pub overflow_sub-self : goal.overflow_sub-self
 overflow_sub-self g c =
-    let at = passes_at c.self.invariant c.self.view_is held_in refl c.args.held.id c.is_held.ensures c.if-not-is_held.false in
+    let at = passes_at c.self.invariant c.self.inside.queues c.self.view_is held_in refl c.args.held.id c.is_held.ensures c.if-not-is_held.false in
     let one = counted_one c.self.invariant c.args.held.id.slot at.entry at.there (held_state at.entry.cell.state at.passes).1 in
     omega arith
 
 pub ready_cell-awaiter-requires : goal.ready_cell-awaiter-requires
-ready_cell-awaiter-requires g c = (facts_at held_in refl _ _ _ c.index_mut.ensures.value (test_at c.self.invariant c.self.view_is held_in c.args.held.id c.is_held.ensures ∙ c.if-not-is_held.false)).1
+ready_cell-awaiter-requires g c = (facts_at held_in refl _ _ _ c.index_mut.ensures.value (test_at c.self.invariant c.self.inside.queues c.self.view_is held_in c.args.held.id c.is_held.ensures ∙ c.if-not-is_held.false)).1
 
 pub awaiter_of_held-requires : goal.awaiter_of_held-requires
-awaiter_of_held-requires g c = (facts_at held_in refl _ _ _ c.remove-cell.ensures.value (test_at c.self.invariant c.self.view_is held_in c.args.held.id c.is_held.ensures ∙ c.if-not-is_held.false)).1
+awaiter_of_held-requires g c = (facts_at held_in refl _ _ _ c.remove-cell.ensures.value (test_at c.self.invariant c.self.inside.queues c.self.view_is held_in c.args.held.id c.is_held.ensures ∙ c.if-not-is_held.false)).1
 
 pub invariant_of-self : goal.invariant_of-self
 invariant_of-self g c =
-    let facts = facts_at held_in refl _ _ _ c.index_mut.ensures.value (test_at c.self.invariant c.self.view_is held_in c.args.held.id c.is_held.ensures ∙ c.if-not-is_held.false) in
+    let facts = facts_at held_in refl _ _ _ c.index_mut.ensures.value (test_at c.self.invariant c.self.inside.queues c.self.view_is held_in c.args.held.id c.is_held.ensures ∙ c.if-not-is_held.false) in
     let cell = c.ready_cell-awaiter.ensures.cell in
     let one : Some c.index_mut.result.now ≡ Some c.index.result.now = sym c.index_mut.ensures.value ∙ c.index.ensures in
     let same : c.index_mut.result.now ≡ c.index.result.now = cc in
@@ -41,18 +41,18 @@ invariant_of-self g c =
 
 pub returns-then-index-clause-table : goal.returns-then-index-clause-table
 returns-then-index-clause-table g c =
-    let facts = facts_at held_in refl _ _ _ c.index_mut.ensures.value (test_at c.self.invariant c.self.view_is held_in c.args.held.id c.is_held.ensures ∙ c.if-not-is_held.false) in
+    let facts = facts_at held_in refl _ _ _ c.index_mut.ensures.value (test_at c.self.invariant c.self.inside.queues c.self.view_is held_in c.args.held.id c.is_held.ensures ∙ c.if-not-is_held.false) in
     let cell = c.ready_cell-awaiter.ensures.cell in
     let one : Some c.index_mut.result.now ≡ Some c.index.result.now = sym c.index_mut.ensures.value ∙ c.index.ensures in
     let same : c.index_mut.result.now ≡ c.index.result.now = cc in
-    rw cell (set_table c.self.invariant c.args.held.id c.index_mut.result.now _ c.index_mut.ensures.value facts.0
+    rw cell (set_table c.self.invariant c.self.inside.queues c.args.held.id c.index_mut.result.now _ c.index_mut.ensures.value facts.0
     ∙ sym (ap (end_ready_at _ c.args.held.id c.args.output) (cell_at_entry c.self.invariant c.args.held.id c.index_mut.result.now c.index_mut.ensures.value facts.0)
     ∙ readied_some _ c.args.held.id c.args.output c.index_mut.result.now.cell facts.1 (ap (λ e. e.cell.has_handle) same ∙ c.if-index.true))
     ∙ ap (λ s. after_end_ready s c.args.held.id c.args.output) c.self.view_is)
 
 pub returns-then-index-clause-answer : goal.returns-then-index-clause-answer
 returns-then-index-clause-answer g c =
-    let facts = facts_at held_in refl _ _ _ c.index_mut.ensures.value (test_at c.self.invariant c.self.view_is held_in c.args.held.id c.is_held.ensures ∙ c.if-not-is_held.false) in
+    let facts = facts_at held_in refl _ _ _ c.index_mut.ensures.value (test_at c.self.invariant c.self.inside.queues c.self.view_is held_in c.args.held.id c.is_held.ensures ∙ c.if-not-is_held.false) in
     let one : Some c.index_mut.result.now ≡ Some c.index.result.now = sym c.index_mut.ensures.value ∙ c.index.ensures in
     let same : c.index_mut.result.now ≡ c.index.result.now = cc in
     ap (λ p. end_ready_of p.0 p.1) c.ready_cell-awaiter.ensures.answer
@@ -62,22 +62,22 @@ returns-then-index-clause-answer g c =
 
 pub invariant_of-self-2 : goal.invariant_of-self-2
 invariant_of-self-2 g c =
-    let facts = facts_at held_in refl _ _ _ c.remove-cell.ensures.value (test_at c.self.invariant c.self.view_is held_in c.args.held.id c.is_held.ensures ∙ c.if-not-is_held.false) in
+    let facts = facts_at held_in refl _ _ _ c.remove-cell.ensures.value (test_at c.self.invariant c.self.inside.queues c.self.view_is held_in c.args.held.id c.is_held.ensures ∙ c.if-not-is_held.false) in
     leave_sound c.self.invariant c.args.held.id.slot c.remove-cell.result c.remove-cell.ensures.value facts.1 _ (record { changed = c.remove-cell.ensures.updates.changed; others = c.remove-cell.ensures.updates.others })
 
 pub returns-clause-table : goal.returns-clause-table
 returns-clause-table g c =
-    let facts = facts_at held_in refl _ _ _ c.remove-cell.ensures.value (test_at c.self.invariant c.self.view_is held_in c.args.held.id c.is_held.ensures ∙ c.if-not-is_held.false) in
+    let facts = facts_at held_in refl _ _ _ c.remove-cell.ensures.value (test_at c.self.invariant c.self.inside.queues c.self.view_is held_in c.args.held.id c.is_held.ensures ∙ c.if-not-is_held.false) in
     let one : Some c.remove-cell.result ≡ Some c.index.result.now = sym c.remove-cell.ensures.value ∙ c.index.ensures in
     let same : c.remove-cell.result ≡ c.index.result.now = cc in
-    remove_table c.self.invariant c.args.held.id c.remove-cell.result c.remove-cell.ensures.value facts.0 _ (record { changed = c.remove-cell.ensures.updates.changed; others = c.remove-cell.ensures.updates.others })
+    remove_table c.self.invariant c.self.inside.queues c.args.held.id c.remove-cell.result c.remove-cell.ensures.value facts.0 _ (record { changed = c.remove-cell.ensures.updates.changed; others = c.remove-cell.ensures.updates.others })
     ∙ sym (ap (end_ready_at _ c.args.held.id c.args.output) (cell_at_entry c.self.invariant c.args.held.id c.remove-cell.result c.remove-cell.ensures.value facts.0)
     ∙ readied_some _ c.args.held.id c.args.output c.remove-cell.result.cell facts.1 (ap (λ e. e.cell.has_handle) same ∙ c.if-index.false))
     ∙ ap (λ s. after_end_ready s c.args.held.id c.args.output) c.self.view_is
 
 pub returns-clause-answer : goal.returns-clause-answer
 returns-clause-answer g c =
-    let facts = facts_at held_in refl _ _ _ c.remove-cell.ensures.value (test_at c.self.invariant c.self.view_is held_in c.args.held.id c.is_held.ensures ∙ c.if-not-is_held.false) in
+    let facts = facts_at held_in refl _ _ _ c.remove-cell.ensures.value (test_at c.self.invariant c.self.inside.queues c.self.view_is held_in c.args.held.id c.is_held.ensures ∙ c.if-not-is_held.false) in
     let one : Some c.remove-cell.result ≡ Some c.index.result.now = sym c.remove-cell.ensures.value ∙ c.index.ensures in
     let same : c.remove-cell.result ≡ c.index.result.now = cc in
     ap (λ a. end_ready_of a (Some c.args.output)) c.awaiter_of_held.ensures

@@ -1,0 +1,235 @@
+-- The queue from which a search steals.
+use Rattle.std.proofs.Common.{◌≡◌, ◌≢◌, ℕ, zero, suc, ◌+◌, ◌-◌, ◌%◌, ◌<◌, ◌≤◌, inl, inr, Bool, true, false, not, ◌&&◌, cond, List, [], ◌∷◌, ◌++◌, length, take, drop, Option, Some, None, refl, sym, ap, ◌∙◌, arith}
+use Rattle.std.proofs.lemmas.Bool.{cases_Bool, cases_eq, ne_eqb, lt-ltb, le-ltb}
+use Rattle.std.specs.Prelude.{◌==◌, nat_lt, slice_get}
+use Rattle.std.specs.List.{find, filter, range_with_len}
+use Rattle.executor_core.specs.Queues.{QueueLists, RunnerQueue, steal_count, entries_or, entries_at, capacity_at, set_entries, with_entries, visits, gives, can_steal, victim, position_of, global_front, global_stolen, stolen_between, local_front, steal_from, search_shared, search_own, search_at, search_global, search}
+use Rattle.executor_core.specs.Queues.State.{QueueState, with_lists}
+use Rattle.executor_core.specs.declared.task.id.TaskId.{TaskId}
+use Rattle.executor_core.proofs.ListLemmas.{set-here}
+use Rattle.executor_core.proofs.QueueLemmas.{find-same, queues_same, victim_moves, search_global-none}
+
+-- the first number of a range that passes
+pub find-range : (p : ℕ → Bool) (a n i : ℕ) → ((k : ℕ) → a ≤ k → k < i → p k ≡ false) → a ≤ i → i < a + n → p i ≡ true → find p (range_with_len a n) ≡ Some i
+find-range p a zero i fails low high passes = absurd (omega arith)
+find-range p a (suc n) i fails low high passes =
+    elim (cases_eq a i) [
+      | inl same ↦ ap (λ b. cond b (Some a) (find p (range_with_len (a + 1) n))) (ap p same ∙ passes) ∙ ap Some same
+      | inr far ↦
+          let here : p a ≡ false = fails a (omega arith) (omega arith) in
+          ap (λ b. cond b (Some a) (find p (range_with_len (a + 1) n))) here ∙ find-range p (a + 1) n i (λ k le. fails k (omega arith)) (omega arith) (omega arith) passes
+    ]
+
+pub find_none-range : (p : ℕ → Bool) (a n : ℕ) → ((k : ℕ) → a ≤ k → k < a + n → p k ≡ false) → find p (range_with_len a n) ≡ None
+find_none-range p a zero fails = refl
+find_none-range p a (suc n) fails =
+    ap (λ b. cond b (Some a) (find p (range_with_len (a + 1) n))) (fails a (omega arith) (omega arith)) ∙ find_none-range p (a + 1) n (λ k le lt. fails k (omega arith) (omega arith))
+
+drop-range : (k a n : ℕ) → drop k (range_with_len a n) ≡ range_with_len (a + k) (n - k)
+drop-range zero a n =
+    let start : a ≡ a + 0 = omega arith in
+    let count : n ≡ n - 0 = omega arith in
+    ap (λ b. range_with_len b n) start ∙ ap (range_with_len (a + 0)) count
+drop-range (suc k) a zero =
+    let none : 0 ≡ 0 - suc k = omega arith in
+    ap (range_with_len (a + suc k)) none
+drop-range (suc k) a (suc n) =
+    let start : (a + 1) + k ≡ a + suc k = omega arith in
+    let count : n - k ≡ suc n - suc k = omega arith in
+    drop-range k (a + 1) n ∙ ap (λ b. range_with_len b (n - k)) start ∙ ap (range_with_len (a + suc k)) count
+
+take-range : (k a n : ℕ) → k ≤ n → take k (range_with_len a n) ≡ range_with_len a k
+take-range zero a n le = refl
+take-range (suc k) a zero le = absurd (omega arith)
+take-range (suc k) a (suc n) le = ap (λ l. a ∷ l) (take-range k (a + 1) n (omega arith))
+
+module _ {X : Type 0} (p q : X → Bool) where
+  filter_step : (a b : Bool) (x : X) (xs : List X) → find p (filter q xs) ≡ find (λ y. q y && p y) xs → q x ≡ a → p x ≡ b → find p (filter q (x ∷ xs)) ≡ find (λ y. q y && p y) (x ∷ xs)
+  filter_step true true x xs rest is passes =
+      ap (λ c. find p (cond c (x ∷ filter q xs) (filter q xs))) is ∙ ap (λ c. cond c (Some x) (find p (filter q xs))) passes
+      ∙ sym (ap (λ c. cond (c && p x) (Some x) (find (λ y. q y && p y) xs)) is ∙ ap (λ c. cond c (Some x) (find (λ y. q y && p y) xs)) passes)
+  filter_step true false x xs rest is fails =
+      ap (λ c. find p (cond c (x ∷ filter q xs) (filter q xs))) is ∙ ap (λ c. cond c (Some x) (find p (filter q xs))) fails ∙ rest
+      ∙ sym (ap (λ c. cond (c && p x) (Some x) (find (λ y. q y && p y) xs)) is ∙ ap (λ c. cond c (Some x) (find (λ y. q y && p y) xs)) fails)
+  filter_step false b x xs rest is passes =
+      ap (λ c. find p (cond c (x ∷ filter q xs) (filter q xs))) is ∙ rest ∙ sym (ap (λ c. cond (c && p x) (Some x) (find (λ y. q y && p y) xs)) is)
+
+  find-filter : (xs : List X) → find p (filter q xs) ≡ find (λ x. q x && p x) xs
+  find-filter [] = refl
+  find-filter (x ∷ xs) = filter_step (q x) (p x) x xs (find-filter xs) refl refl
+
+module _ {X : Type 0} (p : X → Bool) where
+  find-append_some : (xs ys : List X) (x : X) → find p xs ≡ Some x → find p (xs ++ ys) ≡ Some x
+  find-append_some [] ys x is = absurd (cc)
+  find-append_some (y ∷ xs) ys x is =
+      elim (cases_Bool (p y)) [
+        | inl passes ↦ ap (λ c. cond c (Some y) (find p (xs ++ ys))) passes ∙ sym (ap (λ c. cond c (Some y) (find p xs)) passes) ∙ is
+        | inr fails ↦ ap (λ c. cond c (Some y) (find p (xs ++ ys))) fails ∙ find-append_some xs ys x (sym (ap (λ c. cond c (Some y) (find p xs)) fails) ∙ is)
+      ]
+
+  find-append_none : (xs ys : List X) → find p xs ≡ None → find p (xs ++ ys) ≡ find p ys
+  find-append_none [] ys is = refl
+  find-append_none (y ∷ xs) ys is =
+      elim (cases_Bool (p y)) [
+        | inl passes ↦ let some : Some y ≡ None = sym (ap (λ c. cond c (Some y) (find p xs)) passes) ∙ is in absurd (cc)
+        | inr fails ↦ ap (λ c. cond c (Some y) (find p (xs ++ ys))) fails ∙ find-append_none xs ys (sym (ap (λ c. cond c (Some y) (find p xs)) fails) ∙ is)
+      ]
+
+count_some : (n capacity : ℕ) → 0 < capacity → nat_lt 0 (steal_count n capacity) ≡ not (n == 0)
+count_some zero capacity room = le-ltb 0 (steal_count 0 capacity) (omega arith)
+count_some (suc n) capacity room =
+    let some : 0 < steal_count (suc n) capacity = omega arith in
+    let far : suc n ≢ 0 = omega arith in
+    lt-ltb 0 (steal_count (suc n) capacity) some ∙ sym (ap not (ne_eqb (suc n) 0 far))
+
+sub_zero : (n : ℕ) → n - 0 ≡ n
+sub_zero n = omega arith
+
+find_fails : (p : ℕ → Bool) (xs : List ℕ) → ((k : ℕ) → p k ≡ false) → find p xs ≡ None
+find_fails p [] fails = refl
+find_fails p (x ∷ xs) fails = ap (λ c. cond c (Some x) (find p xs)) (fails x) ∙ find_fails p xs fails
+
+module _ {X : Type 0} where
+  gives_is : (r : ℕ) (locals : List (RunnerQueue X)) → 0 < capacity_at r locals → (s : ℕ) → (not (s == r) && can_steal r locals s) ≡ gives r locals s
+  gives_is r locals room s = ap (λ b. not (s == r) && b) (count_some (length (entries_at s locals)) (capacity_at r locals) room)
+
+  victim_is : (r word : ℕ) (locals : List (RunnerQueue X)) → 0 < capacity_at r locals → r < length locals → victim r word locals ≡ find (gives r locals) (range_with_len (word % length locals) (length locals - word % length locals) ++ range_with_len 0 (word % length locals))
+  victim_is r word locals room within =
+      let n = length locals in
+      let start = word % n in
+      let low : start ≤ n = omega arith in
+      let zero_start : 0 + start ≡ start = omega arith in
+      let both : drop start (range_with_len 0 n) ++ take start (range_with_len 0 n) ≡ range_with_len start (n - start) ++ range_with_len 0 start =
+      ap (λ l. l ++ take start (range_with_len 0 n)) (drop-range start 0 n ∙ ap (λ b. range_with_len b (n - start)) zero_start) ∙ ap (λ l. range_with_len start (n - start) ++ l) (take-range start 0 n low) in
+      find-filter (can_steal r locals) (λ s. not (s == r)) (drop start (range_with_len 0 n) ++ take start (range_with_len 0 n))
+      ∙ find-same (λ s. not (s == r) && can_steal r locals s) (gives r locals) (drop start (range_with_len 0 n) ++ take start (range_with_len 0 n)) (gives_is r locals room)
+      ∙ ap (find (gives r locals)) both
+
+  -- where a search looks from its start on, and then from the first position up to it
+  pub victim_after : (r word s n : ℕ) (locals : List (RunnerQueue X)) → n ≡ length locals → capacity_at r locals ≢ 0 → r < length locals → Some s ≡ find (gives r locals) (range_with_len (word % n) (n - word % n)) → Some s ≡ victim r word locals
+  victim_after r word s n locals count some within found =
+      let room : 0 < capacity_at r locals = omega arith in
+      let here = found ∙ ap (λ m. find (gives r locals) (range_with_len (word % m) (m - word % m))) count in
+      sym (victim_is r word locals room within ∙ find-append_some (gives r locals) (range_with_len (word % length locals) (length locals - word % length locals)) (range_with_len 0 (word % length locals)) s (sym here))
+
+  pub victim_before : (r word n : ℕ) (o : Option ℕ) (locals : List (RunnerQueue X)) → n ≡ length locals → capacity_at r locals ≢ 0 → r < length locals → None ≡ find (gives r locals) (range_with_len (word % n) (n - word % n)) → o ≡ find (gives r locals) (range_with_len 0 (word % n - 0)) → o ≡ victim r word locals
+  victim_before r word n o locals count some within none found =
+      let room : 0 < capacity_at r locals = omega arith in
+      let start : word % n - 0 ≡ word % length locals = ap (λ m. word % m - 0) count ∙ sub_zero (word % length locals) in
+      let here = none ∙ ap (λ m. find (gives r locals) (range_with_len (word % m) (m - word % m))) count in
+      found ∙ ap (λ m. find (gives r locals) (range_with_len 0 m)) start
+      ∙ sym (victim_is r word locals room within ∙ find-append_none (gives r locals) (range_with_len (word % length locals) (length locals - word % length locals)) (range_with_len 0 (word % length locals)) (sym here))
+
+  -- nothing can be stolen where nothing has room
+  pub victim_none : (r word : ℕ) (locals : List (RunnerQueue X)) → capacity_at r locals ≡ 0 → None ≡ victim r word locals
+  victim_none r word locals none =
+      sym (find_fails (can_steal r locals) (visits r word (length locals)) (λ s. le-ltb 0 (steal_count (length (entries_at s locals)) (capacity_at r locals)) (omega arith)))
+
+  -- something stands in the queue that a search steals from
+  pub victim_gives : (r word s : ℕ) (locals : List (RunnerQueue X)) → victim r word locals ≡ Some s → 0 < length (entries_at s locals)
+  victim_gives r word s locals found =
+      let moves = victim_moves r word s locals found in
+      omega arith
+
+  pub entries_within : (s : ℕ) (locals : List (RunnerQueue X)) → 0 < length (entries_at s locals) → s < length locals
+  entries_within s [] some = absurd (omega arith)
+  entries_within zero (l ∷ rest) some = omega arith
+  entries_within (suc s) (l ∷ rest) some = let inner = entries_within s rest some in omega arith
+
+-- what a search finds where the runner's own queue is empty
+module _ {X : Type 0} where
+  front_none : (es : List X) → slice_get es 0 ≡ None → es ≡ []
+  front_none [] none = refl
+  front_none (x ∷ es) none = absurd (cc)
+
+  pub with_same : (r : ℕ) (o : Option (RunnerQueue X)) (locals : List (RunnerQueue X)) → slice_get locals r ≡ o → set_entries r (entries_or o) o locals ≡ locals
+  with_same r None locals is = refl
+  with_same r (Some q) locals is = set-here locals r q is
+
+  -- nothing changed where there was no front
+  front_kept : (r : ℕ) (q : QueueLists X) → slice_get (entries_at r q.locals) 0 ≡ None → (let l : QueueLists X = record q { locals = with_entries r (drop 1 (entries_at r q.locals)) q.locals } in l) ≡ q
+  front_kept r q none =
+      let empty = front_none (entries_at r q.locals) none in
+      queues_same _ _ _ _ refl (ap (λ es. with_entries r es q.locals) (ap (drop 1) empty ∙ sym empty) ∙ with_same r (slice_get q.locals r) q.locals refl)
+
+  local_found : (r : ℕ) (es : List X) (q : QueueLists X) → (local_front r es q).0 ≡ slice_get es 0
+  local_found r [] q = refl
+  local_found r (x ∷ es) q = refl
+
+  local_left : (r : ℕ) (es : List X) (q : QueueLists X) → entries_at r q.locals ≡ es → (local_front r es q).1 ≡ record q { locals = with_entries r (drop 1 es) q.locals }
+  local_left r [] q is = sym (queues_same _ _ _ _ refl (ap (λ es. with_entries r es q.locals) (sym is) ∙ with_same r (slice_get q.locals r) q.locals refl))
+  local_left r (x ∷ es) q is = refl
+
+  shared_found : (r word : ℕ) (es : List X) (q : QueueLists X) (x : X) → Some x ≡ (global_front es q).0 → search_shared r word es q ≡ (Some x, global_stolen r (global_front es q).1)
+  shared_found r word [] q x is = absurd (cc)
+  shared_found r word (y ∷ es) q x is = ap (λ o. (o, global_stolen r (record q { global = es }))) (sym is)
+
+  shared_left : (r word : ℕ) (es : List X) (q : QueueLists X) → None ≡ (global_front es q).0 → search_shared r word es q ≡ steal_from r (victim r word q.locals) q
+  shared_left r word [] q none = refl
+  shared_left r word (y ∷ es) q none = absurd (cc)
+
+  search_idle : (k word r : ℕ) (q : QueueLists X) → Some r ≡ position_of k q.locals → entries_at r q.locals ≡ [] → search k word q ≡ search_shared r word q.global q
+  search_idle k word r q place empty = ap (λ o. search_at o word q) (sym place) ∙ ap (λ es. search_own r word es q) empty
+
+-- a runner's search past its own queue, which is empty: what it took of the global queue, and the queues then
+pub record Searched (s after : QueueState) (k r : ℕ) (o : Option TaskId) : Type 0 where
+  pub place : Some r ≡ position_of k s.lists.locals
+  pub idle : entries_at r s.lists.locals ≡ []
+  pub front : o ≡ (search_global s.lists).0
+  pub rest : after ≡ with_lists (search_global s.lists).1 s
+
+pub searched : (s first second after : QueueState) (k r : ℕ) (own o : Option TaskId) → first ≡ s → Some r ≡ position_of k s.lists.locals → own ≡ None → own ≡ slice_get (entries_at r first.lists.locals) 0 → second ≡ with_lists (record first.lists { locals = with_entries r (drop 1 (entries_at r first.lists.locals)) first.lists.locals }) first → o ≡ (search_global second.lists).0 → after ≡ with_lists (search_global second.lists).1 second → Searched s after k r o
+searched s first second after k r own o same place empty own_front own_rest front rest =
+    let none : slice_get (entries_at r first.lists.locals) 0 ≡ None = sym own_front ∙ empty in
+    let kept : second ≡ s = own_rest ∙ ap (λ q. with_lists q first) (front_kept r first.lists none) ∙ same in
+    record {
+      place = place;
+      idle = ap (λ (t : QueueState). entries_at r t.lists.locals) (sym same) ∙ front_none (entries_at r first.lists.locals) none;
+      front = front ∙ ap (λ (t : QueueState). (search_global t.lists).0) kept;
+      rest = rest ∙ ap (λ (t : QueueState). with_lists (search_global t.lists).1 t) kept;
+    }
+
+pub found_global : (s after last : QueueState) (k word r : ℕ) (id : TaskId) → Searched s after k r (Some id) → last ≡ with_lists (global_stolen r after.lists) after → last ≡ with_lists (search k word s.lists).1 s
+found_global s after last k word r id done stolen_here =
+    let found = search_idle k word r s.lists done.place done.idle ∙ shared_found r word s.lists.global s.lists id done.front in
+    stolen_here ∙ ap (λ (t : QueueState). with_lists (global_stolen r t.lists) t) done.rest ∙ ap (λ (p : Option TaskId × QueueLists TaskId). with_lists p.1 s) (sym found)
+
+unchanged : (s after : QueueState) (k r : ℕ) → Searched s after k r None → after ≡ s
+unchanged s after k r done = done.rest ∙ ap (λ q. with_lists q s) (search_global-none s.lists (sym done.front))
+
+from_others : (s after : QueueState) (k word r : ℕ) (o : Option ℕ) → Searched s after k r None → o ≡ victim r word after.lists.locals → search k word s.lists ≡ steal_from r o s.lists
+from_others s after k word r o done chosen =
+    search_idle k word r s.lists done.place done.idle ∙ shared_left r word s.lists.global s.lists done.front
+    ∙ ap (λ v. steal_from r v s.lists) (ap (λ (t : QueueState). victim r word t.lists.locals) (sym (unchanged s after k r done)) ∙ sym chosen)
+
+pub none_found : (s after : QueueState) (k word r : ℕ) → Searched s after k r None → None ≡ victim r word after.lists.locals → None ≡ (search k word s.lists).0
+none_found s after k word r done chosen = ap (λ (p : Option TaskId × QueueLists TaskId). p.0) (sym (from_others s after k word r None done chosen))
+
+pub none_left : (s after : QueueState) (k word r : ℕ) → Searched s after k r None → None ≡ victim r word after.lists.locals → after ≡ with_lists (search k word s.lists).1 s
+none_left s after k word r done chosen = unchanged s after k r done ∙ ap (λ (p : Option TaskId × QueueLists TaskId). with_lists p.1 s) (sym (from_others s after k word r None done chosen))
+
+-- the queue that is stolen from stands in the list, and is another one
+pub victim_within : (r word v : ℕ) (after : QueueState) → Some v ≡ victim r word after.lists.locals → v < length after.lists.locals
+victim_within r word v after chosen = entries_within v after.lists.locals (victim_gives r word v after.lists.locals (sym chosen))
+
+pub victim_apart : (s after : QueueState) (k word r v : ℕ) → Searched s after k r None → Some v ≡ victim r word after.lists.locals → v ≢ r
+victim_apart s after k word r v done chosen same =
+    let some = victim_gives r word v after.lists.locals (sym chosen) in
+    let none : length (entries_at v after.lists.locals) ≡ 0 =
+    ap (λ i. length (entries_at i after.lists.locals)) same ∙ ap (λ (t : QueueState). length (entries_at r t.lists.locals)) (unchanged s after k r done) ∙ ap length done.idle in
+    omega arith
+
+pub stolen_found : (s after left : QueueState) (k word r v : ℕ) (o : Option TaskId) → Searched s after k r None → Some v ≡ victim r word after.lists.locals → left ≡ with_lists (stolen_between v r after.lists) after → o ≡ slice_get (entries_at r left.lists.locals) 0 → o ≡ (search k word s.lists).0
+stolen_found s after left k word r v o done chosen stolen_here front =
+    let lists : left.lists ≡ stolen_between v r s.lists = ap (λ (t : QueueState). t.lists) stolen_here ∙ ap (λ (t : QueueState). stolen_between v r t.lists) (unchanged s after k r done) in
+    let q = stolen_between v r s.lists in
+    front ∙ ap (λ (l : QueueLists TaskId). slice_get (entries_at r l.locals) 0) lists
+    ∙ sym (ap (λ (p : Option TaskId × QueueLists TaskId). p.0) (from_others s after k word r (Some v) done chosen) ∙ local_found r (entries_at r q.locals) q)
+
+pub stolen_left : (s after left last : QueueState) (k word r v : ℕ) → Searched s after k r None → Some v ≡ victim r word after.lists.locals → left ≡ with_lists (stolen_between v r after.lists) after → last ≡ with_lists (record left.lists { locals = with_entries r (drop 1 (entries_at r left.lists.locals)) left.lists.locals }) left → last ≡ with_lists (search k word s.lists).1 s
+stolen_left s after left last k word r v done chosen stolen_here rest =
+    let q = stolen_between v r s.lists in
+    let here : left ≡ with_lists q s = stolen_here ∙ ap (λ (t : QueueState). with_lists (stolen_between v r t.lists) t) (unchanged s after k r done) in
+    rest ∙ ap (λ (t : QueueState). with_lists (record t.lists { locals = with_entries r (drop 1 (entries_at r t.lists.locals)) t.lists.locals }) t) here
+    ∙ ap (λ (l : QueueLists TaskId). with_lists l s) (sym (local_left r (entries_at r q.locals) q refl))
+    ∙ ap (λ (p : Option TaskId × QueueLists TaskId). with_lists p.1 s) (sym (from_others s after k word r (Some v) done chosen))

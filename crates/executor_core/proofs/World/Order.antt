@@ -1,0 +1,204 @@
+-- A lone runner takes tasks in the order in which they were queued.
+use Rattle.std.proofs.Common.{◌≡◌, ◌≢◌, ℕ, Bool, true, false, not, cond, List, [], ◌∷◌, ◌++◌, length, Option, Some, None, refl, sym, ap, ◌∙◌, subst, inl, inr, append_assoc}
+use Rattle.std.proofs.lemmas.Bool.{cases_eq, cases_Bool}
+use Rattle.std.proofs.lemmas.List.{append-nil}
+use Rattle.executor_core.specs.Queues.{QueueLists, entries_of, search, global_front}
+use Rattle.executor_core.specs.Sleepers.{is_notified_number}
+use Rattle.executor_core.specs.World.{Execution}
+use Rattle.executor_core.specs.World.Log.{cancelled, idle, woken, dropped, outputs}
+use Rattle.executor_core.specs.World.Promises.{queues}
+use Rattle.executor_core.specs.World.Tickers.{is_awake, is_run, has_ended, stored, runner_of}
+use Rattle.executor_core.specs.World.Steps.{row, local_places, Spawns, spawn_row, wake_row, cancel_row, drop_handle_row, ready_row, detach_row, dropped_row, exchange_row, notify_row, handle_row, tick_row, run_row, poll_row, sleep_row, yield_row, remove_row, store_row, drop_row, fair_row, unregister_row, Makes, enabled, Does, StepTo, FoldTo, logged, informed, noticed, queued_where, notice_reply, end_reply, return_reply, take_reply, take_row, give_row, placed_where, taking, with_queues, found_row, found_by, search_to_row, ticker}
+use Rattle.executor_core.specs.World.Order.{new_task, noticed_task, requeued_task, taken_task, queued_by, taken_by, queued, taken, searcher, IsAlone, line, LoneStep, LoneOrder}
+use Rattle.executor_core.specs.declared.interleave.entry.TaskInfo.{TaskInfo}
+use Rattle.executor_core.specs.declared.interleave.event.Event.TheVariants.{Returned}
+use Rattle.executor_core.specs.declared.interleave.request.Step.{Step}
+use Rattle.executor_core.specs.declared.interleave.request.Step.TheVariants.{Spawn, Wake, TryTick, Pend, Ready, PollHandle, Cancel, Detach, DropHandle, Dropped as DropDone, Exchange, Notify, Tick, Run, Register, Poll, Search, Sleep, Yield, Remove, Store, Fair, Unregister, Drop}
+use Rattle.executor_core.specs.declared.interleave.reply.Reply.{Reply}
+use Rattle.executor_core.specs.declared.interleave.reply.Reply.TheVariants as reply
+use Rattle.executor_core.proofs.World.OrderQueues.{FindsFront, search_front, search-other, line-fair, alone_registered, line-unregistered}
+
+-- what the replies say of a task
+module _ (T : Type 0) where
+  noticed-notice : (n : ℕ) (b : Bool) → noticed_task n (notice_reply {T = T} b) ≡ cond b (n ∷ []) []
+  noticed-notice n true = refl
+  noticed-notice n false = refl
+
+  noticed-end : (n : ℕ) (b : Bool) (o : Option T) → noticed_task n (end_reply b o) ≡ cond b (n ∷ []) []
+  noticed-end n true o = refl
+  noticed-end n false None = refl
+  noticed-end n false (Some t) = refl
+
+  requeued-return : (n : ℕ) (b : Bool) → requeued_task (return_reply {T = T} n b) ≡ cond b (n ∷ []) []
+  requeued-return n true = refl
+  requeued-return n false = refl
+
+  taken-take : (n : ℕ) (cancel : Bool) → taken_task (take_reply {T = T} n cancel) ≡ n ∷ []
+  taken-take n true = refl
+  taken-take n false = refl
+
+-- a step that is refused queues nothing, and takes nothing
+module _ {P T : Type 0} where
+  refused_queued : (step : Step P T) (answer : Reply T) → new_task answer ≡ [] → ((n : ℕ) → noticed_task n answer ≡ []) → requeued_task answer ≡ [] → queued_by step answer ≡ []
+  refused_queued (Spawn p) answer spawns notices requeues = spawns
+  refused_queued (Wake n) answer spawns notices requeues = notices n
+  refused_queued (Cancel n) answer spawns notices requeues = notices n
+  refused_queued (DropHandle n) answer spawns notices requeues = notices n
+  refused_queued (Pend n) answer spawns notices requeues = requeues
+  refused_queued _ answer spawns notices requeues = refl
+
+  refused_taken : (step : Step P T) (answer : Reply T) → taken_task answer ≡ [] → taken_by step answer ≡ []
+  refused_taken TryTick answer takes = takes
+  refused_taken (Search k word) answer takes = takes
+  refused_taken _ answer takes = refl
+
+-- the queues of worlds that differ in something else
+module _ {T : Type 0} where
+  queues-cond : (b : Bool) (c d : Reply T × Execution T) (q : QueueLists ℕ) → queues c.1 ≡ q → queues d.1 ≡ q → queues (cond b c d).1 ≡ q
+  queues-cond true c d q first second = first
+  queues-cond false c d q first second = second
+
+  queues-placed : (b : Bool) (w : Execution T) → queues (placed_where b w) ≡ queues w
+  queues-placed true w = refl
+  queues-placed false w = refl
+
+  queues-found : (awake : Bool) (k : ℕ) (w : Execution T) → queues (found_row awake k w) ≡ queues w
+  queues-found true k w = queues-placed (not (is_run (ticker k w))) (noticed w)
+  queues-found false k w = refl
+
+  queues-give : (n : ℕ) (given : List T) (w : Execution T) → queues (give_row n given w).1 ≡ queues w
+  queues-give n [] w = refl
+  queues-give n (t ∷ rest) w = refl
+
+-- what a step makes of the line of a runner that is alone before and after it
+module _ {T : Type 0} (r : ℕ) (old new : Execution T) (answer : Reply T) (before : IsAlone r old.locals) (after : IsAlone r new.locals) where
+  -- these were queued, and these were taken
+  abbrev Moves : List ℕ → List ℕ → Type 0
+  Moves queued taken = line r (queues old) ++ queued ≡ taken ++ line r (queues new)
+
+  abbrev Leads : Reply T × Execution T → Type 0
+  Leads p = row p answer new
+
+  lines-row : (p : Reply T × Execution T) → Leads p → line r (queues new) ≡ line r (queues p.1)
+  lines-row p does = ap (λ w. line r (queues w)) does.1
+
+  -- nothing was queued or taken
+  same_line : line r (queues new) ≡ line r (queues old) → Moves [] []
+  same_line same = append-nil (line r (queues old)) ∙ sym same
+
+  quiet : (p : Reply T × Execution T) → Leads p → queues p.1 ≡ queues old → Moves [] []
+  quiet p does same = same_line (lines-row p does ∙ ap (line r) same)
+
+  -- these stand at the global end then
+  abbrev queued_last : List ℕ → QueueLists ℕ
+  queued_last queued = record { global = old.global ++ queued; locals = old.locals }
+
+  queueing : (queued : List ℕ) → queues new ≡ queued_last queued → Moves queued []
+  queueing queued is = append_assoc (entries_of r old.locals) old.global queued ∙ sym (ap (line r) is)
+
+  -- this one stands there, where this holds
+  abbrev queued_if : Bool → ℕ → QueueLists ℕ
+  queued_if b n = record { global = cond b (old.global ++ n ∷ []) old.global; locals = old.locals }
+
+  queued_if-last : (b : Bool) (n : ℕ) → queued_if b n ≡ queued_last (cond b (n ∷ []) [])
+  queued_if-last true n = refl
+  queued_if-last false n = ap (λ (l : List ℕ). let q : QueueLists ℕ = record { global = l; locals = old.locals } in q) (sym (append-nil old.global))
+
+  queueing_if : (b : Bool) (n : ℕ) (queued : Reply T → List ℕ) (p : Reply T × Execution T) → Leads p → queues p.1 ≡ queued_if b n → queued p.0 ≡ cond b (n ∷ []) [] → Moves (queued answer) []
+  queueing_if b n queued p does is says = subst (λ l. Moves l []) (sym (ap queued does.0 ∙ says)) (queueing (cond b (n ∷ []) []) (ap queues does.1 ∙ is ∙ queued_if-last b n))
+
+  pending : (cancel woke : Bool) (n : ℕ) (i : TaskInfo) → Leads (cond cancel (reply.Drop n, informed n i old) (return_reply n woke, queued_where woke n (logged (Returned n) old))) → Moves (requeued_task answer) []
+  pending true woke n i does = queueing_if false n requeued_task (reply.Drop n, informed n i old) does refl refl
+  pending false woke n i does = queueing_if woke n requeued_task (return_reply n woke, queued_where woke n (logged (Returned n) old)) does refl (requeued-return T n woke)
+
+  -- one who looks at the global queue alone takes nothing, where this runner takes what is taken
+  takes_none : (n : ℕ) (cancel : Bool) → answer ≡ take_reply n cancel → (taken_task answer ≢ [] → ⊥) → ⊥
+  takes_none n cancel is never = never (λ none. let one : n ∷ [] ≡ [] = sym (ap taken_task is ∙ taken-take T n cancel) ∙ none in cc)
+
+  no_take : (p : Reply T × Execution T) → Leads p → taken_task p.0 ≡ [] → line r (queues p.1) ≡ line r (queues old) → Moves [] (taken_task answer)
+  no_take p does none same = subst (Moves []) (sym (ap taken_task does.0 ∙ none)) (same_line (lines-row p does ∙ same))
+
+  ticking : (global : List ℕ) → Leads (take_row global old) → (taken_task answer ≢ [] → ⊥) → Moves [] (taken_task answer)
+  ticking [] does never = no_take (reply.NoTask, old) does refl refl
+  ticking (n ∷ rest) does never = absurd (takes_none n (cancelled n old.log) does.0 never)
+
+  searching_global : (k : ℕ) (global : List ℕ) → Leads (search_to_row k (global_front global (queues old)) old) → (taken_task answer ≢ [] → ⊥) → Moves [] (taken_task answer)
+  searching_global k [] does never = no_take (search_to_row k (global_front [] (queues old)) old) does refl refl
+  searching_global k (n ∷ rest) does never = absurd (takes_none n (cancelled n old.log) does.0 never)
+
+  searching_to : (k : ℕ) (found : Option ℕ × QueueLists ℕ) → FindsFront (line r (queues old)) r found → Leads (search_to_row k found old) → Moves [] (taken_task answer)
+  searching_to k (None, q) front does = no_take (search_to_row k (None, q) old) does refl (sym front)
+  searching_to k (Some n, q) front does =
+      let left = lines-row (search_to_row k (Some n, q) old) does ∙ ap (line r) (queues-found (is_awake (ticker k old)) k (with_queues q (taking n old.global old))) in
+      subst (Moves []) (sym (ap taken_task does.0 ∙ taken-take T n (cancelled n old.log))) (append-nil (line r (queues old)) ∙ front ∙ ap (λ l. n ∷ l) (sym left))
+
+  searching : (runner : Option ℕ) (k word : ℕ) → Leads (search_to_row k (found_by runner word (queues old)) old) → (taken_task answer ≢ [] → runner ≡ Some r) → Moves [] (taken_task answer)
+  searching None k word does taker = searching_global k old.global does (λ some. let h = taker some in cc)
+  searching (Some s) k word does taker = elim (cases_eq s r) [
+    | inl same ↦ searching_to k (search s word (queues old)) (subst (λ j. FindsFront (line r (queues old)) r (search j word (queues old))) (sym same) (search_front r word (queues old) before)) does
+    | inr far ↦ searching_global k old.global (subst (λ found. Leads (search_to_row k found old)) (search-other r s word far (queues old) before) does) (λ some. far (let h = taker some in cc))
+  ]
+
+  making : (change : Execution T → Execution T) → queues (change old) ≡ queues old → Makes change old answer new → Moves [] []
+  making change same (inl refused) = same_line (ap (λ w. line r (queues w)) refused.1)
+  making change same (inr made) = quiet (answer, change old) (refl, made.1) same
+
+  spawning : Spawns old answer new → Moves (new_task answer) []
+  spawning (inl refused) = subst (λ l. Moves l []) (sym (ap new_task refused.0)) (same_line (ap (λ w. line r (queues w)) refused.1))
+  spawning (inr made) = queueing_if true (length old.tasks) new_task (reply.Task (length old.tasks), spawn_row made.0 old) (made.2, made.3) refl refl
+
+  -- an enabled step
+  done : {P : Type 0} (step : Step P T) → Does step old answer new → (taken_by step answer ≢ [] → searcher step old ≡ Some r) → Moves (queued_by step answer) (taken_by step answer)
+  done (Spawn p) does taker = spawning does
+  done (Wake n) does taker = queueing_if (idle n old.log) n (noticed_task n) (wake_row n old) does refl (noticed-notice T n (idle n old.log))
+  done (Cancel n) does taker = queueing_if (idle n old.log) n (noticed_task n) (cancel_row n old) does refl (noticed-notice T n (idle n old.log))
+  done (DropHandle n) does taker = queueing_if (idle n old.log) n (noticed_task n) (drop_handle_row n old) does refl (noticed-end T n (idle n old.log) _)
+  done (Pend n) does taker = pending (cancelled n old.log) (woken n old.log) n _ does
+  done TryTick does taker = ticking old.global does (λ some. let h = taker some in cc)
+  done (Search k word) does taker = searching (ticker k old).runner k word does taker
+  done (Fair k) does taker = same_line (lines-row (fair_row k old) does ∙ line-fair r (runner_of (ticker k old)) (queues old) before)
+  done (Register k) does taker = absurd (alone_registered r (runner_of (ticker k old)) local_places (queues old) before (subst (λ w. IsAlone r w.locals) does.1 after))
+  done (Unregister k) does taker = same_line (lines-row (unregister_row k old) does ∙ line-unregistered r (runner_of (ticker k old)) (queues old) before (subst (λ w. IsAlone r w.locals) does.1 after))
+  done (PollHandle n) does taker = quiet (handle_row n old) does (queues-cond (dropped n old.log) _ _ (queues old) (queues-give n (outputs n old.log) old) refl)
+  done (Ready n t) does taker = quiet (ready_row n t old) does refl
+  done (Detach n) does taker = quiet (detach_row n old) does refl
+  done (DropDone n) does taker = quiet (dropped_row n old) does refl
+  done Exchange does taker = quiet (exchange_row old) does refl
+  done Notify does taker = quiet (notify_row old) does refl
+  done Tick does taker = making tick_row refl does
+  done Run does taker = making run_row refl does
+  done (Poll k) does taker = quiet (poll_row k old) does refl
+  done (Sleep k) does taker = quiet (sleep_row k old) does (queues-cond (is_awake (ticker k old)) _ _ (queues old) refl (queues-cond (is_notified_number old.sleepers (ticker k old).number) _ _ (queues old) refl refl))
+  done (Yield k) does taker = quiet (yield_row k old) does refl
+  done (Remove k) does taker = quiet (remove_row k old) does refl
+  done (Store k) does taker = quiet (store_row k old) does (queues-placed (has_ended (stored (ticker k old)).phase) _)
+  done (Drop k) does taker = quiet (drop_row k old) does (queues-cond (is_awake (ticker k old)) _ _ (queues old) refl refl)
+
+  refused : {P : Type 0} (step : Step P T) (a : Reply T) → (answer ≡ a) × (new ≡ old) → queued_by step a ≡ [] → taken_by step a ≡ [] → Moves (queued_by step answer) (taken_by step answer)
+  refused step a is none_queued none_taken = subst (λ l. Moves l (taken_by step answer)) (sym (ap (queued_by step) is.0 ∙ none_queued)) (subst (Moves []) (sym (ap (taken_by step) is.0 ∙ none_taken)) (same_line (ap (λ w. line r (queues w)) is.1)))
+
+  -- a step that is refused, or done
+  one_step : {P : Type 0} (step : Step P T) → StepTo old step answer new → (taken_by step answer ≢ [] → searcher step old ≡ Some r) → Moves (queued_by step answer) (taken_by step answer)
+  one_step step to taker = elim (cases_eq old.accepted old.limit) [
+    | inl full ↦ refused step reply.LogFull (to.full full) (refused_queued step reply.LogFull refl (λ n. refl) refl) (refused_taken step reply.LogFull refl)
+    | inr far ↦ elim (cases_Bool (enabled step old)) [
+      | inl on ↦ done step (to.done far on) taker
+      | inr off ↦ refused step reply.NotNow (to.not_now far off) (refused_queued step reply.NotNow refl (λ n. refl) refl) (refused_taken step reply.NotNow refl)
+    ]
+  ]
+
+joined : (a b c q t qs ts : List ℕ) → a ++ q ≡ t ++ b → b ++ qs ≡ ts ++ c → a ++ (q ++ qs) ≡ (t ++ ts) ++ c
+joined a b c q t qs ts first rest = sym (append_assoc a q qs) ∙ ap (λ l. l ++ qs) first ∙ append_assoc t b qs ∙ ap (λ l. t ++ l) rest ∙ sym (append_assoc t ts c)
+
+module _ {P T : Type 0} where
+  pub lone_order : (old : Execution T) (steps : List (Step P T)) (answers : List (Reply T)) (new : Execution T) → LoneOrder old steps answers new
+  lone_order old steps answers new r run = by_turns old steps answers run.0 run.1
+    where
+      by_turns : (old : Execution T) (steps : List (Step P T)) (answers : List (Reply T)) → IsAlone r old.locals → FoldTo (LoneStep r) old steps answers new → line r (queues old) ++ queued steps answers ≡ taken steps answers ++ line r (queues new)
+      by_turns old [] [] alone run = append-nil (line r (queues old)) ∙ ap (λ w. line r (queues w)) (sym run)
+      by_turns old (step ∷ steps) (answer ∷ answers) alone run =
+          let mid = run.0 in
+          let first = run.1 in
+          joined (line r (queues old)) (line r (queues mid)) (line r (queues new)) (queued_by step answer) (taken_by step answer) (queued steps answers) (taken steps answers) (one_step r old mid answer alone first.alone step first.does first.taker) (by_turns mid steps answers first.alone run.2)
+      by_turns old [] (answer ∷ answers) alone run = absurd run
+      by_turns old (step ∷ steps) [] alone run = absurd run

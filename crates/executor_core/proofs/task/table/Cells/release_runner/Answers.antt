@@ -1,0 +1,21 @@
+use Rattle.std.proofs.Common.{◌≡◌, Bool, true, false, cond, refl, sym, ap, ◌∙◌}
+use Rattle.std.specs.Prelude.{◌-◌}
+use Rattle.executor_core.specs.Cells.Calls.{after_release_runner}
+use Rattle.executor_core.specs.Cells.View.{table_of}
+use Rattle.executor_core.specs.Queues.{is_registered}
+use Rattle.executor_core.proofs.QueueLemmas.{is_registered-map}
+use Rattle.executor_core.proofs.task.table.Cells.release_runner.Goals as goal
+
+ap_cond : {A B : Type 0} (f : A → B) (b : Bool) (x y : A) → f (cond b x y) ≡ cond b (f x) (f y)
+ap_cond f true x y = refl
+ap_cond f false x y = refl
+
+pub returns : goal.returns
+returns g c =
+    let q = c.self.inside.queues in
+    let released = record q { free_places = q.free_places - 1 } in
+    let seen = table_of c.self.inside.next c.self.inside.cells.slots in
+    ap seen c.release_runner.ensures
+    ∙ ap_cond seen (is_registered c.args.key.number q.lists.locals) q released
+    ∙ ap (λ b. cond b (seen q) (seen released)) (sym (is_registered-map (λ id. id.number) c.args.key.number q.lists.locals))
+    ∙ ap (λ s. after_release_runner s c.args.key.number) c.self.view_is
