@@ -8,6 +8,11 @@ fn take(rt: &impl Abort, world: &mut World<u8, u64>, step: Step<u8, u64>, reply:
     assert!(rt; world.step(step) == reply);
 }
 
+// Expects that the step is not enabled.
+fn refuse(rt: &impl Abort, world: &mut World<u8, u64>, step: Step<u8, u64>) {
+    take(rt, world, step, Reply::NotNow);
+}
+
 // Expects the next step of ticker 0, the holder of the lock, and how many notices are out.
 fn expect(
     rt: &impl Abort,
@@ -21,9 +26,14 @@ fn expect(
     assert!(rt; world.notices() == notices);
 }
 
-// Ticker 0 is made, and sleeps under the number 1.
+// Ticker 0, a tick, is made, and sleeps under the number 1.
 fn park(rt: &impl Abort, world: &mut World<u8, u64>) {
     take(rt, world, Step::Tick, Reply::Ticker(0));
+    fall_asleep(rt, world);
+}
+
+// Ticker 0, which is at rest, is polled, and sleeps under the number 1.
+fn fall_asleep(rt: &impl Abort, world: &mut World<u8, u64>) {
     expect(rt, world, Phase::Rest, None, 0);
     take(rt, world, Step::Poll(0), Reply::Done);
     take(rt, world, Step::Search(0, 7), Reply::NoTask);
@@ -116,5 +126,105 @@ fn a_dropped_ticker_passes_its_notice_on(rt: HostRuntime) -> Result<(), Fail> {
     expect(&rt, &world, dropped, Some(0), 1);
     take(&rt, &mut world, Step::Store(0), Reply::Stored(true));
     expect(&rt, &world, Phase::Ended, None, 1);
+    Ok(())
+}
+
+#[test]
+fn a_run_has_a_queue_while_it_is_registered(rt: HostRuntime) -> Result<(), Fail> {
+    let mut world = World::<u8, u64>::new(rt.alloc(), 30)?;
+    for n in 0..3 {
+        take(&rt, &mut world, Step::Spawn(10), Reply::Task(n));
+    }
+    take(&rt, &mut world, Step::Run, Reply::Ticker(0));
+    refuse(&rt, &mut world, Step::Poll(0));
+    refuse(&rt, &mut world, Step::Fair(0));
+    refuse(&rt, &mut world, Step::Unregister(0));
+    refuse(&rt, &mut world, Step::Register(1));
+    take(&rt, &mut world, Step::Register(0), Reply::Done);
+    refuse(&rt, &mut world, Step::Register(0));
+    refuse(&rt, &mut world, Step::Drop(0));
+    take(&rt, &mut world, Step::Fair(0), Reply::Moved(2));
+    let cells = world.cells();
+    assert_eq!(rt; (cells.runners(), cells.local_len(0)), (1, Some(2)));
+    assert_eq!(rt;
+        (cells.local_at(0, 0), cells.global_at(0)),
+        (Some(0), Some(2))
+    );
+    take(&rt, &mut world, Step::Poll(0), Reply::Done);
+    refuse(&rt, &mut world, Step::Fair(0));
+    refuse(&rt, &mut world, Step::Unregister(0));
+    take(&rt, &mut world, Step::Search(0, 5), Reply::Poll(0));
+    expect(&rt, &world, Phase::Rest, None, 4);
+    take(&rt, &mut world, Step::Unregister(0), Reply::Notice);
+    expect(&rt, &world, Phase::Leaving, None, 5);
+    let cells = world.cells();
+    assert_eq!(rt; (cells.runners(), cells.global_len()), (0, 2));
+    assert_eq!(rt;
+        (cells.global_at(0), cells.global_at(1)),
+        (Some(2), Some(1))
+    );
+    refuse(&rt, &mut world, Step::Register(0));
+    refuse(&rt, &mut world, Step::Poll(0));
+    refuse(&rt, &mut world, Step::Fair(0));
+    refuse(&rt, &mut world, Step::Unregister(0));
+    take(&rt, &mut world, Step::Drop(0), Reply::Awake);
+    expect(&rt, &world, Phase::Ended, None, 5);
+    Ok(())
+}
+
+#[test]
+fn a_run_that_was_notified_rests_once_the_flag_is_stored(rt: HostRuntime) -> Result<(), Fail> {
+    let mut world = World::<u8, u64>::new(rt.alloc(), 30)?;
+    take(&rt, &mut world, Step::Run, Reply::Ticker(0));
+    take(&rt, &mut world, Step::Register(0), Reply::Done);
+    fall_asleep(&rt, &mut world);
+    notify(&rt, &mut world);
+    take(&rt, &mut world, Step::Poll(0), Reply::Done);
+    take(&rt, &mut world, Step::Search(0, 7), Reply::Poll(0));
+    expect(&rt, &world, Phase::Wake, None, 1);
+    take(&rt, &mut world, Step::Remove(0), Reply::Notified);
+    take(&rt, &mut world, Step::Store(0), Reply::Stored(true));
+    expect(&rt, &world, Phase::Rest, None, 1);
+    take(&rt, &mut world, Step::Unregister(0), Reply::Nothing);
+    take(&rt, &mut world, Step::Drop(0), Reply::Awake);
+    Ok(())
+}
+
+#[test]
+fn a_run_that_leaves_asleep_needs_the_lock_to_end(rt: HostRuntime) -> Result<(), Fail> {
+    let mut world = World::<u8, u64>::new(rt.alloc(), 30)?;
+    take(&rt, &mut world, Step::Run, Reply::Ticker(0));
+    take(&rt, &mut world, Step::Register(0), Reply::Done);
+    fall_asleep(&rt, &mut world);
+    take(&rt, &mut world, Step::Unregister(0), Reply::Nothing);
+    expect(&rt, &world, Phase::Leaving, None, 0);
+    take(&rt, &mut world, Step::Tick, Reply::Ticker(1));
+    take(&rt, &mut world, Step::Poll(1), Reply::Done);
+    take(&rt, &mut world, Step::Search(1, 0), Reply::NoTask);
+    take(&rt, &mut world, Step::Sleep(1), Reply::Number(2));
+    refuse(&rt, &mut world, Step::Drop(0));
+    take(&rt, &mut world, Step::Store(1), Reply::Stored(false));
+    take(&rt, &mut world, Step::Drop(0), Reply::Unnotified);
+    let dropped = Phase::Store(ListChange::Dropped { notified: false });
+    expect(&rt, &world, dropped, Some(0), 0);
+    take(&rt, &mut world, Step::Store(0), Reply::Stored(false));
+    expect(&rt, &world, Phase::Ended, None, 0);
+    Ok(())
+}
+
+#[test]
+fn a_new_run_is_dropped_before_it_registers(rt: HostRuntime) -> Result<(), Fail> {
+    let mut world = World::<u8, u64>::new(rt.alloc(), 10)?;
+    take(&rt, &mut world, Step::Run, Reply::Ticker(0));
+    take(&rt, &mut world, Step::Tick, Reply::Ticker(1));
+    refuse(&rt, &mut world, Step::Register(1));
+    refuse(&rt, &mut world, Step::Fair(1));
+    refuse(&rt, &mut world, Step::Unregister(1));
+    take(&rt, &mut world, Step::Drop(0), Reply::Awake);
+    refuse(&rt, &mut world, Step::Register(0));
+    refuse(&rt, &mut world, Step::Drop(0));
+    take(&rt, &mut world, Step::Run, Reply::Ticker(2));
+    take(&rt, &mut world, Step::Register(2), Reply::Done);
+    assert_eq!(rt; world.cells().runners(), 1);
     Ok(())
 }
