@@ -1,5 +1,6 @@
 //! What is measured.
 use crate::futures::{IdleWaker, Large, LeavesWaker, Yields};
+use crate::searching::{search_empty, search_own, search_steal};
 use crate::threads::threads_try_tick;
 use crate::ticking::{sleep_wake, spawn_tick, yield_tick};
 use async_executor::{Executor, Future, Poll, TaskWaker, Wake};
@@ -32,6 +33,12 @@ pub enum Row {
     YieldTick,
     /// Put a tick to sleep, wake it by a spawn, and have it run the task.
     SleepWake,
+    /// Search as a runner whose own queue has tasks.
+    SearchOwn,
+    /// Search as a runner that steals 300 tasks of another by halves.
+    SearchSteal,
+    /// Search as one of four runners, with all queues empty.
+    SearchEmpty4,
     /// Spawn, detach and run a task whose future has 4,096 bytes.
     SpawnTryTick4k,
     /// The same, with the future in a box.
@@ -45,7 +52,7 @@ pub enum Row {
 }
 
 impl Row {
-    pub const ALL: [Row; 16] = [
+    pub const ALL: [Row; 19] = [
         Row::SpawnTryTick,
         Row::SpawnDrain,
         Row::YieldTryTick,
@@ -57,6 +64,9 @@ impl Row {
         Row::SpawnTick,
         Row::YieldTick,
         Row::SleepWake,
+        Row::SearchOwn,
+        Row::SearchSteal,
+        Row::SearchEmpty4,
         Row::SpawnTryTick4k,
         Row::SpawnTryTick4kBoxed,
         Row::ThreadsTryTick1,
@@ -78,6 +88,9 @@ impl Row {
             Row::SpawnTick => "spawn_tick",
             Row::YieldTick => "yield_tick",
             Row::SleepWake => "sleep_wake",
+            Row::SearchOwn => "search_own",
+            Row::SearchSteal => "search_steal",
+            Row::SearchEmpty4 => "search_empty_4",
             Row::SpawnTryTick4k => "spawn_try_tick_4k",
             Row::SpawnTryTick4kBoxed => "spawn_try_tick_4k_boxed",
             Row::ThreadsTryTick1 => "threads_try_tick_1",
@@ -109,6 +122,9 @@ impl Row {
             Row::SpawnTick => spawn_tick(rt, alloc, operations),
             Row::YieldTick => yield_tick(rt, alloc, operations),
             Row::SleepWake => sleep_wake(rt, alloc, operations),
+            Row::SearchOwn => search_own(alloc, operations),
+            Row::SearchSteal => search_steal(alloc, operations),
+            Row::SearchEmpty4 => search_empty(alloc, operations),
             Row::SpawnTryTick4k => spawn_large(rt, alloc, operations),
             Row::SpawnTryTick4kBoxed => spawn_boxed(rt, alloc, operations),
             Row::ThreadsTryTick1 => threads_try_tick(rt, alloc, 1, operations),
