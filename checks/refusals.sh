@@ -121,4 +121,5 @@ refuse_steps() {
 find_program exsim
 refuse_steps spawn
 refuse_steps tick
+refuse_steps run
 echo "$passed passed, 0 failed"

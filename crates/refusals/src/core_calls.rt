@@ -2,9 +2,13 @@
 use crate::outcome::{Outcome, count};
 use executor_core::interleave::{Reply, Step, World};
 use executor_core::plain_core::{Core, FlagValue};
+use executor_core::queue::Ring;
 use executor_core::sleepers::Sleepers;
 use executor_core::task::{Cells, Notice, SpawnError};
 use std::alloc::Global;
+
+/// So many runners that each table of theirs grows more than once.
+const RUNNERS: u64 = 5;
 
 // Nobody sleeps, so nobody is to be notified.
 fn spend(notice: Notice) {
@@ -14,9 +18,18 @@ fn spend(notice: Notice) {
     }
 }
 
+// A table, made again where that is refused.
+fn new_cells(alloc: Global, outcome: &mut Outcome) -> Option<Cells<u8, (), ()>> {
+    if let Ok(cells) = Cells::new(alloc) {
+        return Some(cells);
+    }
+    count(&mut outcome.cells_new);
+    Cells::new(alloc).ok()
+}
+
 /// Spawns a task in a table, and again where that is refused: with the same number.
 pub fn spawn_task(alloc: Global, outcome: &mut Outcome) {
-    let Ok(mut cells) = Cells::<u8, (), ()>::new(alloc) else {
+    let Some(mut cells) = new_cells(alloc, outcome) else {
         return outcome.expect(false);
     };
     let future = match cells.spawn(7) {
@@ -37,6 +50,31 @@ pub fn spawn_task(alloc: Global, outcome: &mut Outcome) {
     }
 }
 
+/// Reserves places for runners in a table, each again where that is refused: no number is lost.
+pub fn reserve_runners(alloc: Global, outcome: &mut Outcome) {
+    let Some(mut cells) = new_cells(alloc, outcome) else {
+        return outcome.expect(false);
+    };
+    let mut last = None;
+    for _ in 0..RUNNERS {
+        let mut place = cells.reserve_runner();
+        if place.is_err() {
+            count(&mut outcome.cells_reserve_runner);
+            place = cells.reserve_runner();
+        }
+        outcome.expect(place.is_ok() && place.ok() != last);
+        last = place.ok();
+    }
+}
+
+/// Makes a ring, and again where that is refused.
+pub fn make_ring(alloc: Global, outcome: &mut Outcome) {
+    if Ring::new(alloc, 1).is_err() {
+        count(&mut outcome.ring_new);
+        outcome.expect(Ring::new(alloc, 1).is_ok());
+    }
+}
+
 /// Reserves a sleeper's place, and again where that is refused.
 pub fn reserve_place(alloc: Global, outcome: &mut Outcome) {
     let mut sleepers = Sleepers::<()>::new(alloc);
@@ -46,9 +84,18 @@ pub fn reserve_place(alloc: Global, outcome: &mut Outcome) {
     }
 }
 
+// A core, made again where that is refused.
+fn new_core(alloc: Global, outcome: &mut Outcome) -> Option<Core<(), (), ()>> {
+    if let Ok(core) = Core::new(alloc) {
+        return Some(core);
+    }
+    count(&mut outcome.core_new);
+    Core::new(alloc).ok()
+}
+
 /// Reserves a sleeper's place in a core, and again where that is refused.
 pub fn reserve_in_core(alloc: Global, outcome: &mut Outcome) {
-    let Ok(mut core) = Core::<(), (), ()>::new(alloc) else {
+    let Some(mut core) = new_core(alloc, outcome) else {
         return outcome.expect(false);
     };
     if core.reserve().is_err() {
@@ -97,16 +144,21 @@ pub fn run_world(alloc: Global, outcome: &mut Outcome) {
     outcome.expect(false);
 }
 
+// Makes a tick or a run.
+fn make(world: &mut World<(), u64>, is_run: bool) -> Reply<u64> {
+    world.step(if is_run { Step::Run } else { Step::Tick })
+}
+
 /// Makes a ticker in a world, and again where that is refused: the refused step made none.
-pub fn make_ticker(alloc: Global, outcome: &mut Outcome) {
+pub fn make_ticker(alloc: Global, outcome: &mut Outcome, is_run: bool) {
     let Some(mut world) = one_step_world(alloc, outcome) else {
         return outcome.expect(false);
     };
-    let mut reply = world.step(Step::Tick);
+    let mut reply = make(&mut world, is_run);
     if reply == Reply::OutOfMemory {
         count(&mut outcome.world_step);
         outcome.expect(world.phase(0).is_none());
-        reply = world.step(Step::Tick);
+        reply = make(&mut world, is_run);
     }
     outcome.expect(reply == Reply::Ticker(0));
 }

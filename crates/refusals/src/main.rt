@@ -15,16 +15,23 @@ fn main(rt: HostRuntime) -> io::Result<ExitCode> {
     let alloc = rt.alloc();
     let mut outcome = Outcome::new();
     core_calls::spawn_task(alloc, &mut outcome);
+    core_calls::reserve_runners(alloc, &mut outcome);
+    core_calls::make_ring(alloc, &mut outcome);
     core_calls::reserve_place(alloc, &mut outcome);
     core_calls::reserve_in_core(alloc, &mut outcome);
     core_calls::run_world(alloc, &mut outcome);
-    core_calls::make_ticker(alloc, &mut outcome);
+    core_calls::make_ticker(alloc, &mut outcome, false);
+    core_calls::make_ticker(alloc, &mut outcome, true);
     running::spawn_and_run(&rt, alloc, &mut outcome);
     running::tick_and_run(&rt, alloc, &mut outcome);
     println!(rt;
-        "refused: Cells::spawn {}, Sleepers::reserve {}, Core::reserve {}, World::new {}, World::run {}, World::step {}, Executor::new {}, Executor::spawn {}, Executor::tick {}, steps {}; wrong: {}",
+        "refused: Cells::new {}, Cells::spawn {}, Cells::reserve_runner {}, Ring::new {}, Sleepers::reserve {}, Core::new {}, Core::reserve {}, World::new {}, World::run {}, World::step {}, Executor::new {}, Executor::spawn {}, Executor::tick {}, steps {}; wrong: {}",
+        outcome.cells_new,
         outcome.cells_spawn,
+        outcome.cells_reserve_runner,
+        outcome.ring_new,
         outcome.sleepers_reserve,
+        outcome.core_new,
         outcome.core_reserve,
         outcome.world_new,
         outcome.world_run,
