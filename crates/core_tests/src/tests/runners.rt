@@ -168,3 +168,31 @@ fn a_steal_moves_the_first_half(rt: HostRuntime) -> Result<(), Fail> {
     assert!(rt; target.is_empty());
     Ok(())
 }
+
+// A ring of so many ids, and no room for more.
+fn full_ring(rt: &HostRuntime, cells: &mut Tasks, count: usize) -> Result<Ring, Fail> {
+    let id = spawn(cells, 0)?;
+    let mut ring = Ring::new(rt.alloc(), count)?;
+    for _ in 0..count {
+        if ring.push(id).is_err() {
+            return Err(Fail::from("the ring has no room"));
+        }
+    }
+    Ok(ring)
+}
+
+#[test]
+fn a_steal_moves_as_many_as_there_is_room_for(rt: HostRuntime) -> Result<(), Fail> {
+    let mut cells = Tasks::new(rt.alloc())?;
+    let mut target = Ring::new(rt.alloc(), 512)?;
+    let mut few = full_ring(&rt, &mut cells, 5)?;
+    assert_eq!(rt; steal(&mut few, &mut target), 3);
+    assert_eq!(rt; (few.len(), target.len()), (2, 3));
+    let mut target = Ring::new(rt.alloc(), 512)?;
+    let mut many = full_ring(&rt, &mut cells, 2_000)?;
+    assert_eq!(rt; steal(&mut many, &mut target), 512);
+    assert_eq!(rt; (many.len(), target.len()), (1_488, 512));
+    assert_eq!(rt; steal(&mut many, &mut target), 0);
+    assert_eq!(rt; (many.len(), target.len()), (1_488, 512));
+    Ok(())
+}
