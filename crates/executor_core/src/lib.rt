@@ -1,4 +1,4 @@
-//! Tasks, their queue, the sleepers, and a world of all parties in any order: what the executors
+//! Tasks, their queues, the sleepers, and a world of all parties in any order: what the executors
 //! stand on.
 #![tactic(auto)]
 
