@@ -5,14 +5,20 @@
 #
 # A guard is a file of checks/guards with the lines 'crate: NAME', 'function: PATH' as a check
 # prints it below the crate, 'file: PATH', 'old: TEXT' and 'new: TEXT'. The Nth guard of a function
-# is tried in the Nth round. One with a line 'alone: yes' has a round of its own: it changes a type
-# or its view, which other functions read.
+# is tried in the Nth round, in which a function without an Nth guard stays as its last guard made
+# it: so a round has to prove anew only what it changes. One with a line 'alone: yes' has a round of
+# its own, over right bodies, before the others: it changes a type or its view, which other
+# functions read. The first round of a crate stands on what is kept of it, or else proves it from
+# nothing, and each further one on the round before.
 # Usage: checks/guards.sh [CRATE [FUNCTION..]], anywhere: all guards, or those of a crate, or those
 # of some functions of it. RT names the command rt. Its last line counts the guards.
 # Runs beside the gate.
+# There the libraries below a crate are those that the gate built: GATE names the folder in which it
+# runs, and the file GATE_END is there once it has ended. Else `rt lib` builds them.
 set -eu
 . "$(dirname "$0")/edits"
 checks=$top/checks
+kit=$(dirname "$("$rt" doc)")
 
 # The guards that are asked for.
 asked() {
@@ -24,40 +30,81 @@ asked() {
     done
 }
 
-# Proves a crate in its place where nothing is kept of it: its rounds stand on that proof.
-prove() {
-    [ -d "$top/crates/$1/out/incremental" ] ||
-        (cd "$top/crates/$1" && "$rt" check) > "$copy/log" 2>&1 ||
-        cat "$copy/log"
-}
-
-# The rounds of a crate, as lines 'ROUND FUNCTION GUARD'.
+# The rounds of a crate, as lines 'ROUND FUNCTION GUARD'. Those of one guard come first.
 rounds() {
     while read -r guard; do
         [ "$(field "$guard" crate)" != "$1" ] ||
             echo "$(field "$guard" function) $guard $(field "$guard" alone)"
     done < "$copy/asked" | sort | awk '
-        $3 == "yes" { alone[++others] = $1 " " $2; next }
-        { round = ++count[$1]; if (round > last) last = round; print round, $1, $2 }
-        END { for (n = 1; n <= others; n++) print last + n, alone[n] }' | sort -n
+        $3 == "yes" { print ++alone, $1, $2; next }
+        { lines[++all] = ++count[$1] " " $1 " " $2 }
+        END {
+            for (n = 1; n <= all; n++) {
+                split(lines[n], words, " ")
+                print alone + words[1], words[2], words[3]
+            }
+        }' | sort -n
 }
 
-# Gives the room a crate's sources as they stand in the repository.
-restore() {
-    rm -rf "$room/crates/$1/src" "$room/crates/$1/out/incremental"
-    cp -Rp "$top/crates/$1/src" "$room/crates/$1/src"
+# The guards that are applied in a round, as lines 'ROUND FUNCTION GUARD': the last one of each
+# function up to it, or the round's own where that is alone.
+applied() {
+    alone=$(awk '$1 == '"$2"' { print $3 }' "$copy/$1.rounds" | head -n 1)
+    if [ "$(field "$alone" alone)" = yes ]; then
+        awk '$1 == '"$2" "$copy/$1.rounds"
+    else
+        while read -r round function guard; do
+            [ "$round" -gt "$2" ] || [ "$(field "$guard" alone)" = yes ] ||
+                echo "$round $function $guard"
+        done < "$copy/$1.rounds" | awk '
+            { last[$2] = $0 }
+            END { for (name in last) print last[name] }'
+    fi
 }
 
-# Tries the guards of a round of this crate, the lines of $room/round.
+# Where the library of a crate is built.
+place_of() {
+    if [ -z "${GATE:-}" ]; then
+        (cd "$top/crates/$1" && "$rt" lib) > "$room/library" 2>&1 || cat "$room/library" >&2
+        echo "$top"
+    else
+        while [ ! -f "$GATE_END" ] && [ -d "${GATE_END%/*}" ]; do
+            sleep 1
+        done
+        echo "$GATE"
+    fi
+}
+
+# The words of a check of this crate, each on a line: its root, and the libraries that it uses.
+words() {
+    printf '%s\n' --crate-name "$1"
+    [ ! -f "$top/crates/$1/src/main.rt" ] || echo src/main.rt
+    [ ! -f "$top/crates/$1/src/lib.rt" ] || echo src/lib.rt
+    printf '%s\n' --extern "std=$kit/rlibs/std.rlib" -L "dependency=$kit/rlibs"
+    for library in $(sed -n "s/^$1\( [^:]*\)\{0,1\}://p" "$top/crates.txt"); do
+        folder=$kit/rlibs
+        if [ ! -d "$folder/$library.rlib" ]; then
+            folder=$(place_of "$library")/crates/$library/out/rlib
+            printf '%s\n' -L "dependency=$folder"
+        fi
+        printf '%s\n' --extern "$library=$folder/$library.rlib"
+    done
+    printf '%s\n' --antt-project "$kit/rattle/logic/antt-project.json" \
+        --logic-built "$kit/logic_built" --incremental out/incremental
+}
+
+# Tries the guards of a round of this crate.
 try_round() {
-    restore "$1"
-    cp -Rp "$top/crates/$1/out/incremental" "$room/crates/$1/out/incremental"
+    rm -rf "$room/crates/$1/src"
+    cp -Rp "$top/crates/$1/src" "$room/crates/$1/src"
+    applied "$1" "$2" > "$room/applied"
     while read -r _ _ guard; do
         add_edit "$guard" "$room"
-    done < "$room/round"
-    (cd "$room/crates/$1" && "$rt" check) < /dev/null > "$room/log" 2>&1 || :
+    done < "$room/applied"
+    (cd "$room/crates/$1" && xargs -d '\n' "$kit/bin/rattle" check < "$room/words") \
+        > "$room/log" 2>&1 || :
     (cd "$room/crates/$1" && awk -v crate="$1" -f "$checks/refused.awk" "$room/log") > "$room/found"
-    restore "$1"
+    grep "^$2 " "$copy/$1.rounds" > "$room/round"
     while read -r _ function guard; do
         judge "$function" "$(basename "$guard")"
     done < "$room/round"
@@ -66,7 +113,7 @@ try_round() {
         return
     fi
     awk 'NR == FNR { changed[$2 ":"]; next }
-        !/^(read|waiting )/ && !($2 in changed)' "$room/round" "$room/found" > "$room/others"
+        !/^(read|waiting )/ && !($2 in changed)' "$room/applied" "$room/found" > "$room/others"
     [ ! -s "$room/others" ] ||
         fail "$1: what no guard of this round changes is refused too:" "$room/others"
 }
@@ -85,19 +132,27 @@ judge() {
     fi
 }
 
-# Tries the rounds that are not taken yet, one by one, in a copy of the repository with what is built
-# of its crates. Leaves the counts there.
-try_rounds() {
+# Tries the rounds of the crates that are not taken yet, in a copy of the repository with what is
+# kept of those crates. Leaves the counts there.
+try_crates() {
     room=$1
     mkdir "$room"
-    (cd "$top" && tar cf - --exclude=./.git --exclude='./crates/*/out/incremental' .) |
+    (cd "$top" && tar cf - --exclude=./.git --exclude='./crates/*/out' .) |
         (cd "$room" && tar xf -)
-    while read -r guards crate round; do
-        mkdir "$copy/$crate.$round" 2> /dev/null || continue
-        grep "^$round " "$copy/$crate.rounds" > "$room/round"
-        echo "$crate, round $round: $guards"
-        try_round "$crate"
-    done < "$copy/rounds"
+    while read -r _ crate; do
+        mkdir "$copy/$crate.taken" 2> /dev/null || continue
+        mkdir "$room/crates/$crate/out"
+        [ ! -d "$top/crates/$crate/out/incremental" ] ||
+            cp -Rp "$top/crates/$crate/out/incremental" "$room/crates/$crate/out/incremental"
+        words "$crate" > "$room/words"
+        for round in $(cut -d' ' -f1 "$copy/$crate.rounds" | uniq); do
+            start=$(date +%s)
+            guards=$(grep -c "^$round " "$copy/$crate.rounds")
+            try_round "$crate" "$round"
+            echo "$crate, round $round: $guards guards, $(($(date +%s) - start)) s"
+        done
+        rm -rf "$room/crates/$crate/out"
+    done < "$copy/crates"
     echo "$passed $failed" > "$room/counts"
 }
 
@@ -115,17 +170,13 @@ if [ "$failed" != 0 ]; then
     count || exit
 fi
 
-crates=$(while read -r guard; do field "$guard" crate; done < "$copy/asked" | sort -u)
-for crate in $crates; do
-    prove "$crate"
-done
-for crate in $crates; do
+for crate in $(while read -r guard; do field "$guard" crate; done < "$copy/asked" | sort -u); do
     rounds "$crate" > "$copy/$crate.rounds"
-    cut -d' ' -f1 "$copy/$crate.rounds" | uniq -c | sed -E "s/^ *([0-9]+)/\1 $crate/"
-done | sort -rn > "$copy/rounds"
-# Two at a time, the largest first.
+    echo "$(wc -l < "$copy/$crate.rounds") $crate"
+done | sort -rn > "$copy/crates"
+# Two crates at a time, that with the most guards first.
 for lane in one two; do
-    try_rounds "$copy/$lane" &
+    try_crates "$copy/$lane" &
 done
 wait
 for lane in one two; do

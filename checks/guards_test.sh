@@ -84,14 +84,16 @@ ends() {
 
 guard by_search twice '    x + x\n' '    x + 1\n'
 guard by_an_answer thrice 'double + x\n' 'double + 1\n'
+guard by_search_too twice '    x + x\n' '    x + 2\n'
 guard of_a_constant limit 'u64 = 100' 'u64 = 101' 'alone: yes'
 try_guards
 says 'a goal that no search proves' 'by_search.edit: twice is refused, as it must be: returns$'
+says 'the second guard of a function' 'by_search_too.edit: twice is refused, as it must be: returns$'
 says 'a goal that its answer does not prove' 'by_an_answer.edit: thrice is refused, as it must be: returns$'
 says 'a round of its own' 'of_a_constant.edit: limit is refused, as it must be: returns$'
-ends 'right guards pass' '3 passed, 0 failed' 0
+ends 'right guards pass' '4 passed, 0 failed' 0
 
-rm "$copy/checks/guards/by_an_answer.edit"
+rm "$copy/checks/guards/by_an_answer.edit" "$copy/checks/guards/by_search_too.edit"
 guard of_nothing four 'twice(2)' 'twice(1 + 1)'
 guard of_a_name thrice 'double = twice(x);\n    double + x' 'other = twice(x);\n    other + 1'
 guard of_another four '    x + x\n' '    x + 2\n' 'alone: yes'
