@@ -1,5 +1,7 @@
 pub use Rattle.executor_core.specs.SpawnError
 pub mod Answers
 pub mod Poller
+pub mod RunError
+pub mod Runs
 pub mod Store
 pub mod Ticks

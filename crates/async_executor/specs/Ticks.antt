@@ -1,4 +1,5 @@
 -- What a tick asks for, and what answers it.
+pub mod Courses
 pub mod Decisions
 pub mod Steps
 pub mod Tickers

@@ -1,5 +1,7 @@
 //! The executor whose tasks any thread may run.
 use crate::home::SharedHome;
+pub use crate::runner::RunError;
+use crate::runner::RunIn;
 use crate::scheduler::ExecutorIn;
 pub use crate::task::Cancelled;
 use crate::task::{CancelIn, FallibleTaskIn, TaskIn};
@@ -48,3 +50,11 @@ pub type FallibleTask<F, W, R> = FallibleTaskIn<SharedHome<F, W, R>>;
 ///
 /// Example: `uses::sleeps`, and on threads that park `uses::parks`.
 pub type Tick<'a, F, W, R> = TickIn<'a, SharedHome<F, W, R>>;
+
+/// A future that runs tasks of an executor beside the future G, and ends with the output of G.
+///
+/// Each thread that polls one takes part in the work: a run has a queue of its own, and steals from
+/// the others. Where it is dropped, its tasks go to the queue that all share, and if it was
+/// notified, another sleeper is woken in its place. It stands for the future that `Executor::run` of
+/// the Rust crate gives.
+pub type Run<'a, F, W, R, G> = RunIn<'a, SharedHome<F, W, R>, G>;

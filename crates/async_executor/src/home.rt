@@ -1,13 +1,15 @@
 //! Where the futures and the outputs of an executor's tasks are kept.
-ghost use Rattle.std.specs.Prelude.{◌≡◌, false, IfErr};
+ghost use Rattle.std.specs.Prelude.{◌≡◌, IfErr};
 ghost use Rattle.executor_core.specs.SpawnError.{refused_future};
+ghost use Rattle.async_executor.specs.Store.{IsHeldRight, IsLeftRight, IsEndRight};
 
 use crate::lock::lock;
 use crate::state::{APART, CacheLine, State};
-use crate::store::Store;
+use crate::store::{EndThenSearch, FoundTask, LeftOver, PolledTask, Store};
 use crate::waker::TaskWaker;
+use executor_core::queue::RunnerKey;
 use executor_core::task::{
-    Future, Held, Notice, OutOfMemory, PollHandle, SpawnError, TaskId, Wake, Wakeup,
+    Again, Future, Notice, OutOfMemory, PollHandle, SpawnError, TaskId, Wake,
 };
 use std::alloc::Global;
 use std::sync::{Arc, Mutex, Wait};
@@ -39,23 +41,34 @@ pub trait Home: Drop {
     /// Takes the future of the task, with the waker to poll it with.
     fn take(&self, id: TaskId) -> Option<(Self::Future, TaskWaker<Self::Waker, Self::Runtime>)>;
 
-    /// Keeps the future of the waker's task again. Where the task has no place, both are given
-    /// back.
-    fn put_back(
+    /// Takes a task for a runner, with its future.
+    fn search(
         &self,
-        future: Self::Future,
-        waker: TaskWaker<Self::Waker, Self::Runtime>,
-    ) -> Option<(Self::Future, Arc<State<Self::Waker, Self::Runtime>>)>;
+        key: RunnerKey,
+        word: u64,
+        again: Option<Again>,
+    ) -> Option<FoundTask<Self::Future, Self::Waker, Self::Runtime>>;
 
-    /// Ends a task whose future gave this output. The output is kept where the handle wants it, and
-    /// else given back.
-    fn end_ready(
+    /// Ends a task that was polled, and keeps its future or its output, where the handle wants it.
+    /// There is a notice where the task was queued.
+    fn end(
         &self,
         id: TaskId,
-        held: Held,
-        output: OutputIn<Self>,
-    ) -> (Option<OutputIn<Self>>, Option<Wakeup<Self::Waker>>)
-        requires { held.to_drop ≡ false };
+        polled: PolledTask<Self::Future, Self::Waker, Self::Runtime, OutputIn<Self>>,
+    ) -> Result<Option<Notice>, LeftOver<Self::Future, Self::Waker, Self::Runtime, OutputIn<Self>>>
+        requires { IsHeldRight polled }
+        ensures { IfErr result (λ left. IsLeftRight left) };
+
+    /// Ends a task that was polled, and takes the next one for a runner, with its future.
+    fn end_then_search(
+        &self,
+        id: TaskId,
+        polled: PolledTask<Self::Future, Self::Waker, Self::Runtime, OutputIn<Self>>,
+        key: RunnerKey,
+        word: u64,
+    ) -> EndThenSearch<Self::Future, Self::Waker, Self::Runtime, OutputIn<Self>>
+        requires { IsHeldRight polled }
+        ensures { IsEndRight result };
 
     /// Ends the handle of a task that has ended. The output comes out where there is one, and a
     /// waker that was left. `None` says that the task has not ended.
@@ -135,19 +148,42 @@ where
         lock!(self.shared.store, self.shared.state.rt()).take(id)
     }
 
-    fn put_back(&self, future: F, waker: TaskWaker<W, R>) -> Option<(F, Arc<State<W, R>>)> {
-        lock!(self.shared.store, self.shared.state.rt()).put_back(future, waker)
+    fn search(
+        &self,
+        key: RunnerKey,
+        word: u64,
+        again: Option<Again>,
+    ) -> Option<FoundTask<F, W, R>> {
+        lock!(self.shared.store, self.shared.state.rt()).search(self.state(), key, word, again)
     }
 
-    fn end_ready(
+    #[inline(always)]
+    fn end(
         &self,
         id: TaskId,
-        held: Held,
-        output: F::Output,
-    ) -> (Option<F::Output>, Option<Wakeup<W>>)
-        requires { held.to_drop ≡ false }
+        polled: PolledTask<F, W, R, F::Output>,
+    ) -> Result<Option<Notice>, LeftOver<F, W, R, F::Output>>
+        requires { IsHeldRight polled }
+        ensures { IfErr result (λ left. IsLeftRight left) }
     {
-        lock!(self.shared.store, self.shared.state.rt()).end_ready(self.state(), id, held, output)
+        let mut store = lock!(self.shared.store, self.shared.state.rt());
+        let mut cells = self.state().cells();
+        store.end(&mut cells, id, polled)
+    }
+
+    #[inline(always)]
+    fn end_then_search(
+        &self,
+        id: TaskId,
+        polled: PolledTask<F, W, R, F::Output>,
+        key: RunnerKey,
+        word: u64,
+    ) -> EndThenSearch<F, W, R, F::Output>
+        requires { IsHeldRight polled }
+        ensures { IsEndRight result }
+    {
+        let mut store = lock!(self.shared.store, self.shared.state.rt());
+        store.end_then_search(self.state(), id, polled, key, word)
     }
 
     #[inline(always)]

@@ -6,8 +6,8 @@
 //! There are two tables since a waker has a share of the state, and a future may keep its waker: a
 //! table with futures in it would be a part of itself.
 //!
-//! A `Home` is where the store is kept. `ExecutorIn`, `TaskIn`, `CancelIn`, `FallibleTaskIn` and
-//! `TickIn` are written once for every home, and the public types are names for them at one home.
+//! A `Home` is where the store is kept. `ExecutorIn`, `TaskIn`, `CancelIn`, `FallibleTaskIn`,
+//! `TickIn` and `RunIn` are written once for every home, and the public types are names for them at one home.
 //!
 //! Where both are locked, the store is locked first and the table second. Neither is locked while a
 //! future is polled or dropped, an output is dropped, or a waker is copied, woken or dropped.
@@ -17,6 +17,7 @@ pub mod executor;
 pub(crate) mod home;
 pub(crate) mod lock;
 pub(crate) mod poller;
+pub mod runner;
 pub(crate) mod scheduler;
 pub(crate) mod state;
 pub(crate) mod store;
@@ -24,5 +25,7 @@ pub(crate) mod task;
 pub mod ticker;
 pub(crate) mod waker;
 
-pub use executor::{Cancel, Cancelled, Executor, FallibleTask, Task, TaskWaker, Tick};
+pub use executor::{
+    Cancel, Cancelled, Executor, FallibleTask, Run, RunError, Task, TaskWaker, Tick,
+};
 pub use executor_core::task::{Future, OutOfMemory, Poll, SpawnError, Wake};

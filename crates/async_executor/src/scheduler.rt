@@ -7,17 +7,25 @@
 //! after that.
 ghost use Rattle.std.specs.Prelude.{◌≡◌, true, false, IfOk, IfErr};
 ghost use Rattle.executor_core.specs.SpawnError.{refused_future};
+ghost use Rattle.async_executor.specs.RunError.{run_future};
+ghost use Rattle.async_executor.specs.Store.{IsHeldRight, IsLeftRight};
 
 use crate::home::{Home, OutputIn};
 use crate::poller::TaskPoller;
+use crate::runner::{RunError, RunIn};
 use crate::state::{State, announce};
+use crate::store::{LeftOver, PolledTask};
 use crate::task::TaskIn;
 use crate::ticker::TickIn;
 use crate::waker::TaskWaker;
+use executor_core::queue::Ring;
 use executor_core::task::{
-    EndPending, Held, OutOfMemory, Ran, SpawnError, Taken, TaskId, run_taken,
+    EndPending, Future, Held, OutOfMemory, Ran, SpawnError, Taken, TaskId, run_taken,
 };
 use std::alloc::Global;
+
+// How many tasks the queue of a runner has room for.
+const LOCAL_PLACES: usize = 512;
 
 /// A share of an executor, which spawns tasks and runs them.
 #[derive(Drop)]
@@ -96,54 +104,89 @@ impl<H: Home> ExecutorIn<H> {
         Ok(TickIn::new(self))
     }
 
+    /// A future that runs tasks of the executor beside this one, and ends with its output. In each
+    /// poll this future is polled first, and then tasks are run until none is left, or 200 were run.
+    /// Its places among the sleepers and the runners and its queue are reserved here, and given back
+    /// once it has ended or was dropped.
+    ///
+    /// # Errors
+    ///
+    /// Where memory is refused, or no number is left for the runner, the future is given back and
+    /// all is as before.
+    pub fn run<G: Future<H::Waker>>(&self, future: G) -> Result<RunIn<'_, H, G>, RunError<G>>
+        ensures { IfErr result (λ e. run_future e ≡ future) }
+    {
+        let state = self.state();
+        let Ok(ring) = Ring::new(state.alloc(), LOCAL_PLACES) else {
+            return Err(RunError::OutOfMemory(future));
+        };
+        if state.reserve_sleeper().is_err() {
+            return Err(RunError::OutOfMemory(future));
+        }
+        let reserved = state.cells().reserve_runner();
+        match reserved {
+            Ok(key) => Ok(RunIn::new(self, key, ring, future)),
+            Err(error) => {
+                state.release_sleeper();
+                Err(RunError::of(error, future))
+            }
+        }
+    }
+
     /// What the executor shares with its handles and its wakers.
     pub(crate) fn state(&self) -> &State<H::Waker, H::Runtime> {
         self.home.state()
     }
 
+    /// What keeps the futures of its tasks.
+    pub(crate) fn home(&self) -> &H {
+        &self.home
+    }
+
     /// Polls the future of a taken task once, or drops it where the task was cancelled, and ends
     /// the task. No lock may be held.
-    pub(crate) fn run_task(&self, taken: Taken<()>)
-        requires { taken.held.to_drop ≡ false }
-    {
+    pub(crate) fn run_task(&self, taken: Taken<()>) {
         let id = taken.id();
-        let mut poller = TaskPoller::new(id, self.home.take(id));
-        match run_taken(taken, &mut poller) {
-            Ran::Pending(held, ()) => self.end_pending(id, held, poller.into_out()),
-            Ran::Ready(held, output) => self.end_ready(id, held, output),
-            Ran::Dropped(held) => self.end_dropped(held),
+        let polled = poll_taken::<H>(taken, self.home.take(id));
+        self.end(id, polled);
+    }
+
+    /// Ends a task that was polled. No lock may be held.
+    #[inline(always)]
+    pub(crate) fn end(&self, id: TaskId, polled: PolledIn<H>)
+        requires { IsHeldRight polled }
+    {
+        match polled {
+            PolledTask::Dropped(held) => self.end_dropped(held),
+            polled => match self.home.end(id, polled) {
+                Ok(None) => {}
+                Ok(Some(notice)) => announce!(self.home.state(), notice),
+                Err(left) => self.finish(id, left),
+            },
         }
     }
 
-    // Puts back a future that is not ready.
-    fn end_pending(
-        &self,
-        id: TaskId,
-        held: Held,
-        out: Option<(H::Future, TaskWaker<H::Waker, H::Runtime>)>,
-    )
-        requires { held.to_drop ≡ false }
+    /// Does what the end of a task has left to do. No lock may be held.
+    pub(crate) fn finish(&self, id: TaskId, left: LeftOverIn<H>)
+        requires { IsLeftRight left }
     {
-        if let Some((future, waker)) = out {
-            drop(self.home.put_back(future, waker));
-        }
-        let state = self.home.state();
-        let mut cells = state.cells();
-        match cells.end_pending(held, ()) {
-            EndPending::Back(None) => {}
-            EndPending::Back(Some(notice)) => {
-                drop(cells);
-                announce!(state, notice);
+        match left {
+            LeftOver::Finished(unwanted, awaiter) => {
+                drop(unwanted);
+                if let Some(awaiter) = awaiter {
+                    awaiter.wake();
+                }
             }
-            EndPending::Drop((), held) => {
-                drop(cells);
-                self.drop_pending(id, held);
+            LeftOver::ToDrop(held) => self.drop_pending(id, held),
+            LeftOver::Refused(held, future, share) => {
+                drop(future);
+                drop(share);
+                self.end_refused(id, held);
             }
         }
     }
 
     // Drops a future that was put back, whose task was cancelled while it was polled.
-    #[inline(always)]
     fn drop_pending(&self, id: TaskId, held: Held)
         requires { held.to_drop ≡ true }
     {
@@ -151,15 +194,17 @@ impl<H: Home> ExecutorIn<H> {
         self.end_dropped(held);
     }
 
-    // Leaves the output to the handle. Where none is there, or the task was cancelled meanwhile,
-    // the output is dropped.
-    fn end_ready(&self, id: TaskId, held: Held, output: OutputIn<H>)
+    // Ends a task whose future had no place.
+    #[cold]
+    #[inline(never)]
+    fn end_refused(&self, id: TaskId, held: Held)
         requires { held.to_drop ≡ false }
     {
-        let (unwanted, awaiter) = self.home.end_ready(id, held, output);
-        drop(unwanted);
-        if let Some(awaiter) = awaiter {
-            awaiter.wake();
+        let ended = self.state().cells().end_pending(held, ());
+        match ended {
+            EndPending::Back(None) => {}
+            EndPending::Back(Some(notice)) => announce!(self.home.state(), notice),
+            EndPending::Drop((), held) => self.drop_pending(id, held),
         }
     }
 
@@ -172,5 +217,42 @@ impl<H: Home> ExecutorIn<H> {
         if let Some(awaiter) = awaiter {
             awaiter.wake();
         }
+    }
+}
+
+/// The future of a task of a home while it is out, with its waker.
+pub(crate) type OutIn<H> = Option<
+    (
+        <H as Home>::Future,
+        TaskWaker<<H as Home>::Waker, <H as Home>::Runtime>,
+    ),
+>;
+
+/// A task of a home that was polled, and what its end leaves to do.
+pub(crate) type PolledIn<H> = PolledTask<
+    <H as Home>::Future,
+    <H as Home>::Waker,
+    <H as Home>::Runtime,
+    OutputIn<H>,
+>;
+
+pub(crate) type LeftOverIn<H> = LeftOver<
+    <H as Home>::Future,
+    <H as Home>::Waker,
+    <H as Home>::Runtime,
+    OutputIn<H>,
+>;
+
+/// Polls the future of a taken task once, or drops it where the task was cancelled. No lock may be
+/// held.
+#[inline(always)]
+pub(crate) fn poll_taken<H: Home>(taken: Taken<()>, out: OutIn<H>) -> PolledIn<H>
+    ensures { IsHeldRight result }
+{
+    let mut poller = TaskPoller::new(taken.id(), out);
+    match run_taken(taken, &mut poller) {
+        Ran::Pending(held, ()) => PolledTask::Pending(held, poller.into_out()),
+        Ran::Ready(held, output) => PolledTask::Ready(held, output),
+        Ran::Dropped(held) => PolledTask::Dropped(held),
     }
 }

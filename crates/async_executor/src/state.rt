@@ -39,6 +39,7 @@ pub struct State<W, R> {
     before_flag: CacheLine,
     flag: Flag,
     rt: R,
+    alloc: Global,
 }
 
 /// As many bytes as a cache line has, between fields that different threads write.
@@ -57,12 +58,18 @@ impl<W: Wake, R: Wait + Clone + Drop> State<W, R> {
             before_flag: APART,
             flag: Flag::new(),
             rt,
+            alloc,
         })
     }
 
     /// The right to wait.
     pub(crate) fn rt(&self) -> &R {
         &self.rt
+    }
+
+    /// The allocator.
+    pub(crate) fn alloc(&self) -> Global {
+        self.alloc
     }
 
     /// Waits for the table of tasks, which is locked until the guard is dropped. It comes with its

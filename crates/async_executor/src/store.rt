@@ -5,12 +5,14 @@
 //! is not taken for it.
 ghost use Rattle.std.specs.Prelude.{◌≡◌, ◌<◌, [], false, cond, Some, None, OnOk, IfErr, IsTrue, is_some, vec_len};
 ghost use Rattle.executor_core.specs.SpawnError.{refused_future};
-ghost use Rattle.async_executor.specs.Store.{kept_at, is_vacant, future_in, output_in, inserted, with_place, HasRoom};
+ghost use Rattle.async_executor.specs.Store.{IsHeldRight, IsLeftRight, IsEndRight, kept_at, is_vacant, future_in, output_in, inserted, with_place, HasRoom};
 
 use crate::state::State;
 use crate::waker::TaskWaker;
+use executor_core::queue::RunnerKey;
 use executor_core::task::{
-    EndReady, Held, Notice, OutOfMemory, PollHandle, SpawnError, TaskId, Wake, Wakeup,
+    Again, Cells, EndPending, EndReady, Held, Notice, OutOfMemory, PollHandle, SpawnError, Taken,
+    TaskId, Wake, Wakeup,
 };
 use std::alloc::Global;
 use std::sync::{Arc, Wait};
@@ -166,6 +168,41 @@ impl<F: Drop, S: Drop, T: Drop> Store<F, S, T> {
     }
 }
 
+/// A task that a search took, and the notice of its take. The future is out, with its waker.
+pub struct FoundTask<F, W, R> {
+    pub(crate) taken: Taken<()>,
+    pub(crate) notice: Notice,
+    pub(crate) out: Option<(F, TaskWaker<W, R>)>,
+}
+
+/// A taken task whose future was polled once, or dropped.
+pub enum PolledTask<F, W, R, T> {
+    /// The future is pending, and out with its waker.
+    Pending(Held, Option<(F, TaskWaker<W, R>)>),
+    /// The future gave this output and was dropped.
+    Ready(Held, T),
+    /// The task was cancelled, and the future was dropped.
+    Dropped(Held),
+}
+
+/// What the end of a task leaves to do once no lock is held.
+pub enum LeftOver<F, W, R, T> {
+    /// The future has no place. It is to be dropped, and then the task is to be ended.
+    Refused(Held, F, Arc<State<W, R>>),
+    /// The task was cancelled meanwhile. The future is to be dropped.
+    ToDrop(Held),
+    /// The output is to be dropped, and the awaiter to be woken.
+    Finished(Option<T>, Option<Wakeup<W>>),
+}
+
+/// What came of the end of a task and of a search after it, made as one change.
+pub enum EndThenSearch<F, W, R, T> {
+    /// The task was ended, with a notice where it was queued. This is what the search found.
+    Searched(Option<Notice>, Option<FoundTask<F, W, R>>),
+    /// The end leaves something to do first, so nothing was searched.
+    Left(LeftOver<F, W, R, T>),
+}
+
 // Each of these is one change of the store, with one of the table inside it where that has to
 // change with it. They are the calls of a `Home`.
 impl<F: Drop, W: Wake, R: Wait + Clone + Drop, T: Drop> Store<F, Arc<State<W, R>>, T> {
@@ -196,28 +233,87 @@ impl<F: Drop, W: Wake, R: Wait + Clone + Drop, T: Drop> Store<F, Arc<State<W, R>
         Some((future, TaskWaker::new(state, id)))
     }
 
-    pub(crate) fn put_back(
+    /// Takes a task for a runner, with its future.
+    pub(crate) fn search(
         &mut self,
-        future: F,
-        waker: TaskWaker<W, R>,
-    ) -> Option<(F, Arc<State<W, R>>)> {
+        state: &State<W, R>,
+        key: RunnerKey,
+        word: u64,
+        again: Option<Again>,
+    ) -> Option<FoundTask<F, W, R>> {
+        let found = state.cells().search(key, word, again);
+        self.with_future(found)
+    }
+
+    // Takes the future of a task that was found.
+    #[inline(always)]
+    fn with_future(&mut self, found: Option<(Taken<()>, Notice)>) -> Option<FoundTask<F, W, R>> {
+        let (taken, notice) = found?;
+        let out = self.take(taken.id());
+        Some(FoundTask { taken, notice, out })
+    }
+
+    /// Ends a task, and keeps its future or output. There is a notice where it was queued.
+    #[inline(always)]
+    pub(crate) fn end(
+        &mut self,
+        cells: &mut Cells<(), (), W>,
+        id: TaskId,
+        polled: PolledTask<F, W, R, T>,
+    ) -> Result<Option<Notice>, LeftOver<F, W, R, T>>
+        requires { IsHeldRight polled }
+        ensures { IfErr result (λ left. IsLeftRight left) }
+    {
+        match polled {
+            PolledTask::Pending(held, out) => {
+                if let Some((future, waker)) = out {
+                    if let Some((future, share)) = self.put_back(future, waker) {
+                        return Err(LeftOver::Refused(held, future, share));
+                    }
+                }
+                match cells.end_pending(held, ()) {
+                    EndPending::Back(notice) => Ok(notice),
+                    EndPending::Drop((), held) => Err(LeftOver::ToDrop(held)),
+                }
+            }
+            PolledTask::Ready(held, output) => {
+                let EndReady { awaiter, unwanted } = cells.end_ready(held, ());
+                let unwanted = match unwanted {
+                    Some(()) => Some(output),
+                    None => self.keep_output(id, output),
+                };
+                finished(unwanted, awaiter)
+            }
+            PolledTask::Dropped(held) => finished(None, cells.end_dropped(held)),
+        }
+    }
+
+    fn put_back(&mut self, future: F, waker: TaskWaker<W, R>) -> Option<(F, Arc<State<W, R>>)> {
         let (state, id) = waker.into_parts();
         self.keep_future(id, future, state)
     }
 
-    pub(crate) fn end_ready(
+    /// Ends a task, and takes the next one for a runner.
+    #[inline(always)]
+    pub(crate) fn end_then_search(
         &mut self,
         state: &State<W, R>,
         id: TaskId,
-        held: Held,
-        output: T,
-    ) -> (Option<T>, Option<Wakeup<W>>)
-        requires { held.to_drop ≡ false }
+        polled: PolledTask<F, W, R, T>,
+        key: RunnerKey,
+        word: u64,
+    ) -> EndThenSearch<F, W, R, T>
+        requires { IsHeldRight polled }
+        ensures { IsEndRight result }
     {
-        let EndReady { awaiter, unwanted } = state.cells().end_ready(held, ());
-        match unwanted {
-            Some(()) => (Some(output), awaiter),
-            None => (self.keep_output(id, output), awaiter),
+        let mut cells = state.cells();
+        match self.end(&mut cells, id, polled) {
+            Ok(notice) => {
+                let found = cells.search(key, word, None);
+                drop(cells);
+                EndThenSearch::Searched(notice, self.with_future(found))
+            }
+            Err(left) => EndThenSearch::Left(left),
         }
     }
 
@@ -249,5 +345,19 @@ impl<F: Drop, W: Wake, R: Wait + Clone + Drop, T: Drop> Store<F, Arc<State<W, R>
             PollHandle::Cancelled(waker) => PollHandle::Cancelled(waker),
             PollHandle::Pending(before) => PollHandle::Pending(before),
         }
+    }
+}
+
+// What is left to do of a task that has ended.
+#[inline(always)]
+fn finished<F, W, R, T>(
+    unwanted: Option<T>,
+    awaiter: Option<Wakeup<W>>,
+) -> Result<Option<Notice>, LeftOver<F, W, R, T>>
+    ensures { IfErr result (λ left. IsLeftRight left) }
+{
+    match (unwanted, awaiter) {
+        (None, None) => Ok(None),
+        (unwanted, awaiter) => Err(LeftOver::Finished(unwanted, awaiter)),
     }
 }

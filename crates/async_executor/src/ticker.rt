@@ -28,4 +28,4 @@ mod machine;
 mod tick;
 
 pub use machine::{TickAction, TickEnd, TickMachine, TickNext, TickReply, TickRest};
-pub(crate) use tick::TickIn;
+pub(crate) use tick::{TickIn, insert, remove, update};

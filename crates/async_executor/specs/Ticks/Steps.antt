@@ -1,6 +1,6 @@
 -- Which steps of a ticker a reply stands for.
 use Rattle.std.specs.Prelude.{Bool, true, false, cond, is_some}
-use Rattle.executor_core.specs.World.Tickers.{is_awake, polled, searched, slept, rested, woke, dropped, ended, stored}
+use Rattle.executor_core.specs.World.Tickers.{is_awake, is_run, polled, searched, slept, rested, woke, dropped, ended, stored, left}
 use Rattle.executor_core.specs.declared.interleave.ticker.Ticker.{Ticker}
 use Rattle.async_executor.specs.declared.ticker.machine.State.{State}
 use Rattle.async_executor.specs.declared.ticker.machine.State.TheVariants.{Leaving}
@@ -13,10 +13,14 @@ abbrev pub has_task : State → Bool
 has_task (Leaving (Removing number found)) = is_some found
 has_task _ = false
 
+-- a run that is dropped has left before
+abbrev pub departed : Ticker → Ticker
+departed t = cond (is_run t) (left t) t
+
 -- what the steps make of the ticker; the values that a reply gives out to be spent are spent by no step of the ticker's own
 abbrev pub leads : {W : Type 0} → State → TickReply W → Ticker → Ticker
 leads state Begin t = polled t
-leads state Dropped t = cond (is_awake t) (ended t) t
+leads state Dropped t = cond (is_awake t) (ended t) (departed t)
 leads state (Found taken notice) t = searched true t
 leads state Empty t = searched false t
 leads state NoWaker t = rested t
@@ -31,4 +35,4 @@ leads state (StoredRemoved notice) t = stored t
 leads state (Exchanged pick) t = t
 leads state (Notified wakeup) t = t
 leads state Woken t = t
-leads state Ran t = t
+leads state Ran t = ended t

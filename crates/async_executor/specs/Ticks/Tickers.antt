@@ -1,5 +1,6 @@
--- What a world of tickers sees of a machine: which of its steps comes next, and its number.
-use Rattle.std.specs.Prelude.{ℕ, Bool, false, Some, None, cond, is_some}
+-- What a world of tickers sees of a machine: which of its steps comes next, and its number. A tick
+-- may act for a run, and then it is seen as the run of that runner.
+use Rattle.std.specs.Prelude.{ℕ, Bool, false, Option, Some, None, cond, is_some}
 use Rattle.executor_core.specs.declared.interleave.ticker.ListChange.TheVariants.{Slept, Woke, Dropped}
 use Rattle.executor_core.specs.declared.interleave.ticker.Phase.{Phase}
 use Rattle.executor_core.specs.declared.interleave.ticker.Phase.TheVariants as phase
@@ -14,32 +15,43 @@ use Rattle.async_executor.specs.declared.ticker.machine.TickNext.{TickNext}
 use Rattle.async_executor.specs.declared.ticker.machine.TickNext.TheVariants.{Act, Rest}
 use Rattle.async_executor.specs.declared.ticker.machine.TickRest.{TickRest}
 
--- it is a tick, so it has no runner
-abbrev pub ticker_at : Phase → ℕ → Ticker
-ticker_at phase number = record { phase = phase; number = number; runner = None }
+-- the ticker of a tick, or of the run of a runner for which the tick acts
+abbrev pub ticker_at : Option ℕ → Phase → ℕ → Ticker
+ticker_at runner phase number = record { phase = phase; number = number; runner = runner }
+
+-- one that has found a task: a tick has ended, and a run is at rest
+abbrev pub found_phase : Option ℕ → Phase
+found_phase runner = cond (is_some runner) phase.Rest phase.Ended
+
+-- one that is dropped and has a number: a run has left before
+abbrev pub dropped_phase : Option ℕ → Phase
+dropped_phase runner = cond (is_some runner) phase.Leaving phase.Rest
 
 -- the ticker of a machine, by the action that it asked for last; after the removal of its number, by whether that was notified
-abbrev pub ticker_in : Bool → State → Ticker
-ticker_in notified (Resting number) = ticker_at phase.Rest number
-ticker_in notified (Searching number) = ticker_at phase.Search number
-ticker_in notified Inserting = ticker_at phase.Sleep 0
-ticker_in notified (Updating number) = ticker_at phase.Sleep number
-ticker_in notified (Storing number) = ticker_at (phase.Store Slept) number
-ticker_in notified (Leaving (Removing number (Some found))) = ticker_at phase.Wake number
-ticker_in notified (Leaving (Removing number None)) = ticker_at phase.Rest number
-ticker_in notified (Leaving (StoringRemoved (Some found))) = ticker_at (phase.Store (Woke notified)) 0
-ticker_in notified (Leaving (StoringRemoved None)) = ticker_at (phase.Store (Dropped notified)) 0
-ticker_in notified (Leaving (Exchanging taken)) = ticker_at phase.Ended 0
-ticker_in notified (Leaving (Notifying taken)) = ticker_at phase.Ended 0
-ticker_in notified (Leaving (Waking taken)) = ticker_at phase.Ended 0
-ticker_in notified (Leaving Running) = ticker_at phase.Ended 0
+abbrev pub ticker_in : Option ℕ → Bool → State → Ticker
+ticker_in runner notified (Resting number) = ticker_at runner phase.Rest number
+ticker_in runner notified (Searching number) = ticker_at runner phase.Search number
+ticker_in runner notified Inserting = ticker_at runner phase.Sleep 0
+ticker_in runner notified (Updating number) = ticker_at runner phase.Sleep number
+ticker_in runner notified (Storing number) = ticker_at runner (phase.Store Slept) number
+ticker_in runner notified (Leaving (Removing number (Some found))) = ticker_at runner phase.Wake number
+ticker_in runner notified (Leaving (Removing number None)) = ticker_at runner (dropped_phase runner) number
+ticker_in runner notified (Leaving (StoringRemoved (Some found))) = ticker_at runner (phase.Store (Woke notified)) 0
+ticker_in runner notified (Leaving (StoringRemoved None)) = ticker_at runner (phase.Store (Dropped notified)) 0
+ticker_in runner notified (Leaving (Exchanging (Some taken))) = ticker_at runner (found_phase runner) 0
+ticker_in runner notified (Leaving (Exchanging None)) = ticker_at runner phase.Ended 0
+ticker_in runner notified (Leaving (Notifying (Some taken))) = ticker_at runner (found_phase runner) 0
+ticker_in runner notified (Leaving (Notifying None)) = ticker_at runner phase.Ended 0
+ticker_in runner notified (Leaving (Waking (Some taken))) = ticker_at runner (found_phase runner) 0
+ticker_in runner notified (Leaving (Waking None)) = ticker_at runner phase.Ended 0
+ticker_in runner notified (Leaving Running) = ticker_at runner (found_phase runner) 0
 
-abbrev pub ticker_of : Bool → TickMachine → Ticker
-ticker_of notified machine = ticker_in notified machine.state
+abbrev pub ticker_of : Option ℕ → Bool → TickMachine → Ticker
+ticker_of runner notified machine = ticker_in runner notified machine.state
 
 -- the ticker of a tick between its polls
-abbrev pub rest_ticker : TickRest → Ticker
-rest_ticker rest = ticker_at (cond rest.ended phase.Ended phase.Rest) rest.number
+abbrev pub rest_ticker : Option ℕ → TickRest → Ticker
+rest_ticker runner rest = ticker_at runner (cond rest.ended phase.Ended phase.Rest) rest.number
 
 module _ {W : Type 0} where
   -- the change that is to be stored says whether the number that was removed was notified
@@ -48,6 +60,6 @@ module _ {W : Type 0} where
   removed_notified _ = false
 
   -- the ticker after a decision
-  abbrev pub ticker_after : TickNext W → Ticker
-  ticker_after (Act machine action) = ticker_of (removed_notified action) machine
-  ticker_after (Rest rest end) = rest_ticker rest
+  abbrev pub ticker_after : Option ℕ → TickNext W → Ticker
+  ticker_after runner (Act machine action) = ticker_of runner (removed_notified action) machine
+  ticker_after runner (Rest rest end) = rest_ticker runner rest

@@ -13,8 +13,9 @@
 //! leave open is the table of `specs/Ticks/Decisions.antt`.
 //!
 //! It is awake exactly where its number is 0, which no sleeper has.
-ghost use Rattle.std.specs.Prelude.{◌≡◌, Bool, true, false};
-ghost use Rattle.async_executor.specs.Ticks.{answers, asked, asked_in, store_asked, store_after, AskStart, IsAsked};
+ghost use Rattle.std.specs.Prelude.{◌≡◌, ℕ, Bool, true, false, Option, Some, None};
+ghost use Rattle.async_executor.specs.Ticks.{answers, asked, asked_in, store_asked, store_after, AskRun, AskStart, IsAsked};
+ghost use Rattle.async_executor.specs.Ticks.Courses.{course, course_in, KeepsCourse};
 ghost use Rattle.async_executor.specs.Ticks.Decisions.{act, leave_by, rest, returned, run_or_return, after_removal, Decides, DecidesIn};
 ghost use Rattle.async_executor.specs.Ticks.Tickers.{ticker_of, ticker_in, ticker_after, rest_ticker};
 ghost use Rattle.async_executor.specs.Ticks.Steps.{leads};
@@ -45,6 +46,16 @@ impl TickRest {
         ensures { result ≡ self.ended }
     {
         self.ended
+    }
+
+    /// That of a tick that sleeps under this number, or is awake where the number is 0.
+    pub(crate) fn at(number: usize) -> TickRest
+        ensures { result ≡ record { number = number; ended = false } }
+    {
+        TickRest {
+            number,
+            ended: false,
+        }
     }
 
     /// The number under which the tick sleeps, or 0 where it is awake.
@@ -179,8 +190,7 @@ fn leave_by<W>(state: LeavingState, action: TickAction<W>) -> TickNext<W>
 fn rest<W>(number: usize, end: TickEnd) -> TickNext<W>
     ensures { result ≡ rest number end }
 {
-    let ended = false;
-    TickNext::Rest(TickRest { number, ended }, end)
+    TickNext::Rest(TickRest::at(number), end)
 }
 
 // The tick has ended.
@@ -206,9 +216,46 @@ impl TickMachine {
     pub fn new() -> TickRest
         ensures { result ≡ record { number = 0; ended = false } }
     {
-        TickRest {
-            number: 0,
-            ended: false,
+        TickRest::at(0)
+    }
+
+    /// What a machine decides that has this notice to spend, and then returns.
+    #[inline(always)]
+    pub(crate) fn pass_on<W>(notice: Notice) -> TickNext<W>
+        ensures { result ≡ leave_by (LeavingState.Exchanging None) (TickAction.Exchange notice) }
+    {
+        leave_by(Exchanging(None), Exchange(notice))
+    }
+
+    /// The machine of a tick that is awake and searches.
+    #[inline(always)]
+    pub(crate) fn searching() -> TickMachine
+        ensures { result ≡ record { state = State.Searching 0 } }
+    {
+        TickMachine {
+            state: Searching(0),
+        }
+    }
+
+    /// The machine of a tick that spends the notice of this task.
+    #[inline(always)]
+    pub(crate) fn exchanging(taken: Taken<()>) -> TickMachine
+        ensures { result ≡ record { state = State.Leaving (LeavingState.Exchanging (Some taken)) } }
+    {
+        TickMachine {
+            state: Leaving(Exchanging(Some(taken))),
+        }
+    }
+
+    /// Lets the machine of a tick go whose task was run. It has nothing to spend.
+    #[inline(always)]
+    pub(crate) fn end_run(self)
+        requires { asked self ≡ AskRun }
+    {
+        let TickMachine { state } = self;
+        match state {
+            Leaving(Running) => {}
+            _ => unreachable!(),
         }
     }
 
@@ -216,8 +263,9 @@ impl TickMachine {
     #[inline(always)]
     pub fn start(rest: TickRest) -> TickMachine
         requires { rest.ended ≡ false }
+        ensures machine { result ≡ record { state = State.Resting rest.number } }
         ensures asked { asked result ≡ AskStart }
-        ensures ticker { (notified : Bool) → ticker_of notified result ≡ rest_ticker rest }
+        ensures ticker { (runner : Option ℕ) (notified : Bool) → ticker_of runner notified result ≡ rest_ticker runner rest }
     {
         TickMachine {
             state: Resting(rest.number),
@@ -233,7 +281,8 @@ impl TickMachine {
         ensures decided { Decides self reply result }
         ensures asked { IsAsked result }
         ensures store { store_asked result ≡ store_after reply }
-        ensures ticker { (notified : Bool) → ticker_after result ≡ leads self.state reply (ticker_of notified self) }
+        ensures ticker { (runner : Option ℕ) (notified : Bool) → ticker_after runner result ≡ leads self.state reply (ticker_of runner notified self) }
+        ensures course { KeepsCourse (course self) reply result }
     {
         let TickMachine { state } = self;
         match state {
@@ -281,7 +330,8 @@ fn leave<W>(state: LeavingState, reply: TickReply<W>) -> TickNext<W>
     ensures decided { DecidesIn (State.Leaving state) reply result }
     ensures asked { IsAsked result }
     ensures store { store_asked result ≡ store_after reply }
-    ensures ticker { (notified : Bool) → ticker_after result ≡ leads (State.Leaving state) reply (ticker_in notified (State.Leaving state)) }
+    ensures ticker { (runner : Option ℕ) (notified : Bool) → ticker_after runner result ≡ leads (State.Leaving state) reply (ticker_in runner notified (State.Leaving state)) }
+    ensures course { KeepsCourse (course_in (State.Leaving state)) reply result }
 {
     match state {
         Removing(_, found) => match reply {

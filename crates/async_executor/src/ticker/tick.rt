@@ -6,6 +6,7 @@
 ghost use Rattle.std.specs.Prelude.{◌≡◌, true, false, Some, None, IsTrue};
 ghost use Rattle.executor_core.specs.Sleepers.Calls.{closed};
 ghost use Rattle.async_executor.specs.Answers.{is_ready};
+ghost use Rattle.async_executor.specs.Ticks.Courses.{course, IsOnCourse};
 ghost use Rattle.async_executor.specs.Ticks.{answers, asked, asked_by, store_asked, store_after, store_in, is_return, AskInsert, AskUpdate, AskStore, AskRemove, AskStart, IsAsked};
 
 use crate::home::Home;
@@ -102,8 +103,8 @@ fn copy_of<W: Wake>(w: Option<&W>) -> Option<W> {
     w?.copy().ok()
 }
 
-// Goes to sleep: puts a copy of the waker into the list.
-fn insert<W: Wake, R: Wait + Clone + Drop>(
+/// Goes to sleep: puts a copy of the waker into the list.
+pub(crate) fn insert<W: Wake, R: Wait + Clone + Drop>(
     state: &State<W, R>,
     machine: TickMachine,
     w: Option<&W>,
@@ -111,6 +112,7 @@ fn insert<W: Wake, R: Wait + Clone + Drop>(
     requires { asked machine ≡ AskInsert }
     ensures asked { IsAsked result }
     ensures store { store_asked result ≡ None }
+    ensures course { IsOnCourse (course machine) result }
 {
     let Some(waker) = copy_of(w) else {
         return machine.next(TickReply::NoWaker);
@@ -130,8 +132,8 @@ fn insert<W: Wake, R: Wait + Clone + Drop>(
     }
 }
 
-// Goes on to sleep: gives the sleeper of this number a copy of the waker.
-fn update<W: Wake, R: Wait + Clone + Drop>(
+/// Goes on to sleep: gives the sleeper of this number a copy of the waker.
+pub(crate) fn update<W: Wake, R: Wait + Clone + Drop>(
     state: &State<W, R>,
     machine: TickMachine,
     number: usize,
@@ -140,6 +142,7 @@ fn update<W: Wake, R: Wait + Clone + Drop>(
     requires { asked machine ≡ AskUpdate number }
     ensures asked { IsAsked result }
     ensures store { store_asked result ≡ None }
+    ensures course { IsOnCourse (course machine) result }
 {
     let Some(waker) = copy_of(w) else {
         return machine.next(TickReply::NoWaker);
@@ -174,6 +177,7 @@ fn store<W: Wake, R: Wait + Clone + Drop>(
     requires slept { store_after changed ≡ Some AskStore }
     ensures asked { IsAsked result }
     ensures store { store_asked result ≡ None }
+    ensures course { IsOnCourse (course machine) result }
     ensures list { sleepers.new ≡ closed sleepers.old }
 {
     match machine.next(changed) {
@@ -185,9 +189,9 @@ fn store<W: Wake, R: Wait + Clone + Drop>(
     }
 }
 
-// Takes the sleeper of this number out of the list, and stores the flag before the list's lock is
-// given up.
-fn remove<W: Wake, R: Wait + Clone + Drop>(
+/// Takes the sleeper of this number out of the list, and stores the flag before the list's lock is
+/// given up.
+pub(crate) fn remove<W: Wake, R: Wait + Clone + Drop>(
     state: &State<W, R>,
     machine: TickMachine,
     number: usize,
@@ -195,6 +199,7 @@ fn remove<W: Wake, R: Wait + Clone + Drop>(
     requires { asked machine ≡ AskRemove number }
     ensures asked { IsAsked result }
     ensures store { store_asked result ≡ None }
+    ensures course { IsOnCourse (course machine) result }
 {
     let mut guard = state.sleepers();
     let sleepers = &mut guard.sleepers;

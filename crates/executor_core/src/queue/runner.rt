@@ -13,6 +13,15 @@ pub struct RunnerKey {
     pub(crate) number: u64,
 }
 
+impl RunnerKey {
+    /// The number of the runner: 0 for the first one of its `Cells`, and then one more each.
+    pub fn number(self) -> u64
+        ensures { result ≡ self.number }
+    {
+        self.number
+    }
+}
+
 /// Why no place was reserved for a runner. Nothing else changed.
 #[derive(Debug, Clone, Copy, PartialEq, Eq, Error)]
 pub enum RunnerError {

@@ -1,0 +1,26 @@
+use Rattle.std.proofs.Common.{◌+◌, subst, sym, ap, ◌∙◌}
+use Rattle.async_executor.specs.Runs.Tickers.{ticker_after}
+use Rattle.async_executor.specs.Runs.Turns.{TurnFrom, under_way_in}
+use Rattle.async_executor.specs.declared.runner.machine.State.TheVariants.{Ticking}
+use Rattle.async_executor.proofs.Runs.{ticking_gate, keeps_fit, resumed_seen, resumed_in_turn, ticked_next}
+use Rattle.async_executor.proofs.runner.machine.RunMachine.next.Goals as goal
+
+pub next-requires : goal.next-requires
+next-requires g c = (ticking_gate c.args.self.state c.in-Ticking.aim c.in-Ticking.tick c.args.reply c.in-Tick.reply c.in-Ticking.is c.in-Tick.is c.requires).1
+
+pub resume-requires-clause-course : goal.resume-requires-clause-course
+resume-requires-clause-course g c =
+    keeps_fit c.in-Ticking.aim _ _ _ (ticking_gate c.args.self.state c.in-Ticking.aim c.in-Ticking.tick c.args.reply c.in-Tick.reply c.in-Ticking.is c.in-Tick.is c.requires).0 c.next.ensures.course
+
+pub returns-in-Tick-clause-ticker : goal.returns-in-Tick-clause-ticker
+returns-in-Tick-clause-ticker g c notified =
+    let gate = ticking_gate c.args.self.state c.in-Ticking.aim c.in-Ticking.tick c.args.reply c.in-Tick.reply c.in-Ticking.is c.in-Tick.is c.requires in
+    ticked_next c.args.self c.in-Ticking.aim c.in-Ticking.tick c.args.reply c.in-Tick.reply c.resume.result c.in-Ticking.is c.in-Tick.is notified
+    (ap ticker_after c.resume.ensures.decided ∙ resumed_seen c.args.self.runner c.in-Ticking.aim c.in-Ticking.tick c.in-Tick.reply c.next.result gate.0 gate.1 c.next.ensures.asked c.next.ensures.course c.next.ensures.ticker notified)
+
+pub returns-in-Tick-clause-turn : goal.returns-in-Tick-clause-turn
+returns-in-Tick-clause-turn g c within =
+    let gate = ticking_gate c.args.self.state c.in-Ticking.aim c.in-Ticking.tick c.args.reply c.in-Tick.reply c.in-Ticking.is c.in-Tick.is c.requires in
+    subst (λ s. TurnFrom (c.args.self.runner.count + under_way_in s) c.resume.result) (sym c.in-Ticking.is)
+    (subst (TurnFrom (c.args.self.runner.count + under_way_in (Ticking c.in-Ticking.aim c.in-Ticking.tick))) (sym c.resume.ensures.decided)
+    (resumed_in_turn c.args.self.runner c.in-Ticking.aim c.in-Ticking.tick c.in-Tick.reply c.next.result gate.0 gate.1 c.next.ensures.asked c.next.ensures.course within))

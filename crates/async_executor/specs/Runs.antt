@@ -1,0 +1,134 @@
+-- What a run asks for, and what answers it.
+pub mod Decisions
+pub mod Steps
+pub mod Tickers
+pub mod Turns
+use Rattle.std.specs.Prelude.{◌≡◌, ℕ, Bool, true, false, cond, List, [], Option, Some, None}
+use Rattle.executor_core.specs.Ring.{IdRing}
+use Rattle.executor_core.specs.declared.task.id.TaskId.{TaskId}
+use Rattle.async_executor.specs.Ticks.{Asked, is_return}
+use Rattle.async_executor.specs.Ticks as ticks
+use Rattle.async_executor.specs.Ticks.Courses.{Course, Waiting, Seeking, Departing, course}
+use Rattle.async_executor.specs.declared.runner.machine.Aim.{Aim}
+use Rattle.async_executor.specs.declared.runner.machine.Aim.TheVariants.{Work, PassOn, Leave}
+use Rattle.async_executor.specs.declared.runner.machine.State.{State}
+use Rattle.async_executor.specs.declared.runner.machine.State.TheVariants.{Starting, Resting, Registering, PollingOwn, Ticking, Sharing, Unregistering, Releasing}
+use Rattle.async_executor.specs.declared.runner.machine.Stage.{Stage}
+use Rattle.async_executor.specs.declared.runner.machine.Stage.TheVariants as stage
+use Rattle.async_executor.specs.declared.runner.machine.RunAction.{RunAction}
+use Rattle.async_executor.specs.declared.runner.machine.RunAction.TheVariants as asks
+use Rattle.async_executor.specs.declared.runner.machine.RunMachine.{RunMachine}
+use Rattle.async_executor.specs.declared.runner.machine.RunNext.{RunNext}
+use Rattle.async_executor.specs.declared.runner.machine.RunNext.TheVariants.{Act, Rest}
+use Rattle.async_executor.specs.declared.runner.machine.RunReply.{RunReply}
+use Rattle.async_executor.specs.declared.runner.machine.RunReply.TheVariants.{Begin, Dropped, Registered, NotRegistered, OwnPending, OwnReady, Tick, Moved, Unregistered, Released}
+use Rattle.async_executor.specs.declared.runner.machine.RunRest.{RunRest}
+use Rattle.async_executor.specs.declared.ticker.machine.TickNext.{TickNext}
+use Rattle.async_executor.specs.declared.ticker.machine.TickNext.TheVariants as tick
+
+-- what is asked: to begin or to be dropped, one of the actions, or what is asked of a tick
+pub data RunAsked : Type 0 where
+  AskFirst : RunAsked
+  AskRegister : RunAsked
+  AskOwn : RunAsked
+  AskTick : Asked → RunAsked
+  AskFair : Asked → RunAsked
+  AskUnregister : RunAsked
+  AskRelease : RunAsked
+  AskNothing : RunAsked
+
+-- whether the tick does what it acts for
+abbrev pub is_fit : Aim → Course → Bool
+is_fit Work Seeking = true
+is_fit Work _ = false
+is_fit (PassOn number) Departing = true
+is_fit (PassOn number) _ = false
+is_fit Leave Departing = true
+is_fit Leave _ = false
+
+-- what a machine waits for: one whose tick does not what it acts for, for nothing
+abbrev pub asked_in : State → RunAsked
+asked_in Starting = AskFirst
+asked_in (Resting number) = AskFirst
+asked_in Registering = AskRegister
+asked_in (PollingOwn number) = AskOwn
+asked_in (Ticking aim tick) = cond (is_fit aim (course tick)) (AskTick (ticks.asked tick)) AskNothing
+asked_in (Sharing tick taken) = cond (is_fit Work (course tick)) (AskFair (ticks.asked tick)) AskNothing
+asked_in (Unregistering number) = AskUnregister
+asked_in Releasing = AskRelease
+
+abbrev pub asked : RunMachine → RunAsked
+asked machine = asked_in machine.state
+
+-- a rest has ended
+abbrev pub is_end : Stage → Bool
+is_end stage.Ended = true
+is_end _ = false
+
+abbrev pub has_ended : RunRest → Bool
+has_ended rest = is_end rest.stage
+
+-- it is asked of a tick
+abbrev pub is_tick : RunAsked → Bool
+is_tick (AskTick asked) = true
+is_tick _ = false
+
+module _ {W : Type 0} where
+  -- what an action asks
+  abbrev pub asked_by : RunAction W → RunAsked
+  asked_by asks.Register = AskRegister
+  asked_by asks.PollOwn = AskOwn
+  asked_by (asks.Tick action) = AskTick (ticks.asked_by action)
+  asked_by asks.Fair = AskFair ticks.AskRun
+  asked_by asks.Unregister = AskUnregister
+  asked_by asks.Release = AskRelease
+
+  -- which replies answer what is asked
+  abbrev pub answers : RunAsked → RunReply W → Bool
+  answers AskFirst Begin = true
+  answers AskFirst Dropped = true
+  answers AskFirst _ = false
+  answers AskRegister Registered = true
+  answers AskRegister NotRegistered = true
+  answers AskRegister _ = false
+  answers AskOwn OwnPending = true
+  answers AskOwn OwnReady = true
+  answers AskOwn _ = false
+  answers (AskTick asked) (Tick reply) = ticks.answers asked reply
+  answers (AskTick asked) _ = false
+  answers (AskFair ticks.AskRun) Moved = true
+  answers (AskFair _) _ = false
+  answers AskUnregister (Unregistered notice) = true
+  answers AskUnregister _ = false
+  answers AskRelease Released = true
+  answers AskRelease _ = false
+  answers AskNothing _ = false
+
+  -- the store that a change of the list is followed by
+  abbrev pub store_after : RunReply W → Option Asked
+  store_after (Tick reply) = ticks.store_after reply
+  store_after _ = None
+
+  -- the store that is asked for
+  abbrev pub store_in : RunAction W → Option Asked
+  store_in (asks.Tick action) = ticks.store_in action
+  store_in _ = None
+
+  abbrev pub store_asked : RunNext W → Option Asked
+  store_asked (Act machine action) = store_in action
+  store_asked (Rest rest end) = None
+
+-- the machine waits for what its action asks, and a rest has ended exactly where the run returns
+abbrev pub IsAsked : {W : Type 0} → RunNext W → Type 0
+IsAsked (Act machine action) = asked machine ≡ asked_by action
+IsAsked (Rest rest end) = has_ended rest ≡ is_return end
+
+-- a tick that goes on does what it acts for
+abbrev pub IsFitNext : {W : Type 0} → Aim → TickNext W → Type 0
+IsFitNext aim (tick.Act machine action) = is_fit aim (course machine) ≡ true
+IsFitNext aim (tick.Rest rest end) = Unit {0}
+
+-- what stands in the queue of a runner that is not registered
+abbrev pub ids_in : Option IdRing → List TaskId
+ids_in None = []
+ids_in (Some ring) = ring.ids

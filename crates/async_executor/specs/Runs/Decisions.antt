@@ -1,0 +1,118 @@
+-- The table of decisions of a run: by what its machine waits for and the reply, what it asks for next and keeps.
+use Rattle.std.specs.Prelude.{◌≡◌, ℕ, ◌+◌, ◌%◌, ◌^◌, ◌==◌, nat_lt, Some, None, cond}
+use Rattle.executor_core.specs.declared.task.values.Taken.{Taken}
+use Rattle.async_executor.specs.Ticks.Decisions as ticks
+use Rattle.async_executor.specs.declared.runner.machine.Aim.{Aim}
+use Rattle.async_executor.specs.declared.runner.machine.Aim.TheVariants.{Work, PassOn, Leave}
+use Rattle.async_executor.specs.declared.runner.machine.Runner.{Runner}
+use Rattle.async_executor.specs.declared.runner.machine.Stage.{Stage}
+use Rattle.async_executor.specs.declared.runner.machine.Stage.TheVariants as stage
+use Rattle.async_executor.specs.declared.runner.machine.State.{State}
+use Rattle.async_executor.specs.declared.runner.machine.State.TheVariants.{Starting, Resting, Registering, PollingOwn, Ticking, Sharing, Unregistering, Releasing}
+use Rattle.async_executor.specs.declared.runner.machine.RunAction.{RunAction}
+use Rattle.async_executor.specs.declared.runner.machine.RunAction.TheVariants as asks
+use Rattle.async_executor.specs.declared.runner.machine.RunMachine.{RunMachine}
+use Rattle.async_executor.specs.declared.runner.machine.RunNext.{RunNext}
+use Rattle.async_executor.specs.declared.runner.machine.RunNext.TheVariants.{Act, Rest}
+use Rattle.async_executor.specs.declared.runner.machine.RunReply.{RunReply}
+use Rattle.async_executor.specs.declared.runner.machine.RunReply.TheVariants.{Begin, Dropped, Registered, NotRegistered, OwnPending, OwnReady, Tick, Moved, Unregistered, Released}
+use Rattle.async_executor.specs.declared.ticker.machine.LeavingState.TheVariants.{Removing, Exchanging}
+use Rattle.async_executor.specs.declared.ticker.machine.State.TheVariants as tick
+use Rattle.async_executor.specs.declared.ticker.machine.TickAction.TheVariants.{Search, Remove, Exchange, Run}
+use Rattle.async_executor.specs.declared.ticker.machine.TickEnd.{TickEnd}
+use Rattle.async_executor.specs.declared.ticker.machine.TickEnd.TheVariants.{Yield, Return}
+use Rattle.async_executor.specs.declared.ticker.machine.TickMachine.{TickMachine}
+use Rattle.async_executor.specs.declared.ticker.machine.TickNext.{TickNext}
+use Rattle.async_executor.specs.declared.ticker.machine.TickNext.TheVariants as decided
+
+-- the tasks of a turn, and those from one fair part to the next
+abbrev pub turn : ℕ
+turn = 200
+
+abbrev pub fair : ℕ
+fair = 64
+
+module _ {W : Type 0} where
+  abbrev pub ask : Runner → State → RunAction W → RunNext W
+  ask runner state action = Act (record { runner = runner; state = state }) action
+
+  -- the run goes on at its next poll
+  abbrev pub run_rest : Runner → Stage → TickEnd → RunNext W
+  run_rest runner stage end = Rest (record { runner = runner; stage = stage }) end
+
+  abbrev pub run_ended : Runner → RunNext W
+  run_ended runner = run_rest runner stage.Ended Return
+
+  -- a tick acts for the run, to search for a task
+  abbrev pub searching : Runner → ℕ → RunNext W
+  searching runner number = ask runner (Ticking Work (record { state = tick.Searching number })) (asks.Tick (Search None))
+
+  -- a tick acts for the run, to leave the sleepers where it has a number
+  abbrev pub dropping : Runner → ℕ → RunNext W
+  dropping runner number =
+      cond (number == 0) (run_ended runner) (ask runner (Ticking Leave (record { state = tick.Leaving (Removing number None) })) (asks.Tick (Remove number)))
+
+  -- its notice is spent, and it leaves the sleepers after that
+  abbrev pub passing : Runner → ℕ → TickMachine → RunAction W → RunNext W
+  passing runner number machine action = ask runner (Ticking (PassOn number) machine) action
+
+  -- one task more was run: after the last of a turn it yields
+  abbrev pub after_task : Runner → RunNext W
+  after_task runner =
+      cond (nat_lt (runner.count + 1) turn) (searching (record runner { count = runner.count + 1 }) 0) (run_rest (record runner { count = 0 }) (stage.Joined 0) Yield)
+
+  -- the task that was found last: now and then it takes its fair part first
+  abbrev pub run_found : Runner → TickMachine → Taken (Unit {0}) → RunNext W
+  run_found runner machine taken =
+      cond (runner.ticks % fair == 0) (ask runner (Sharing machine taken) asks.Fair) (ask runner (Ticking Work machine) (asks.Tick (Run taken)))
+
+  -- one task more was found
+  abbrev pub found : Runner → TickMachine → Taken (Unit {0}) → RunNext W
+  found runner machine taken = run_found (record runner { ticks = (runner.ticks + 1) % 2 ^ 64 }) machine taken
+
+  -- what comes of the decision of a tick that acts for the run
+  abbrev pub working : Runner → TickNext W → RunNext W
+  working runner (decided.Act machine (Run taken)) = found runner machine taken
+  working runner (decided.Act machine action) = ask runner (Ticking Work machine) (asks.Tick action)
+  working runner (decided.Rest rest Return) = after_task runner
+  working runner (decided.Rest rest end) = run_rest runner (stage.Joined rest.number) end
+
+  abbrev pub passing_on : Runner → ℕ → TickNext W → RunNext W
+  passing_on runner number (decided.Act machine action) = ask runner (Ticking (PassOn number) machine) (asks.Tick action)
+  passing_on runner number (decided.Rest rest end) = dropping runner number
+
+  abbrev pub leaving : Runner → TickNext W → RunNext W
+  leaving runner (decided.Act machine action) = ask runner (Ticking Leave machine) (asks.Tick action)
+  leaving runner (decided.Rest rest end) = run_ended runner
+
+  abbrev pub resumed : Runner → Aim → TickNext W → RunNext W
+  resumed runner Work decision = working runner decision
+  resumed runner (PassOn number) decision = passing_on runner number decision
+  resumed runner Leave decision = leaving runner decision
+
+  -- the decision is the table's
+  abbrev pub DecidesIn : Runner → State → RunReply W → RunNext W → Type 0
+  DecidesIn runner Starting Begin next = next ≡ ask runner Registering asks.Register
+  DecidesIn runner Starting Dropped next = next ≡ ask runner Releasing asks.Release
+  DecidesIn runner Starting _ next = Unit {0}
+  DecidesIn runner (Resting number) Begin next = next ≡ ask runner (PollingOwn number) asks.PollOwn
+  DecidesIn runner (Resting number) Dropped next = next ≡ ask runner (Unregistering number) asks.Unregister
+  DecidesIn runner (Resting number) _ next = Unit {0}
+  DecidesIn runner Registering Registered next = next ≡ ask runner (PollingOwn 0) asks.PollOwn
+  DecidesIn runner Registering NotRegistered next = next ≡ run_rest runner stage.New Yield
+  DecidesIn runner Registering _ next = Unit {0}
+  DecidesIn runner (PollingOwn number) OwnPending next = next ≡ searching runner number
+  DecidesIn runner (PollingOwn number) OwnReady next = next ≡ ask runner (Unregistering number) asks.Unregister
+  DecidesIn runner (PollingOwn number) _ next = Unit {0}
+  DecidesIn runner (Ticking aim machine) (Tick reply) next = (decision : TickNext W) × ticks.Decides machine reply decision × (next ≡ resumed runner aim decision)
+  DecidesIn runner (Ticking aim machine) _ next = Unit {0}
+  DecidesIn runner (Sharing machine taken) Moved next = next ≡ ask runner (Ticking Work machine) (asks.Tick (Run taken))
+  DecidesIn runner (Sharing machine taken) _ next = Unit {0}
+  DecidesIn runner (Unregistering number) (Unregistered (Some notice)) next = next ≡ ask runner (Ticking (PassOn number) (record { state = tick.Leaving (Exchanging None) })) (asks.Tick (Exchange notice))
+  DecidesIn runner (Unregistering number) (Unregistered None) next = next ≡ dropping runner number
+  DecidesIn runner (Unregistering number) _ next = Unit {0}
+  DecidesIn runner Releasing Released next = next ≡ dropping runner 0
+  DecidesIn runner Releasing _ next = Unit {0}
+
+  abbrev pub Decides : RunMachine → RunReply W → RunNext W → Type 0
+  Decides machine reply next = DecidesIn machine.runner machine.state reply next

@@ -1,0 +1,52 @@
+-- Which steps of a run a reply stands for.
+use Rattle.std.specs.Prelude.{ℕ, ◌+◌, nat_lt, cond, Some, None}
+use Rattle.executor_core.specs.World.Tickers.{is_awake, polled, ended, left}
+use Rattle.executor_core.specs.declared.interleave.ticker.Ticker.{Ticker}
+use Rattle.async_executor.specs.Runs.Decisions.{turn}
+use Rattle.async_executor.specs.Ticks.Courses.{Seeking, Departing, ends}
+use Rattle.async_executor.specs.Ticks.Steps as ticks
+use Rattle.async_executor.specs.declared.runner.machine.Aim.TheVariants.{Work, PassOn, Leave}
+use Rattle.async_executor.specs.declared.runner.machine.State.TheVariants.{Ticking}
+use Rattle.async_executor.specs.declared.runner.machine.RunMachine.{RunMachine}
+use Rattle.async_executor.specs.declared.runner.machine.State.{State}
+use Rattle.async_executor.specs.declared.runner.machine.RunReply.{RunReply}
+use Rattle.async_executor.specs.declared.runner.machine.RunReply.TheVariants.{Begin, Dropped, Registered, NotRegistered, OwnPending, OwnReady, Tick, Moved, Unregistered, Released}
+use Rattle.async_executor.specs.declared.ticker.machine.TickReply.{TickReply}
+use Rattle.async_executor.specs.declared.ticker.machine.State as tick
+
+-- drop of one that is awake: it ends, and another one has still to remove its number
+abbrev pub left_awake : Ticker → Ticker
+left_awake t = cond (is_awake t) (ended t) t
+
+-- a task was run: the run is polled again, and searches, but after the last task of a turn
+abbrev pub ran : ℕ → Ticker → Ticker
+ran count t = cond (nat_lt (count + 1) turn) (polled t) t
+
+module _ {W : Type 0} where
+  -- the steps of the tick that acts for it
+  abbrev pub worked : ℕ → tick.State → TickReply W → Ticker → Ticker
+  worked count state reply t = cond (ends Seeking reply) (ran count t) (ticks.leads state reply t)
+
+  -- its notice is spent, and then it is dropped
+  abbrev pub passed_on : TickReply W → Ticker → Ticker
+  passed_on reply t = cond (ends Departing reply) (left_awake t) t
+
+  abbrev pub ticked : ℕ → State → TickReply W → Ticker → Ticker
+  ticked count (Ticking Work machine) reply t = worked count machine.state reply t
+  ticked count (Ticking (PassOn number) machine) reply t = passed_on reply t
+  ticked count (Ticking Leave machine) reply t = ticks.leads machine.state reply t
+  ticked count _ reply t = t
+
+  -- what the steps make of the run; those that register it and take its fair part change nothing of it
+  abbrev pub leads : RunMachine → RunReply W → Ticker → Ticker
+  leads machine Begin t = t
+  leads machine Dropped t = t
+  leads machine Registered t = t
+  leads machine NotRegistered t = t
+  leads machine OwnPending t = polled t
+  leads machine OwnReady t = t
+  leads machine (Tick reply) t = ticked machine.runner.count machine.state reply t
+  leads machine Moved t = t
+  leads machine (Unregistered (Some notice)) t = left t
+  leads machine (Unregistered None) t = left_awake (left t)
+  leads machine Released t = ended t

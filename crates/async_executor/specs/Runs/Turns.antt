@@ -1,0 +1,40 @@
+-- The turn of a run: how many tasks it runs before it yields.
+use Rattle.std.specs.Prelude.{◌≡◌, ◌<◌, ℕ, ◌+◌, ◌==◌, cond}
+use Rattle.async_executor.specs.Runs.Decisions.{turn}
+use Rattle.async_executor.specs.Ticks.{Asked, AskRun}
+use Rattle.async_executor.specs.Ticks as ticks
+use Rattle.async_executor.specs.declared.runner.machine.State.{State}
+use Rattle.async_executor.specs.declared.runner.machine.State.TheVariants.{Ticking}
+use Rattle.async_executor.specs.declared.runner.machine.RunAction.{RunAction}
+use Rattle.async_executor.specs.declared.runner.machine.RunAction.TheVariants as asks
+use Rattle.async_executor.specs.declared.runner.machine.RunMachine.{RunMachine}
+use Rattle.async_executor.specs.declared.runner.machine.RunNext.{RunNext}
+use Rattle.async_executor.specs.declared.runner.machine.RunNext.TheVariants.{Act, Rest}
+use Rattle.async_executor.specs.declared.ticker.machine.TickAction.TheVariants.{Run}
+
+-- a task that is being run
+abbrev pub under_way : Asked → ℕ
+under_way AskRun = 1
+under_way _ = 0
+
+abbrev pub under_way_in : State → ℕ
+under_way_in (Ticking aim machine) = under_way (ticks.asked machine)
+under_way_in _ = 0
+
+-- how many tasks of its turn were run, with the one that is being run
+abbrev pub begun : RunMachine → ℕ
+begun machine = machine.runner.count + under_way_in machine.state
+
+module _ {W : Type 0} where
+  -- how many tasks an action runs
+  abbrev pub runs_in : RunAction W → ℕ
+  runs_in (asks.Tick (Run taken)) = 1
+  runs_in _ = 0
+
+  -- from so many that were begun: each task that is run counts once, and a turn that is full ends with a rest
+  abbrev pub TurnFrom : ℕ → RunNext W → Type 0
+  TurnFrom before (Act machine action) = (machine.runner.count < turn) × (begun machine ≡ before + runs_in action)
+  TurnFrom before (Rest rest end) = (rest.runner.count < turn) × (rest.runner.count ≡ cond (before == turn) 0 before)
+
+  abbrev pub TurnGoesOn : RunMachine → RunNext W → Type 0
+  TurnGoesOn machine next = TurnFrom (begun machine) next

@@ -1,0 +1,30 @@
+//! A run: a future that runs the tasks of an executor beside a future of the caller's.
+//!
+//! A run has a runner, with a queue of its own for tasks. It searches there first, then takes half
+//! of what all runners share, then half of another runner's queue. So threads that each drive a run
+//! share the work.
+//!
+//! ```text
+//!              ┌───────────── yield, after 200 tasks ─────────────┐
+//!              ▼                                                  │
+//! register ── poll the own future ── search ── found ── run the task
+//!              │        ▲              │  ▲                │
+//!              │        │            empty └── search again ┘
+//!              │        └─ woken ─ sleep
+//!              │
+//!              └── ready, or the run is dropped ── unregister ── leave the sleepers ── return
+//! ```
+//!
+//! What it does next is decided by a `RunMachine`. Between two polls of its own future a run acts
+//! as one tick after another, each with a `TickMachine`, but that its searches are those of a
+//! runner. Once in 64 tasks it takes its part of the shared queue before it runs the task, so that
+//! tasks there are not left behind its own. After 200 tasks it lets others of its thread go on.
+
+mod machine;
+mod run;
+mod words;
+
+pub use machine::{RunAction, RunMachine, RunNext, RunReply, RunRest};
+pub use run::RunError;
+pub(crate) use run::RunIn;
+pub use words::Words;

@@ -1,0 +1,34 @@
+//! The words that say where a runner's walk over the queues of others starts.
+ghost use Rattle.std.specs.Prelude.{◌≡◌};
+ghost use Rattle.rand_xoshiro.specs.Xoshiro256.{of_seed, plus_plus};
+ghost use Rattle.rand_xoshiro.specs.SplitMix64.{splitmix_seed};
+
+use rand_xoshiro::Xoshiro256PlusPlus;
+use rand_xoshiro::rand_core::SeedableRng;
+use rand_xoshiro::rand_core::utils::NextWord;
+
+/// The words of `Xoshiro256PlusPlus`, started from a number. They serve to spread the runners, and
+/// are not secret.
+#[derive(Drop)]
+pub struct Words {
+    generator: Xoshiro256PlusPlus,
+}
+
+impl Words {
+    /// The words from `seed_from_u64` of this number on.
+    pub fn new(number: u64) -> Words
+        ensures { result.generator ≡ of_seed (splitmix_seed 32 number) }
+    {
+        Words {
+            generator: Xoshiro256PlusPlus::seed_from_u64(number),
+        }
+    }
+
+    /// The next word.
+    #[inline(always)]
+    pub fn next(&mut self) -> u64
+        ensures { (result, self.new.generator) ≡ plus_plus self.old.generator }
+    {
+        self.generator.next_word()
+    }
+}
