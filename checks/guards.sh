@@ -58,7 +58,7 @@ applied() {
                 echo "$round $function $guard"
         done < "$copy/$1.rounds" | awk '
             { last[$2] = $0 }
-            END { for (name in last) print last[name] }'
+            END { for (name in last) print last[name] }' | LC_ALL=C sort -k 2
     fi
 }
 

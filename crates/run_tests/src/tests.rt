@@ -1,2 +1,3 @@
 mod parts;
 mod running;
+mod sharing;

@@ -1,8 +1,9 @@
 //! What the tests of runs are made of.
-use async_executor::{Future, OutOfMemory, Poll, Wake};
+use async_executor::{Executor, Future, OutOfMemory, Poll, Wake};
 use std::alloc::{AllocError, Global};
-use std::sync::Arc;
 use std::sync::atomic::{AtomicU64, Ordering};
+use std::sync::{Arc, Wait};
+use std::test::Fail;
 
 /// A count that its shares have in common.
 #[derive(Drop)]
@@ -32,48 +33,59 @@ impl Tally {
     }
 }
 
-/// A task that counts at its one poll.
+/// A task that wakes itself so often, and counts at its last poll.
 #[derive(Drop)]
 pub struct Count {
     tally: Tally,
+    yields: u64,
 }
 
 impl Count {
-    pub fn new(tally: Tally) -> Count {
-        Count { tally }
+    pub fn new(tally: Tally, yields: u64) -> Count {
+        Count { tally, yields }
     }
 }
 
 impl<W: Wake> Future<W> for Count {
     type Output = ();
 
-    fn poll(&mut self, _w: &W) -> Poll<()> {
+    fn poll(&mut self, w: &W) -> Poll<()> {
+        if self.yields > 0 {
+            self.yields -= 1;
+            w.wake();
+            return Poll::Pending;
+        }
         self.tally.add();
         Poll::Ready(())
     }
 }
 
-/// A future beside a run, which is ready with 7 at the poll of this number.
+/// A future beside a run, which gives 7: at the poll of this number, or once so many tasks counted.
 #[derive(Drop)]
-pub struct Beside {
-    polls: u64,
-}
-
-impl Beside {
-    pub fn new(polls: u64) -> Beside {
-        Beside { polls }
-    }
+pub enum Beside {
+    At(u64),
+    Until(Tally, u64),
 }
 
 impl<W: Wake> Future<W> for Beside {
     type Output = u64;
 
     fn poll(&mut self, _w: &W) -> Poll<u64> {
-        if self.polls <= 1 {
-            return Poll::Ready(7);
+        let is_ready = match self {
+            Beside::At(polls) => {
+                let is_last = *polls <= 1;
+                if !is_last {
+                    *polls -= 1;
+                }
+                is_last
+            }
+            Beside::Until(tally, count) => tally.get() >= *count,
+        };
+        if is_ready {
+            Poll::Ready(7)
+        } else {
+            Poll::Pending
         }
-        self.polls -= 1;
-        Poll::Pending
     }
 }
 
@@ -104,5 +116,38 @@ impl Wake for Bell {
         Ok(Bell {
             wakes: self.wakes.share()?,
         })
+    }
+}
+
+/// What a test of runs works with: an executor of tasks that count, and who polls the runs.
+#[derive(Drop)]
+pub struct Fixture<R: Wait + Clone + Drop + Send + Sync> {
+    pub executor: Executor<Count, Bell, R>,
+    pub bell: Bell,
+    pub ran: Tally,
+}
+
+impl<R: Wait + Clone + Drop + Send + Sync> Fixture<R> {
+    pub fn new(rt: R, alloc: Global) -> Result<Fixture<R>, Fail> {
+        Ok(Fixture {
+            executor: Executor::new(rt, alloc)?,
+            bell: Bell::new(alloc)?,
+            ran: Tally::new(alloc)?,
+        })
+    }
+
+    /// Spawns and detaches so many tasks, each of which wakes itself so often and then counts. Says
+    /// whether there was memory for them.
+    pub fn spawn(&self, count: u64, yields: u64) -> bool {
+        for _ in 0..count {
+            let Ok(ran) = self.ran.share() else {
+                return false;
+            };
+            match self.executor.spawn(Count::new(ran, yields)) {
+                Ok(task) => task.detach(),
+                Err(_) => return false,
+            }
+        }
+        true
     }
 }

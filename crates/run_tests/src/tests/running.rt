@@ -1,42 +1,10 @@
 //! Runs on one thread: the turn of a run, what its drop leaves behind, and its own future.
-use crate::tests::parts::{Bell, Beside, Count, Tally};
-use async_executor::{Executor, Future, Poll, Run, RunError};
-use std::alloc::Global;
+use crate::tests::parts::{Bell, Beside, Count, Fixture};
+use async_executor::{Future, Poll, Run, RunError};
 use std::sync::Wait;
 use std::test::Fail;
 
-// What a test of runs works with: an executor of tasks that count, and who polls the runs.
-#[derive(Drop)]
-struct Fixture<R: Wait + Clone + Drop + Send + Sync> {
-    executor: Executor<Count, Bell, R>,
-    bell: Bell,
-    ran: Tally,
-}
-
 impl<R: Wait + Clone + Drop + Send + Sync> Fixture<R> {
-    fn new(rt: R, alloc: Global) -> Result<Fixture<R>, Fail> {
-        Ok(Fixture {
-            executor: Executor::new(rt, alloc)?,
-            bell: Bell::new(alloc)?,
-            ran: Tally::new(alloc)?,
-        })
-    }
-
-    // Spawns and detaches so many tasks, each of which counts at its one poll. Says whether there
-    // was memory for them.
-    fn spawn(&self, count: u64) -> bool {
-        for _ in 0..count {
-            let Ok(ran) = self.ran.share() else {
-                return false;
-            };
-            match self.executor.spawn(Count::new(ran)) {
-                Ok(task) => task.detach(),
-                Err(_) => return false,
-            }
-        }
-        true
-    }
-
     // Makes two runs beside futures that end at the polls of these numbers, and takes the steps.
     // Says at which step an answer or a count was another one, if at any.
     fn take(&self, polls: (u64, u64), steps: &[Step]) -> Result<Option<usize>, Fail> {
@@ -46,7 +14,7 @@ impl<R: Wait + Clone + Drop + Send + Sync> Fixture<R> {
         let mut runs = (Some(first), Some(second));
         for (k, step) in steps.iter().enumerate() {
             let is_right = match step {
-                Step::Spawn(count) => self.spawn(*count),
+                Step::Spawn(count) => self.spawn(*count, 0),
                 Step::First(answer) => is_answer(&mut runs.0, &self.bell, answer),
                 Step::Second(answer) => is_answer(&mut runs.1, &self.bell, answer),
                 Step::DropFirst => {
@@ -69,7 +37,7 @@ impl<R: Wait + Clone + Drop + Send + Sync> Fixture<R> {
     }
 
     fn run(&self, polls: u64) -> Result<Run<'_, Count, Bell, R, Beside>, RunError<Beside>> {
-        self.executor.run(Beside::new(polls))
+        self.executor.run(Beside::At(polls))
     }
 
     // How many tasks ticks run until they find none.
