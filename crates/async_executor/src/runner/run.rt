@@ -335,7 +335,10 @@ impl<H: Home, G: Future<H::Waker>> Future<H::Waker> for RunIn<'_, H, G> {
     /// kept, in place of an earlier one, and is woken once there may be a task. After 200 tasks, or
     /// where the copy is refused, the waker itself is woken. A run that was ready wakes it and is
     /// pending, and does nothing more.
-    fn poll(&mut self, w: &H::Waker) -> Poll<G::Output> {
+    fn poll(&mut self, w: &H::Waker) -> Poll<G::Output>
+        ensures ended { IsTrue (is_ready result) → has_ended self.new.rest ≡ true }
+        ensures again { IsTrue (has_ended self.old.rest) → (self.new.rest ≡ self.old.rest) × (is_ready result ≡ false) }
+    {
         if self.rest.is_ended() {
             w.wake();
             return Poll::Pending;
