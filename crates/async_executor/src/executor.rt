@@ -57,4 +57,6 @@ pub type Tick<'a, F, W, R> = TickIn<'a, SharedHome<F, W, R>>;
 /// the others. Where it is dropped, its tasks go to the queue that all share, and if it was
 /// notified, another sleeper is woken in its place. It stands for the future that `Executor::run` of
 /// the Rust crate gives.
+///
+/// Example: `uses::runs`.
 pub type Run<'a, F, W, R, G> = RunIn<'a, SharedHome<F, W, R>, G>;

@@ -15,7 +15,7 @@ use std::io;
 use std::sync::Wait;
 use std::thread::{self, Threads};
 
-/// Runs a task until nothing is scheduled, and asks its handle for the output.
+/// Runs tasks beside the handle of one, and ends with its output.
 fn runs<F, R>(rt: &R, alloc: Global, future: F) -> Option<F::Output>
 where
     F: Future<TaskWaker<Nobody, R>> + Send,
@@ -23,9 +23,14 @@ where
     R: Wait + Clone + Drop + Send + Sync,
 {
     let executor = Executor::new(rt.clone().ok()?, alloc).ok()?;
-    let mut task = executor.spawn(future).ok()?;
-    run_all(rt, &executor);
-    output_of(task.poll(&Nobody))
+    let task = executor.spawn(future).ok()?;
+    let mut run = executor.run(task).ok()?;
+    for _ in rt.forever() {
+        if let Poll::Ready(output) = run.poll(&Nobody) {
+            return output.ok();
+        }
+    }
+    None
 }
 
 // Runs tasks until nothing is scheduled.
