@@ -58,5 +58,5 @@ pub type Tick<'a, F, W, R> = TickIn<'a, SharedHome<F, W, R>>;
 /// notified, another sleeper is woken in its place. It stands for the future that `Executor::run` of
 /// the Rust crate gives.
 ///
-/// Example: `uses::runs`.
+/// Example: the tests of `crates/run_tests`.
 pub type Run<'a, F, W, R, G> = RunIn<'a, SharedHome<F, W, R>, G>;

@@ -76,7 +76,7 @@ impl<H: Home> ExecutorIn<H> {
     /// Runs the task that was scheduled first, and says whether there was one: its future is polled
     /// once, or dropped where the task was cancelled.
     ///
-    /// Example: `uses::detaches`.
+    /// Example: `uses::runs`.
     pub fn try_tick(&self) -> bool {
         let state = self.home.state();
         let mut cells = state.cells();
@@ -114,7 +114,7 @@ impl<H: Home> ExecutorIn<H> {
     /// Where memory is refused, or no number is left for the runner, the future is given back and
     /// all is as before.
     ///
-    /// Example: `uses::runs`.
+    /// Example: the tests of `crates/run_tests`.
     pub fn run<G: Future<H::Waker>>(&self, future: G) -> Result<RunIn<'_, H, G>, RunError<G>>
         ensures { IfErr result (λ e. run_future e ≡ future) }
     {

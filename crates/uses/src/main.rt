@@ -15,7 +15,7 @@ use std::io;
 use std::sync::Wait;
 use std::thread::{self, Threads};
 
-/// Runs tasks beside the handle of one, and ends with its output.
+/// Runs a task until nothing is scheduled, and asks its handle for the output.
 fn runs<F, R>(rt: &R, alloc: Global, future: F) -> Option<F::Output>
 where
     F: Future<TaskWaker<Nobody, R>> + Send,
@@ -23,14 +23,9 @@ where
     R: Wait + Clone + Drop + Send + Sync,
 {
     let executor = Executor::new(rt.clone().ok()?, alloc).ok()?;
-    let task = executor.spawn(future).ok()?;
-    let mut run = executor.run(task).ok()?;
-    for _ in rt.forever() {
-        if let Poll::Ready(output) = run.poll(&Nobody) {
-            return output.ok();
-        }
-    }
-    None
+    let mut task = executor.spawn(future).ok()?;
+    run_all(rt, &executor);
+    output_of(task.poll(&Nobody))
 }
 
 // Runs tasks until nothing is scheduled.
