@@ -105,7 +105,8 @@ impl<H: Home> ExecutorIn<H> {
     }
 
     /// A future that runs tasks of the executor beside this one, and ends with its output. In each
-    /// poll this future is polled first, and then tasks are run until none is left, or 200 were run.
+    /// poll this future is polled first, and then tasks are run until none is left or a turn of 200
+    /// tasks, which goes on over polls, is over.
     /// Its places among the sleepers and the runners and its queue are reserved here, and given back
     /// once it has ended or was dropped.
     ///

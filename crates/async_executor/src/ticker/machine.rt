@@ -129,7 +129,7 @@ pub enum TickReply<W> {
     Ran,
 }
 
-/// How a poll or the drop of a tick ends.
+/// How a poll or the drop of a tick or a run ends.
 #[derive(Debug, Clone, Copy, PartialEq, Eq)]
 pub enum TickEnd {
     /// The tick sleeps: the poll answers `Pending`.
