@@ -6,7 +6,7 @@
 //! search is a change of its own.
 ghost use Rattle.std.specs.Prelude.{◌≡◌, [], true, false, Some, None, IsTrue, IfErr};
 ghost use Rattle.async_executor.specs.declared.runner.machine.Stage.TheVariants as Stage;
-ghost use Rattle.async_executor.specs.RunError.{run_future};
+ghost use Rattle.async_executor.specs.RunError.{run_cause, run_future};
 ghost use Rattle.async_executor.specs.Answers.{is_ready};
 ghost use Rattle.async_executor.specs.Runs.{answers, asked, asked_by, has_ended, store_asked, store_after, store_in, AskFirst, AskOwn, AskRegister, AskTick, IsAsked, ids_in};
 ghost use Rattle.async_executor.specs.Store.{IsHeldRight};
@@ -39,7 +39,8 @@ pub enum RunError<G> {
 impl<G> RunError<G> {
     // Why no place was reserved, with the future.
     pub(crate) fn of(error: RunnerError, future: G) -> RunError<G>
-        ensures { run_future result ≡ future }
+        ensures future { run_future result ≡ future }
+        ensures cause { run_cause result ≡ error }
     {
         match error {
             RunnerError::OutOfMemory => RunError::OutOfMemory(future),
