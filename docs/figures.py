@@ -15,9 +15,10 @@ CHART = "docs/benchmark.svg"
 HEADS = {
     "time": ("from a fresh clone", "what it does", "time"),
     "bench": ("row", "one operation", "instructions", "the Rust crate", "nanoseconds"),
+    "threads": ("row, on T threads", "one operation", "T = 1", "2", "4", "the Rust crate on 1, 2, 4"),
     "exsim": ("lines", "milliseconds", "million instructions", "peak memory, MB"),
 }
-CODE = {"time", "bench"}
+CODE = {"time", "bench", "threads"}
 
 
 def figures():

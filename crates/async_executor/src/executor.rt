@@ -1,62 +1,150 @@
-//! The executor whose tasks any thread may run.
+//! The executor whose tasks any thread may run, with its handles, ticks and runs.
+//!
+//! Each of them has what is written once for every home, at the shared one. It is a type of its own,
+//! so that a caller meets the bounds of its future, its waker and its right to wait, and no home.
+ghost use Rattle.std.specs.Prelude.{◌≡◌, false, IfOk, IfErr};
+ghost use Rattle.executor_core.specs.SpawnError.{refused_future};
+ghost use Rattle.async_executor.specs.RunError.{run_future};
+
+mod handles;
+mod tickers;
+
 use crate::home::SharedHome;
 pub use crate::runner::RunError;
-use crate::runner::RunIn;
 use crate::scheduler::ExecutorIn;
 pub use crate::task::Cancelled;
-use crate::task::{CancelIn, FallibleTaskIn, TaskIn};
-use crate::ticker::TickIn;
 pub use crate::waker::TaskWaker;
+use executor_core::task::{Future, OutOfMemory, SpawnError, Wake};
+pub use handles::{Cancel, FallibleTask, Task};
+use std::alloc::Global;
+use std::sync::Wait;
+pub use tickers::{Run, Tick};
 
 /// An executor of futures of the type F, whose handles are awaited by wakers of the type W, and
 /// which waits for its locks by the right R.
 ///
-/// It may be shared and sent: F, its output and W may be sent, and R may be both, without which it
-/// has no methods. Where it is dropped, it gives up its share of the tasks, which live on with the
-/// handles that are left. It stands for the `Executor` of the Rust crate.
+/// It may be shared and sent: one is made only where F, its output and W may be sent, and R may be
+/// both. Where it is dropped, it gives up its share of the tasks, which live on with the handles that are left. It
+/// stands for the `Executor` of the Rust crate.
 ///
-/// Example: `uses::runs`, and on two threads `uses::shares`.
-pub type Executor<F, W, R> = ExecutorIn<SharedHome<F, W, R>>;
+/// Example: `uses::runs`, and on several threads `uses::pools`.
+pub struct Executor<F, W, R>
+where
+    F: Future<TaskWaker<W, R>>,
+    W: Wake,
+    R: Wait + Clone + Drop,
+{
+    inner: ExecutorIn<SharedHome<F, W, R>>,
+}
 
-/// The handle of a task that was spawned: a future of its output, or of `Cancelled`.
-///
-/// Where it is dropped before it has answered, the task is cancelled: its future is dropped in
-/// place of its next poll, and an output that is there is dropped with the handle. It stands for
-/// the `Task` of the Rust crate.
-///
-/// Example: `uses::runs`, `uses::drops`.
-pub type Task<F, W, R> = TaskIn<SharedHome<F, W, R>>;
+impl<F, W, R> Executor<F, W, R>
+where
+    F: Future<TaskWaker<W, R>> + Send,
+    F::Output: Send,
+    W: Wake + Send,
+    R: Wait + Clone + Drop + Send + Sync,
+{
+    /// An executor without tasks. It keeps the right to wait for its locks, and the allocator.
+    ///
+    /// # Errors
+    ///
+    /// `OutOfMemory` where memory for what the executor shares is refused.
+    ///
+    /// Example: `uses::runs`.
+    pub fn new(rt: R, alloc: Global) -> Result<Self, OutOfMemory> {
+        let inner = ExecutorIn::new(rt, alloc)?;
+        Ok(Executor { inner })
+    }
 
-/// The handle of a task that was cancelled: a future that ends once the future of the task was
-/// dropped.
-///
-/// It gives the output where the task had ended before it was cancelled. Where it is dropped, the
-/// task is let go. It stands for the future that `Task::cancel` of the Rust crate gives.
-///
-/// Example: `uses::cancels`.
-pub type Cancel<F, W, R> = CancelIn<SharedHome<F, W, R>>;
+    /// Schedules the future as a new task, behind all that are scheduled.
+    ///
+    /// # Errors
+    ///
+    /// Where memory is refused, or no number is left for the task, the future is given back and all
+    /// is as before.
+    ///
+    /// Example: `uses::gives_back`.
+    #[inline(always)]
+    pub fn spawn(&self, future: F) -> Result<Task<F, W, R>, SpawnError<F>>
+        ensures ok { IfOk result (λ task. task.inner.answered ≡ false) }
+        ensures refused { IfErr result (λ e. refused_future e ≡ future) }
+    {
+        match self.inner.spawn(future) {
+            Ok(inner) => Ok(Task { inner }),
+            Err(error) => Err(error),
+        }
+    }
+}
 
-/// The handle of a task: a future of its output, or of `None` where the task was cancelled.
-///
-/// Its drop is that of `Task`. It stands for the `FallibleTask` of the Rust crate.
-///
-/// Example: `uses::falls_back`, `uses::lets_go`.
-pub type FallibleTask<F, W, R> = FallibleTaskIn<SharedHome<F, W, R>>;
+impl<F, W, R> Executor<F, W, R>
+where
+    F: Future<TaskWaker<W, R>>,
+    W: Wake,
+    R: Wait + Clone + Drop,
+{
+    /// Whether the future of every task was dropped. A task that was cancelled counts until then.
+    ///
+    /// Example: `uses::detaches`.
+    #[inline(always)]
+    pub fn is_empty(&self) -> bool {
+        self.inner.is_empty()
+    }
 
-/// A future that runs one task of an executor, and sleeps while none is scheduled.
-///
-/// Where it is dropped asleep, it leaves the sleepers, and if it was notified, another sleeper is
-/// woken in its place. It stands for the future that `Executor::tick` of the Rust crate gives.
-///
-/// Example: `uses::sleeps`, and on threads that park `uses::parks`.
-pub type Tick<'a, F, W, R> = TickIn<'a, SharedHome<F, W, R>>;
+    /// Runs the task that was scheduled first, and says whether there was one: its future is polled
+    /// once, or dropped where the task was cancelled.
+    ///
+    /// Example: `uses::runs`.
+    #[inline(always)]
+    pub fn try_tick(&self) -> bool {
+        self.inner.try_tick()
+    }
 
-/// A future that runs tasks of an executor beside the future G, and ends with the output of G.
-///
-/// Each thread that polls one takes part in the work: a run has a queue of its own, and steals from
-/// the others. Where it is dropped, its tasks go to the queue that all share, and if it was
-/// notified, another sleeper is woken in its place. It stands for the future that `Executor::run` of
-/// the Rust crate gives.
-///
-/// Example: the tests of `crates/run_tests`.
-pub type Run<'a, F, W, R, G> = RunIn<'a, SharedHome<F, W, R>, G>;
+    /// A future that runs one task, and sleeps while none is scheduled. The place in which it
+    /// sleeps is reserved here, and given back once it has ended or was dropped.
+    ///
+    /// # Errors
+    ///
+    /// `OutOfMemory` where memory for that place is refused. All is as before.
+    ///
+    /// Example: `uses::sleeps`.
+    #[inline(always)]
+    pub fn tick(&self) -> Result<Tick<'_, F, W, R>, OutOfMemory>
+        ensures { IfOk result (λ tick. tick.inner.rest ≡ record { number = 0; ended = false }) }
+    {
+        let inner = self.inner.tick()?;
+        Ok(Tick { inner })
+    }
+
+    /// A future that runs tasks of the executor beside this one, and ends with its output. In each
+    /// poll this future is polled first, and then tasks are run until none is left or a turn of 200
+    /// tasks, which goes on over polls, is over.
+    /// Its places among the sleepers and the runners and its queue are reserved here, and given back
+    /// once it has ended or was dropped.
+    ///
+    /// # Errors
+    ///
+    /// Where memory is refused, or no number is left for the runner, the future is given back and
+    /// all is as before.
+    ///
+    /// Example: `uses::pools`.
+    pub fn run<G: Future<W>>(&self, future: G) -> Result<Run<'_, F, W, R, G>, RunError<G>>
+        ensures { IfErr result (λ e. run_future e ≡ future) }
+    {
+        match self.inner.run(future) {
+            Ok(inner) => Ok(Run { inner }),
+            Err(error) => Err(error),
+        }
+    }
+}
+
+impl<F, W, R> Drop for Executor<F, W, R>
+where
+    F: Future<TaskWaker<W, R>>,
+    W: Wake,
+    R: Wait + Clone + Drop,
+{
+    fn drop(self) {
+        let Executor { inner } = self;
+        drop(inner);
+    }
+}

@@ -101,11 +101,7 @@ pub struct SharedHome<F: Future<TaskWaker<W, R>>, W: Wake, R: Wait + Clone + Dro
     shared: Arc<Shared<F, W, R>>,
 }
 
-impl<F: Future<TaskWaker<W, R>> + Send, W: Wake + Send, R: Wait + Clone + Drop + Send + Sync> Home
-    for SharedHome<F, W, R>
-where
-    F::Output: Send,
-{
+impl<F: Future<TaskWaker<W, R>>, W: Wake, R: Wait + Clone + Drop> Home for SharedHome<F, W, R> {
     type Future = F;
 
     type Waker = W;

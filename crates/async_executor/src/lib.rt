@@ -6,9 +6,8 @@
 //! There are two tables since a waker has a share of the state, and a future may keep its waker: a
 //! table with futures in it would be a part of itself.
 //!
-//! A `Home` is where the store is kept. `ExecutorIn`, `TaskIn`, `CancelIn`, `FallibleTaskIn`,
-//! `TickIn` and `RunIn` are written once for every home, and the public types are names for them at
-//! one home.
+//! A `Home` is where the store is kept. `ExecutorIn`, `TaskIn`, `TickIn` and `RunIn` are written once
+//! for every home. Each public type has one of them, at one home.
 //!
 //! Where both are locked, the store is locked first and the table second. Neither is locked while a
 //! future is polled or dropped, an output is dropped, or a waker is copied, woken or dropped.

@@ -34,34 +34,19 @@ pub struct ExecutorIn<H: Home> {
 }
 
 impl<H: Home> ExecutorIn<H> {
-    /// An executor without tasks. It keeps the right to wait for its locks, and the allocator.
-    ///
-    /// # Errors
-    ///
-    /// `OutOfMemory` where memory for what the executor shares is refused.
-    ///
-    /// Example: `uses::runs`.
-    pub fn new(rt: H::Runtime, alloc: Global) -> Result<ExecutorIn<H>, OutOfMemory> {
+    /// An executor without tasks.
+    pub(crate) fn new(rt: H::Runtime, alloc: Global) -> Result<ExecutorIn<H>, OutOfMemory> {
         let home = H::new(rt, alloc)?;
         Ok(ExecutorIn { home })
     }
 
-    /// Whether the future of every task was dropped. A task that was cancelled counts until then.
-    ///
-    /// Example: `uses::detaches`.
-    pub fn is_empty(&self) -> bool {
+    /// Whether the future of every task was dropped.
+    pub(crate) fn is_empty(&self) -> bool {
         self.home.state().cells().is_empty()
     }
 
     /// Schedules the future as a new task, behind all that are scheduled.
-    ///
-    /// # Errors
-    ///
-    /// Where memory is refused, or no number is left for the task, the future is given back and all
-    /// is as before.
-    ///
-    /// Example: `uses::gives_back`.
-    pub fn spawn(&self, future: H::Future) -> Result<TaskIn<H>, SpawnError<H::Future>>
+    pub(crate) fn spawn(&self, future: H::Future) -> Result<TaskIn<H>, SpawnError<H::Future>>
         ensures ok { IfOk result (λ task. task.answered ≡ false) }
         ensures refused { IfErr result (λ e. refused_future e ≡ future) }
     {
@@ -73,11 +58,8 @@ impl<H: Home> ExecutorIn<H> {
         Ok(TaskIn::new(home, id))
     }
 
-    /// Runs the task that was scheduled first, and says whether there was one: its future is polled
-    /// once, or dropped where the task was cancelled.
-    ///
-    /// Example: `uses::runs`.
-    pub fn try_tick(&self) -> bool {
+    /// Runs the task that was scheduled first, and says whether there was one.
+    pub(crate) fn try_tick(&self) -> bool {
         let state = self.home.state();
         let mut cells = state.cells();
         let Some((taken, notice)) = cells.take_global(None) else {
@@ -89,34 +71,17 @@ impl<H: Home> ExecutorIn<H> {
         true
     }
 
-    /// A future that runs one task, and sleeps while none is scheduled. The place in which it
-    /// sleeps is reserved here, and given back once it has ended or was dropped.
-    ///
-    /// # Errors
-    ///
-    /// `OutOfMemory` where memory for that place is refused. All is as before.
-    ///
-    /// Example: `uses::sleeps`.
-    pub fn tick(&self) -> Result<TickIn<'_, H>, OutOfMemory>
+    /// A future that runs one task, for which a sleeper's place is reserved here.
+    pub(crate) fn tick(&self) -> Result<TickIn<'_, H>, OutOfMemory>
         ensures { IfOk result (λ tick. tick.rest ≡ record { number = 0; ended = false }) }
     {
         self.state().reserve_sleeper()?;
         Ok(TickIn::new(self))
     }
 
-    /// A future that runs tasks of the executor beside this one, and ends with its output. In each
-    /// poll this future is polled first, and then tasks are run until none is left or a turn of 200
-    /// tasks, which goes on over polls, is over.
-    /// Its places among the sleepers and the runners and its queue are reserved here, and given back
-    /// once it has ended or was dropped.
-    ///
-    /// # Errors
-    ///
-    /// Where memory is refused, or no number is left for the runner, the future is given back and
-    /// all is as before.
-    ///
-    /// Example: the tests of `crates/run_tests`.
-    pub fn run<G: Future<H::Waker>>(&self, future: G) -> Result<RunIn<'_, H, G>, RunError<G>>
+    /// A future that runs tasks beside this one. The queue of its runner is made here, and a
+    /// sleeper's and a runner's place are reserved. What was made before a refusal is given back.
+    pub(crate) fn run<G: Future<H::Waker>>(&self, future: G) -> Result<RunIn<'_, H, G>, RunError<G>>
         ensures { IfErr result (λ e. run_future e ≡ future) }
     {
         let state = self.state();

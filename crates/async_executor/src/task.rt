@@ -1,7 +1,4 @@
-//! The handles of an executor's tasks.
-//!
-//! `CancelIn` and `FallibleTaskIn` are names for a `TaskIn`, and differ from it in what they
-//! answer. Each of them cancels its task when it is dropped before it has answered.
+//! What the handles of an executor's tasks are made of.
 //!
 //! What a handle does to a task that has ended is one change of the store and of the table, since
 //! the task may have to leave its slot and its place to a new one. What it does before is a change
@@ -21,7 +18,7 @@ use thiserror::Error;
 #[error("the task was cancelled")]
 pub struct Cancelled;
 
-/// A share of an executor, and one of its tasks. Its drop cancels the task.
+/// A share of an executor, and one of its tasks. Its drop cancels the task where it has not answered.
 pub struct TaskIn<H: Home> {
     home: H,
     id: TaskId,
@@ -40,10 +37,8 @@ impl<H: Home> TaskIn<H> {
         }
     }
 
-    /// Lets the task run on without a handle. Its output is dropped once it is there.
-    ///
-    /// Example: `uses::detaches`.
-    pub fn detach(self) {
+    /// Lets the task run on without a handle.
+    pub(crate) fn detach(self) {
         let TaskIn { home, id, answered } = self;
         if answered {
             return;
@@ -60,33 +55,17 @@ impl<H: Home> TaskIn<H> {
     }
 
     /// Cancels the task at once: it is scheduled, and its future is dropped in place of its next
-    /// poll. What is given is a future that ends once the future of the task was dropped.
-    ///
-    /// Example: `uses::cancels`.
-    pub fn cancel(self) -> CancelIn<H>
-        ensures { result.task.answered ≡ self.answered }
-    {
+    /// poll.
+    pub(crate) fn cancel(&self) {
         let state = self.home.state();
         let notice = state.cells().cancel(self.id);
         if let Some(notice) = notice {
             announce!(state, notice);
         }
-        CancelIn { task: self }
-    }
-
-    /// The same task, with `None` in place of `Cancelled`.
-    ///
-    /// Example: `uses::falls_back`.
-    pub fn fallible(self) -> FallibleTaskIn<H>
-        ensures { result.task.answered ≡ self.answered }
-    {
-        FallibleTaskIn { task: self }
     }
 
     /// Whether the task has ended or was cancelled, or this handle has answered.
-    ///
-    /// Example: `uses::falls_back`.
-    pub fn is_finished(&self) -> bool
+    pub(crate) fn is_finished(&self) -> bool
         ensures { IsTrue self.now.answered → IsTrue result }
     {
         self.answered || self.home.state().cells().is_finished(self.id)
@@ -103,12 +82,7 @@ fn detach_ended<H: Home>(home: &H, id: TaskId) {
 impl<H: Home> Future<H::Waker> for TaskIn<H> {
     type Output = Result<OutputIn<H>, Cancelled>;
 
-    /// Gives the output, which goes out once: a handle that has answered answers `Cancelled` from
-    /// then on. While there is no answer, a copy of the waker is kept, in place of an earlier one,
-    /// and is woken once there is one. Where the copy is refused, the waker itself is woken and
-    /// nothing is kept.
-    ///
-    /// Example: `uses::asks_again`.
+    /// Gives the output once, or leaves a copy of the waker.
     #[inline(always)]
     fn poll(&mut self, w: &H::Waker) -> Poll<Result<OutputIn<H>, Cancelled>>
         ensures answered { self.new.answered ≡ is_ready result }
@@ -157,77 +131,8 @@ impl<H: Home> Drop for TaskIn<H> {
     }
 }
 
-/// The handle of a task that was cancelled, with `None` in place of `Cancelled`.
-#[derive(Drop)]
-pub struct CancelIn<H: Home> {
-    task: TaskIn<H>,
-}
-
-impl<H: Home> Future<H::Waker> for CancelIn<H> {
-    type Output = Option<OutputIn<H>>;
-
-    /// As the poll of `Task`, with `None` in place of `Cancelled`.
-    ///
-    /// Example: `uses::cancels`.
-    fn poll(&mut self, w: &H::Waker) -> Poll<Option<OutputIn<H>>>
-        ensures answered { self.new.task.answered ≡ is_ready result }
-        ensures again { IsTrue self.old.task.answered → IsReadyNone result }
-    {
-        some_if_ok(self.task.poll(w))
-    }
-}
-
-/// The handle of a task, with `None` in place of `Cancelled`.
-#[derive(Drop)]
-pub struct FallibleTaskIn<H: Home> {
-    task: TaskIn<H>,
-}
-
-impl<H: Home> FallibleTaskIn<H> {
-    /// As `Task::detach`.
-    ///
-    /// Example: `uses::lets_go`.
-    pub fn detach(self) {
-        let FallibleTaskIn { task } = self;
-        task.detach();
-    }
-
-    /// As `Task::cancel`.
-    ///
-    /// Example: `uses::lets_go`.
-    pub fn cancel(self) -> CancelIn<H>
-        ensures { result.task.answered ≡ self.task.answered }
-    {
-        let FallibleTaskIn { task } = self;
-        task.cancel()
-    }
-
-    /// As `Task::is_finished`.
-    ///
-    /// Example: `uses::falls_back`.
-    pub fn is_finished(&self) -> bool
-        ensures { IsTrue self.now.task.answered → IsTrue result }
-    {
-        self.task.is_finished()
-    }
-}
-
-impl<H: Home> Future<H::Waker> for FallibleTaskIn<H> {
-    type Output = Option<OutputIn<H>>;
-
-    /// As the poll of `Task`, with `None` in place of `Cancelled`.
-    ///
-    /// Example: `uses::falls_back`.
-    fn poll(&mut self, w: &H::Waker) -> Poll<Option<OutputIn<H>>>
-        ensures answered { self.new.task.answered ≡ is_ready result }
-        ensures again { IsTrue self.old.task.answered → IsReadyNone result }
-    {
-        some_if_ok(self.task.poll(w))
-    }
-}
-
-// The answer without the error's name.
-fn some_if_ok<T: Drop>(answer: Poll<Result<T, Cancelled>>) -> Poll<Option<T>>
+/// The answer without the error's name.
+pub(crate) fn some_if_ok<T: Drop>(answer: Poll<Result<T, Cancelled>>) -> Poll<Option<T>>
     ensures ready { is_ready result ≡ is_ready answer }
     ensures none { IsReadyErr answer → IsReadyNone result }
     ensures some { (output : T) → answer ≡ Poll.Ready (Ok output) → result ≡ Poll.Ready (Some output) }

@@ -78,6 +78,72 @@ impl<W: Wake> Future<W> for LeavesWaker<W> {
     }
 }
 
+/// Wakes its partner at each poll, and is ready with 7 after a number of polls.
+#[derive(Drop)]
+pub struct Rally<W> {
+    own: Arc<Mutex<Option<W>>>,
+    partner: Arc<Mutex<Option<W>>>,
+    is_left: bool,
+    left: u64,
+}
+
+impl<W: Drop> Rally<W> {
+    /// Two futures that wake each other, each of which is ready after this number of polls.
+    pub fn pair(alloc: Global, left: u64) -> Result<(Rally<W>, Rally<W>), AllocError> {
+        let one = Arc::new(alloc, Mutex::new(None))?;
+        let two = Arc::new(alloc, Mutex::new(None))?;
+        let first = Rally {
+            own: Arc::try_clone(&one)?,
+            partner: Arc::try_clone(&two)?,
+            is_left: false,
+            left,
+        };
+        let second = Rally {
+            own: two,
+            partner: one,
+            is_left: false,
+            left,
+        };
+        Ok((first, second))
+    }
+}
+
+impl<W: Wake> Rally<W> {
+    // Leaves a copy of the waker where the partner finds it.
+    fn leave(&mut self, w: &W) {
+        let before = match (w.copy(), self.own.try_lock()) {
+            (Ok(copy), Some(mut place)) => place.replace(copy),
+            _ => None,
+        };
+        drop(before);
+        self.is_left = true;
+    }
+
+    fn wake_partner(&self) {
+        if let Some(place) = self.partner.try_lock() {
+            if let Some(waker) = &*place {
+                waker.wake();
+            }
+        }
+    }
+}
+
+impl<W: Wake> Future<W> for Rally<W> {
+    type Output = u64;
+
+    fn poll(&mut self, w: &W) -> Poll<u64> {
+        if !self.is_left {
+            self.leave(w);
+        }
+        self.wake_partner();
+        if self.left == 0 {
+            return Poll::Ready(7);
+        }
+        self.left -= 1;
+        Poll::Pending
+    }
+}
+
 /// The size of a large future.
 const LARGE: usize = 4_096;
 

@@ -9,6 +9,7 @@
 
 pub mod futures;
 pub mod rows;
+pub mod running;
 pub mod searching;
 pub mod threads;
 pub mod ticking;

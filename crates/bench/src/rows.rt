@@ -1,5 +1,6 @@
 //! What is measured.
 use crate::futures::{IdleWaker, Large, LeavesWaker, Yields};
+use crate::running::{ping_pong, run_yields, threads_spawn, threads_yield};
 use crate::searching::{search_empty, search_own, search_steal};
 use crate::threads::threads_try_tick;
 use crate::ticking::{sleep_wake, spawn_tick, yield_tick};
@@ -33,6 +34,12 @@ pub enum Row {
     YieldTick,
     /// Put a tick to sleep, wake it by a spawn, and have it run the task.
     SleepWake,
+    /// Run one task that wakes itself, by a run.
+    YieldRun,
+    /// Run 1,000 tasks that wake themselves, by a run.
+    ManyYield,
+    /// Run two tasks that wake each other, by a run.
+    PingPong,
     /// Search as a runner whose own queue has tasks.
     SearchOwn,
     /// Search as a runner that steals 300 tasks of another by halves.
@@ -49,10 +56,22 @@ pub enum Row {
     ThreadsTryTick2,
     /// The same on four threads.
     ThreadsTryTick4,
+    /// Run 1,000 tasks that wake themselves, by a run on one thread.
+    ThreadsYield1,
+    /// The same by a run on each of two threads.
+    ThreadsYield2,
+    /// The same by a run on each of four threads.
+    ThreadsYield4,
+    /// Spawn tasks, and run them by a run, on one thread.
+    ThreadsSpawn1,
+    /// The same on each of two threads.
+    ThreadsSpawn2,
+    /// The same on each of four threads.
+    ThreadsSpawn4,
 }
 
 impl Row {
-    pub const ALL: [Row; 19] = [
+    pub const ALL: [Row; 28] = [
         Row::SpawnTryTick,
         Row::SpawnDrain,
         Row::YieldTryTick,
@@ -64,6 +83,9 @@ impl Row {
         Row::SpawnTick,
         Row::YieldTick,
         Row::SleepWake,
+        Row::YieldRun,
+        Row::ManyYield,
+        Row::PingPong,
         Row::SearchOwn,
         Row::SearchSteal,
         Row::SearchEmpty4,
@@ -72,6 +94,12 @@ impl Row {
         Row::ThreadsTryTick1,
         Row::ThreadsTryTick2,
         Row::ThreadsTryTick4,
+        Row::ThreadsYield1,
+        Row::ThreadsYield2,
+        Row::ThreadsYield4,
+        Row::ThreadsSpawn1,
+        Row::ThreadsSpawn2,
+        Row::ThreadsSpawn4,
     ];
 
     /// The name on the command line.
@@ -88,6 +116,9 @@ impl Row {
             Row::SpawnTick => "spawn_tick",
             Row::YieldTick => "yield_tick",
             Row::SleepWake => "sleep_wake",
+            Row::YieldRun => "yield_run",
+            Row::ManyYield => "many_yield",
+            Row::PingPong => "ping_pong",
             Row::SearchOwn => "search_own",
             Row::SearchSteal => "search_steal",
             Row::SearchEmpty4 => "search_empty_4",
@@ -96,6 +127,12 @@ impl Row {
             Row::ThreadsTryTick1 => "threads_try_tick_1",
             Row::ThreadsTryTick2 => "threads_try_tick_2",
             Row::ThreadsTryTick4 => "threads_try_tick_4",
+            Row::ThreadsYield1 => "threads_yield_1",
+            Row::ThreadsYield2 => "threads_yield_2",
+            Row::ThreadsYield4 => "threads_yield_4",
+            Row::ThreadsSpawn1 => "threads_spawn_1",
+            Row::ThreadsSpawn2 => "threads_spawn_2",
+            Row::ThreadsSpawn4 => "threads_spawn_4",
         }
     }
 
@@ -122,6 +159,9 @@ impl Row {
             Row::SpawnTick => spawn_tick(rt, alloc, operations),
             Row::YieldTick => yield_tick(rt, alloc, operations),
             Row::SleepWake => sleep_wake(rt, alloc, operations),
+            Row::YieldRun => run_yields(rt, alloc, 1, 1, operations),
+            Row::ManyYield | Row::ThreadsYield1 => threads_yield(rt, alloc, 1, operations),
+            Row::PingPong => ping_pong(rt, alloc, operations),
             Row::SearchOwn => search_own(alloc, operations),
             Row::SearchSteal => search_steal(alloc, operations),
             Row::SearchEmpty4 => search_empty(alloc, operations),
@@ -130,12 +170,17 @@ impl Row {
             Row::ThreadsTryTick1 => threads_try_tick(rt, alloc, 1, operations),
             Row::ThreadsTryTick2 => threads_try_tick(rt, alloc, 2, operations),
             Row::ThreadsTryTick4 => threads_try_tick(rt, alloc, 4, operations),
-            _ => self.run_yields(rt, alloc, operations),
+            Row::ThreadsYield2 => threads_yield(rt, alloc, 2, operations),
+            Row::ThreadsYield4 => threads_yield(rt, alloc, 4, operations),
+            Row::ThreadsSpawn1 => threads_spawn(rt, alloc, 1, operations),
+            Row::ThreadsSpawn2 => threads_spawn(rt, alloc, 2, operations),
+            Row::ThreadsSpawn4 => threads_spawn(rt, alloc, 4, operations),
+            _ => self.run_by_ticks(rt, alloc, operations),
         }
     }
 
-    // The rows on one thread whose futures are `Yields`.
-    fn run_yields<R: Wait + Clone + Drop + Send + Sync>(
+    // The rows of `try_tick` and of handles on one thread whose futures are `Yields`.
+    fn run_by_ticks<R: Wait + Clone + Drop + Send + Sync>(
         self,
         rt: &R,
         alloc: Global,

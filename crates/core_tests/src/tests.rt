@@ -1,7 +1,9 @@
 //! Worked runs of the table, of the sleepers, and of a world.
 mod cells;
+mod lines;
 mod notices;
 mod order;
+mod rings;
 mod runners;
 mod sleepers;
 mod tasks;

@@ -1,5 +1,5 @@
 //! What may cross threads. These functions only have to compile.
-use async_executor::executor::{Cancel, Executor, FallibleTask, Task, TaskWaker, Tick};
+use async_executor::executor::{Cancel, Executor, FallibleTask, Run, Task, TaskWaker, Tick};
 use executor_core::task::{Future, Wake};
 use std::sync::Wait;
 
@@ -50,4 +50,30 @@ where
 {
     is_sent(tick);
     is_shared(tick);
+}
+
+/// A run may be sent where its own future may be.
+pub fn run_is_sent<
+    F: Future<TaskWaker<W, R>> + Send,
+    W: Wake + Send,
+    R: Wait + Clone + Drop + Send + Sync,
+    G: Future<W> + Send,
+>(run: &Run<'_, F, W, R, G>)
+where
+    F::Output: Send,
+{
+    is_sent(run);
+}
+
+/// A run may be shared where its own future may be.
+pub fn run_is_shared<
+    F: Future<TaskWaker<W, R>> + Send,
+    W: Wake + Send,
+    R: Wait + Clone + Drop + Send + Sync,
+    G: Future<W> + Sync,
+>(run: &Run<'_, F, W, R, G>)
+where
+    F::Output: Send,
+{
+    is_shared(run);
 }

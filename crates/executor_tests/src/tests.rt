@@ -1,8 +1,10 @@
+mod awaiting;
 mod borrowing;
 mod cancelling;
 mod dropping;
 mod nesting;
 mod outputs;
 mod places;
+mod running;
 mod ticking;
 mod waking;

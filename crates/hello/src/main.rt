@@ -1,8 +1,11 @@
-//! One task, run to its end on the thread of `main`.
+//! One task, which the thread of `main` awaits, and which it runs meanwhile.
 #![tactic(auto)]
 
 use async_executor::{Executor, Future, OutOfMemory, Poll, Wake};
+use std::alloc::Global;
 use std::io;
+use std::sync::{Arc, Wait};
+use std::thread::Parker;
 
 /// Gives the sum of two numbers at its second poll. At its first poll it asks for the second.
 #[derive(Drop)]
@@ -24,36 +27,60 @@ impl<W: Wake> Future<W> for Sum {
     }
 }
 
-/// The waker of a caller that asks for the output only once it is there.
+/// Unparks the thread that parks here.
 #[derive(Drop)]
-struct Nobody;
+struct ThreadWaker {
+    parker: Arc<Parker>,
+}
 
-impl Wake for Nobody {
-    fn wake(&self) {}
+impl Wake for ThreadWaker {
+    fn wake(&self) {
+        self.parker.unpark();
+    }
 
     fn copy(&self) -> Result<Self, OutOfMemory> {
-        Ok(Nobody)
+        let parker = Arc::try_clone(&self.parker)?;
+        Ok(ThreadWaker { parker })
     }
 }
 
-fn main(rt: HostRuntime) -> io::Result<()> {
-    let Ok(executor) = Executor::new(rt.clone()?, rt.alloc()) else {
-        return println!(rt; "no memory for an executor");
+/// Polls the future until it is ready. While it is not, the thread parks.
+fn block_on<G: Future<ThreadWaker>>(
+    rt: &impl Wait,
+    mine: &ThreadWaker,
+    future: &mut G,
+) -> G::Output {
+    for _ in rt.forever() {
+        if let Poll::Ready(output) = future.poll(mine) {
+            return output;
+        }
+        mine.parker.park(rt);
+    }
+    unreachable!()
+}
+
+/// Spawns a task and awaits it. The run polls its handle, and runs tasks between the polls.
+fn add<R: Wait + Clone + Drop + Send + Sync>(
+    rt: &R,
+    alloc: Global,
+    numbers: (u32, u32),
+) -> Option<u64> {
+    let mine = ThreadWaker {
+        parker: Arc::new(alloc, Parker::new()).ok()?,
     };
+    let executor = Executor::new(rt.clone().ok()?, alloc).ok()?;
     let sum = Sum {
-        numbers: (1, 2),
+        numbers,
         is_polled: false,
     };
-    let Ok(mut task) = executor.spawn(sum) else {
-        return println!(rt; "no memory for a task");
-    };
-    for _ in rt.forever() {
-        if !executor.try_tick() {
-            break;
-        }
-    }
-    match task.poll(&Nobody) {
-        Poll::Ready(Ok(sum)) => println!(rt; "1 + 2 is {sum}"),
-        Poll::Ready(Err(_)) | Poll::Pending => println!(rt; "no output"),
+    let task = executor.spawn(sum).ok()?;
+    let mut run = executor.run(task).ok()?;
+    block_on(rt, &mine, &mut run).ok()
+}
+
+fn main(rt: HostRuntime) -> io::Result<()> {
+    match add(&rt, rt.alloc(), (1, 2)) {
+        Some(sum) => println!(rt; "1 + 2 is {sum}"),
+        None => println!(rt; "no memory"),
     }
 }

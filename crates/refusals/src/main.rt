@@ -25,7 +25,7 @@ fn main(rt: HostRuntime) -> io::Result<ExitCode> {
     running::spawn_and_run(&rt, alloc, &mut outcome);
     running::tick_and_run(&rt, alloc, &mut outcome);
     println!(rt;
-        "refused: Cells::new {}, Cells::spawn {}, Cells::reserve_runner {}, Ring::new {}, Sleepers::reserve {}, Core::new {}, Core::reserve {}, World::new {}, World::run {}, World::step {}, Executor::new {}, Executor::spawn {}, Executor::tick {}, steps {}; wrong: {}",
+        "refused: Cells::new {}, Cells::spawn {}, Cells::reserve_runner {}, Ring::new {}, Sleepers::reserve {}, Core::new {}, Core::reserve {}, World::new {}, World::run {}, World::step {}, Executor::new {}, Executor::spawn {}, Executor::tick {}, Executor::run {}, steps {}; wrong: {}",
         outcome.cells_new,
         outcome.cells_spawn,
         outcome.cells_reserve_runner,
@@ -39,6 +39,7 @@ fn main(rt: HostRuntime) -> io::Result<ExitCode> {
         outcome.executor_new,
         outcome.executor_spawn,
         outcome.executor_tick,
+        outcome.executor_run,
         outcome.steps,
         outcome.wrong
     )?;

@@ -17,6 +17,7 @@ pub struct Outcome {
     pub executor_new: u32,
     pub executor_spawn: u32,
     pub executor_tick: u32,
+    pub executor_run: u32,
     pub steps: u32,
     pub wrong: u32,
 }
@@ -38,6 +39,7 @@ impl Outcome {
             executor_new: 0,
             executor_spawn: 0,
             executor_tick: 0,
+            executor_run: 0,
             steps: 0,
             wrong: 0,
         }

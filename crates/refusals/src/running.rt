@@ -1,12 +1,12 @@
 //! The calls of a running executor that take memory.
 use crate::outcome::{Outcome, count};
-use async_executor::executor::{Executor, Tick};
+use async_executor::executor::{Executor, Run, RunError, Tick};
 use executor_core::task::{Future, OutOfMemory, Poll, SpawnError, Wake};
 use std::alloc::Global;
 use std::sync::Wait;
 use std::sync::atomic::{AtomicU64, Ordering};
 
-/// So many tasks, and so many ticks, that each table grows more than once.
+/// So many tasks, and so many ticks or runs, that each table grows more than once.
 const TASKS: u64 = 5;
 
 /// Counts how often it and its copies are woken.
@@ -127,25 +127,53 @@ fn ticked<'x, 'a, R: Wait + Clone + Drop + Send + Sync>(
         return Some(tick);
     }
     count(&mut outcome.executor_tick);
-    let again = ex.tick().ok();
-    outcome.expect(again.is_some());
-    again
+    ex.tick().ok()
 }
 
-// Whether a poll of the tick answers this.
-fn answers<'a, R: Wait + Clone + Drop + Send + Sync>(
-    tick: &mut Option<Tick<'_, Adds<'a>, CountingWaker<'a>, R>>,
-    waker: &CountingWaker<'a>,
+/// A future beside which a run runs tasks. It is never ready.
+#[derive(Drop)]
+struct Beside {
+    number: u64,
+}
+
+impl<W> Future<W> for Beside {
+    type Output = ();
+
+    fn poll(&mut self, _w: &W) -> Poll<()> {
+        Poll::Pending
+    }
+}
+
+// A run, made again where it is refused.
+fn run_made<'x, 'a, R: Wait + Clone + Drop + Send + Sync>(
+    ex: &'x AddingExecutor<'a, R>,
+    outcome: &mut Outcome,
+) -> Option<Run<'x, Adds<'a>, CountingWaker<'a>, R, Beside>> {
+    let refusal = match ex.run(Beside { number: 7 }) {
+        Ok(run) => return Some(run),
+        Err(refusal) => refusal,
+    };
+    count(&mut outcome.executor_run);
+    outcome.expect(matches!(&refusal, RunError::OutOfMemory(_)));
+    let future = refusal.into_inner();
+    outcome.expect(future.number == 7);
+    ex.run(future).ok()
+}
+
+// Whether a poll answers this.
+fn answers<W, T: Future<W, Output = ()>>(
+    ticker: &mut Option<T>,
+    waker: &W,
     answer: Poll<()>,
 ) -> bool {
-    match tick {
-        Some(tick) => tick.poll(waker) == answer,
+    match ticker {
+        Some(ticker) => ticker.poll(waker) == answer,
         None => false,
     }
 }
 
-// Makes so many ticks, which go to sleep. Then tasks are spawned, and each tick runs one of them.
-// A tick that finds no place among the sleepers wakes its waker.
+// Makes so many ticks and runs, which go to sleep. Then tasks are spawned, and each tick runs one of
+// them. A tick or a run that finds no place among the sleepers or the runners wakes its waker.
 fn sleep_and_run<'a, R: Wait + Clone + Drop + Send + Sync>(
     ex: &AddingExecutor<'a, R>,
     sum: &'a AtomicU64,
@@ -160,13 +188,27 @@ fn sleep_and_run<'a, R: Wait + Clone + Drop + Send + Sync>(
         return outcome.expect(wakes.load(Ordering::SeqCst) == 1);
     }
     let mut tick = ticked(ex, outcome);
+    let mut run = run_made(ex, outcome);
     outcome.expect(answers(&mut tick, &waker, Poll::Pending));
+    outcome.expect(answers(&mut run, &waker, Poll::Pending));
     sleep_and_run(ex, sum, wakes, left - 1, outcome);
     outcome.expect(answers(&mut tick, &waker, Poll::Ready(())));
 }
 
-/// Makes ticks on a new executor, which sleep and then run tasks. A call that is refused is made
-/// again, and has taken no place from the others.
+// Runs tasks by one run.
+fn run_by_run<'a, R: Wait + Clone + Drop + Send + Sync>(
+    ex: &AddingExecutor<'a, R>,
+    sum: &'a AtomicU64,
+    wakes: &'a AtomicU64,
+    outcome: &mut Outcome,
+) {
+    let mut run = run_made(ex, outcome);
+    spawn_all(ex, sum, outcome);
+    outcome.expect(answers(&mut run, &CountingWaker { wakes }, Poll::Pending));
+}
+
+/// Makes ticks and runs on a new executor, which sleep and then run tasks. A call that is refused is
+/// made again, and has taken no place from the others.
 pub fn tick_and_run<R: Wait + Clone + Drop + Send + Sync>(
     rt: &R,
     alloc: Global,
@@ -177,6 +219,8 @@ pub fn tick_and_run<R: Wait + Clone + Drop + Send + Sync>(
         return outcome.expect(false);
     };
     sleep_and_run(&ex, &sum, &wakes, TASKS, outcome);
+    outcome.expect(sum.swap(0, Ordering::SeqCst) == TASKS * (TASKS - 1) / 2);
+    run_by_run(&ex, &sum, &wakes, outcome);
     outcome.expect(sum.load(Ordering::SeqCst) == TASKS * (TASKS - 1) / 2);
     outcome.expect(ex.is_empty());
 }

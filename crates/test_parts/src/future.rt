@@ -2,6 +2,7 @@
 use crate::record::{AtDrop, Moment, Record};
 use executor_core::task::{Future, Poll, Wake};
 use std::alloc::{AllocError, Global};
+use std::sync::atomic::{AtomicU64, Ordering};
 use std::sync::{Arc, Mutex};
 
 /// Ready with its output at the first poll.
@@ -25,6 +26,34 @@ impl<T: Drop, W> Future<W> for Ready<T> {
         match self.output.take() {
             Some(output) => Poll::Ready(output),
             None => Poll::Pending,
+        }
+    }
+}
+
+/// Ready once a count that others add to is so high.
+#[derive(Drop)]
+pub struct Until {
+    count: Arc<AtomicU64>,
+    all: u64,
+}
+
+impl Until {
+    pub fn new(count: &Arc<AtomicU64>, all: u64) -> Result<Until, AllocError> {
+        Ok(Until {
+            count: Arc::try_clone(count)?,
+            all,
+        })
+    }
+}
+
+impl<W> Future<W> for Until {
+    type Output = ();
+
+    fn poll(&mut self, _w: &W) -> Poll<()> {
+        if self.count.load(Ordering::SeqCst) >= self.all {
+            Poll::Ready(())
+        } else {
+            Poll::Pending
         }
     }
 }

@@ -5,9 +5,9 @@ use crate::record::Moment;
 /// What a call answers.
 #[derive(Clone, Copy, PartialEq, Eq, Debug)]
 pub enum Answer {
-    /// A poll of a handle or a tick is pending.
+    /// A poll of a handle, a tick or a run is pending.
     Pending,
-    /// A poll of a handle gives this output.
+    /// A poll of a handle or a run gives this output.
     Output(u64),
     /// A poll of a handle gives `Cancelled`, or `None`.
     Cancelled,
@@ -15,20 +15,29 @@ pub enum Answer {
     Ticked,
     /// A tick found no task.
     Idle,
-    /// A handle or a tick is gone.
+    /// A handle, a tick or a run is gone.
     Gone,
 }
 
-/// What is done, and what has to come of it. A task has the number of its spawn. Ticks are numbered
-/// among the tasks, and what a line says of a handle goes for a tick as well.
+/// What is done, and what has to come of it. A task has the number of its spawn. Ticks and runs are
+/// numbered among the tasks, and what a line says of a handle goes for them as well; what it says of
+/// a task's future goes for the future beside which a run runs tasks.
 #[derive(Clone, Copy, Debug)]
 pub enum Line {
     /// A task of this future is spawned.
     Spawn(Kind),
+    /// So many tasks that are ready at their first poll are spawned and detached.
+    SpawnMany(u64),
+    /// So many of those were polled.
+    ManyRan(u64),
     /// A `try_tick` by this thread answers this.
     Tick(bool),
+    /// So many of them answer true, and the next one false.
+    Ticks(u64),
     /// A tick is made.
     MakeTick,
+    /// A run is made, beside this future.
+    MakeRun(Kind),
     /// The executor is empty, or not.
     Empty(bool),
     /// The executor is dropped.

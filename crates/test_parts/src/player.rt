@@ -2,16 +2,19 @@
 use crate::future::{Kind, TestFuture, WakerPlace};
 use crate::halt::Halt;
 use crate::line::{Answer, Line};
-use crate::record::Record;
-use crate::task::{Entry, Handle, TaskFuture, TestExecutor, TestTick};
+use crate::record::{Moment, Record};
+use crate::task::{Entry, Handle, TaskFuture, TestExecutor, TestTicker, Ticker, spawned};
 use crate::waker::TestWaker;
-use async_executor::executor::{Executor, Tick};
+use async_executor::executor::Executor;
 use executor_core::task::{Future, Wake};
 use std::alloc::Global;
 use std::sync::{Arc, Wait};
 use std::test::Fail;
 use std::thread;
 use std::thread::{JoinHandle, Scope, Threads};
+
+// More than there are tasks in a test.
+const MOST_TICKS: u64 = 1_000;
 
 // A call that another thread makes.
 #[derive(Drop)]
@@ -30,7 +33,7 @@ struct Return<T, R: Wait + Clone + Drop + Send + Sync> {
     polled: Option<(usize, Handle<T, R>, TestWaker)>,
 }
 
-impl<T: TestTick<R>, R: Wait + Clone + Drop + Send + Sync> Call<T, R> {
+impl<T: TestTicker<R>, R: Wait + Clone + Drop + Send + Sync> Call<T, R> {
     fn make(self) -> Return<T, R> {
         let answer = match self {
             Call::Tick(ex) => {
@@ -74,6 +77,7 @@ impl<T: TestTick<R>, R: Wait + Clone + Drop + Send + Sync> Call<T, R> {
 struct Player<'s, E: 's, T, R: Wait + Threads + Clone + Drop + Send + Sync> {
     scope: &'s Scope<'s, E>,
     entries: Vec<Entry<T, R>>,
+    many: Record,
     ex: Option<Arc<TestExecutor<R>>>,
     other: Option<JoinHandle<Return<T, R>>>,
     halt: Halt,
@@ -81,7 +85,7 @@ struct Player<'s, E: 's, T, R: Wait + Threads + Clone + Drop + Send + Sync> {
     rt: R,
 }
 
-impl<'s, E: 's, T: TestTick<R> + 's, R: Wait + Threads + Clone + Drop + Send + Sync + 's> Player<
+impl<'s, E: 's, T: TestTicker<R> + 's, R: Wait + Threads + Clone + Drop + Send + Sync + 's> Player<
     's,
     E,
     T,
@@ -92,6 +96,7 @@ impl<'s, E: 's, T: TestTick<R> + 's, R: Wait + Threads + Clone + Drop + Send + S
         Ok(Player {
             scope,
             entries: Vec::new(alloc),
+            many: Record::new(alloc)?,
             ex: Some(Arc::new(alloc, ex)?),
             other: None,
             halt: Halt::new(alloc)?,
@@ -104,8 +109,12 @@ impl<'s, E: 's, T: TestTick<R> + 's, R: Wait + Threads + Clone + Drop + Send + S
     fn holds(&mut self, line: Line) -> Result<bool, Fail> {
         match line {
             Line::Spawn(kind) => self.spawn(kind),
+            Line::SpawnMany(count) => self.spawn_many(count),
+            Line::ManyRan(count) => Ok(self.many.times(Moment::FuturePoll) == count),
             Line::Tick(answer) => Ok(self.tick() == Some(answer)),
+            Line::Ticks(count) => Ok(self.tick_all() == Some(count)),
             Line::MakeTick => self.make_tick(),
+            Line::MakeRun(kind) => self.make_run(kind),
             Line::Empty(answer) => Ok(self.is_empty() == Some(answer)),
             Line::DropExecutor => Ok(self.ex.take().is_some()),
             Line::Used => self.is_used(),
@@ -149,6 +158,17 @@ impl<'s, E: 's, T: TestTick<R> + 's, R: Wait + Threads + Clone + Drop + Send + S
         Ok(true)
     }
 
+    fn spawn_many(&self, count: u64) -> Result<bool, Fail> {
+        let Some(ex) = &self.ex else {
+            return Ok(false);
+        };
+        for _ in 0..count {
+            let place = WakerPlace::new(self.alloc)?;
+            spawned(ex, TestFuture::new(Kind::Ready(0), place, &self.many)?)?.detach();
+        }
+        Ok(true)
+    }
+
     fn make_tick(&mut self) -> Result<bool, Fail> {
         let Some(ex) = &self.ex else {
             return Ok(false);
@@ -158,11 +178,30 @@ impl<'s, E: 's, T: TestTick<R> + 's, R: Wait + Threads + Clone + Drop + Send + S
         Ok(true)
     }
 
+    fn make_run(&mut self, kind: Kind) -> Result<bool, Fail> {
+        let Some(ex) = &self.ex else {
+            return Ok(false);
+        };
+        let entry = Entry::run(ex, kind, self.alloc, &self.halt)?;
+        self.entries.push(entry)?;
+        Ok(true)
+    }
+
     fn tick(&self) -> Option<bool> {
         match &self.ex {
             Some(ex) => Some(ex.try_tick()),
             None => None,
         }
+    }
+
+    // How many tasks ticks run until there is none.
+    fn tick_all(&self) -> Option<u64> {
+        for count in 0..MOST_TICKS {
+            if self.tick() != Some(true) {
+                return Some(count);
+            }
+        }
+        None
     }
 
     fn is_empty(&self) -> Option<bool> {
@@ -285,11 +324,11 @@ pub fn play<R: AllocGlobal + Wait + Threads + Clone + Drop + Send + Sync + 'stat
     rt: &R,
     lines: &[Line],
 ) -> Result<(), Fail> {
-    play_by::<Tick<'static, TaskFuture<R>, TestWaker, R>, R>(rt, lines)
+    play_by::<Ticker<'static, R>, R>(rt, lines)
 }
 
-// The same, by ticks of this type.
-fn play_by<T: TestTick<R>, R: AllocGlobal + Wait + Threads + Clone + Drop + Send + Sync>(
+// The same, by ticks and runs of this type.
+fn play_by<T: TestTicker<R>, R: AllocGlobal + Wait + Threads + Clone + Drop + Send + Sync>(
     rt: &R,
     lines: &[Line],
 ) -> Result<(), Fail> {
@@ -304,7 +343,7 @@ fn play_by<T: TestTick<R>, R: AllocGlobal + Wait + Threads + Clone + Drop + Send
 fn play_in<
     's,
     E: 's,
-    T: TestTick<R> + 's,
+    T: TestTicker<R> + 's,
     R: AllocGlobal + Wait + Threads + Clone + Drop + Send + Sync + 's,
 >(scope: &'s Scope<'s, E>, rt: &R, lines: &[Line]) -> Result<(), Fail> {
     let mut player = Player::<'s, E, T, R>::new(scope, rt.clone()?, rt.alloc())?;

@@ -1,10 +1,10 @@
-//! One task or tick of a test.
+//! One task, tick or run of a test.
 use crate::future::{Kind, Output, TestFuture, WakerPlace};
 use crate::halt::Halt;
 use crate::line::{Answer, Line};
 use crate::record::{Moment, Record};
 use crate::waker::TestWaker;
-use async_executor::executor::{Cancel, Executor, FallibleTask, Task, TaskWaker, Tick};
+use async_executor::executor::{Cancel, Executor, FallibleTask, Run, Task, TaskWaker, Tick};
 use executor_core::task::{Future, Poll, Wake};
 use std::alloc::Global;
 use std::sync::{Arc, Wait};
@@ -19,33 +19,67 @@ pub type TaskFuture<R> = TestFuture<FutureWaker<R>>;
 /// The executors of a test.
 pub type TestExecutor<R> = Executor<TaskFuture<R>, TestWaker, R>;
 
-/// A tick that may go to another thread. Who uses it need not name how long its executor lives.
-pub trait TestTick<R: Wait + Clone + Drop + Send + Sync>: Future<TestWaker, Output = ()>
-    + Send
-    + Drop
-    + Sized {
+/// The future beside which a run of a test runs tasks.
+pub type OwnFuture = TestFuture<TestWaker>;
+
+/// A tick or a run that may go to another thread. Who uses it need not name how long its executor
+/// lives.
+pub trait TestTicker<R: Wait + Clone + Drop + Send + Sync>: Send + Drop + Sized {
     /// A tick of this executor, whose share of it is never dropped.
-    fn new(ex: &Arc<TestExecutor<R>>, alloc: Global) -> Result<Self, Fail>;
+    fn tick(ex: &Arc<TestExecutor<R>>, alloc: Global) -> Result<Self, Fail>;
+
+    /// A run of this executor beside this future. Its share of the executor is never dropped.
+    fn run(ex: &Arc<TestExecutor<R>>, own: OwnFuture, alloc: Global) -> Result<Self, Fail>;
+
+    /// What a poll answers, and the output of a run's own future.
+    fn poll(&mut self, w: &TestWaker) -> (Answer, Option<Output>);
 }
 
-impl<'a, R: Wait + Clone + Drop + Send + Sync + 'static> TestTick<R>
-    for Tick<'a, TaskFuture<R>, TestWaker, R> {
-    fn new(ex: &Arc<TestExecutor<R>>, alloc: Global) -> Result<Self, Fail> {
+/// A tick or a run of an executor of a test.
+#[derive(Drop)]
+pub enum Ticker<'a, R: Wait + Clone + Drop + Send + Sync> {
+    Tick(Tick<'a, TaskFuture<R>, TestWaker, R>),
+    Run(Run<'a, TaskFuture<R>, TestWaker, R, OwnFuture>),
+}
+
+impl<'a, R: Wait + Clone + Drop + Send + Sync> TestTicker<R> for Ticker<'a, R> {
+    fn tick(ex: &Arc<TestExecutor<R>>, alloc: Global) -> Result<Self, Fail> {
         let share: &'a Arc<TestExecutor<R>> = Box::leak(Box::new(alloc, Arc::try_clone(ex)?)?);
-        Ok(share.tick()?)
+        Ok(Ticker::Tick(share.tick()?))
+    }
+
+    fn run(ex: &Arc<TestExecutor<R>>, own: OwnFuture, alloc: Global) -> Result<Self, Fail> {
+        let share: &'a Arc<TestExecutor<R>> = Box::leak(Box::new(alloc, Arc::try_clone(ex)?)?);
+        match share.run(own) {
+            Ok(run) => Ok(Ticker::Run(run)),
+            Err(_) => Err("no memory for a run".into()),
+        }
+    }
+
+    fn poll(&mut self, w: &TestWaker) -> (Answer, Option<Output>) {
+        match self {
+            Ticker::Tick(tick) => match tick.poll(w) {
+                Poll::Ready(()) => (Answer::Ticked, None),
+                Poll::Pending => (Answer::Pending, None),
+            },
+            Ticker::Run(run) => match run.poll(w) {
+                Poll::Ready(output) => (Answer::Output(output.number), Some(output)),
+                Poll::Pending => (Answer::Pending, None),
+            },
+        }
     }
 }
 
-/// A handle of any kind, or a tick, which is polled and dropped as a handle is.
+/// A handle of any kind, or a tick or a run, which is polled and dropped as a handle is.
 #[derive(Drop)]
 pub enum Handle<T, R: Wait + Clone + Drop + Send + Sync> {
     Task(Task<TaskFuture<R>, TestWaker, R>),
     Cancel(Cancel<TaskFuture<R>, TestWaker, R>),
     Fallible(FallibleTask<TaskFuture<R>, TestWaker, R>),
-    Tick(T),
+    Ticker(T),
 }
 
-impl<T: TestTick<R>, R: Wait + Clone + Drop + Send + Sync> Handle<T, R> {
+impl<T: TestTicker<R>, R: Wait + Clone + Drop + Send + Sync> Handle<T, R> {
     pub fn poll(&mut self, w: &TestWaker) -> (Answer, Option<Output>) {
         let answer = match self {
             Handle::Task(task) => match task.poll(w) {
@@ -54,10 +88,7 @@ impl<T: TestTick<R>, R: Wait + Clone + Drop + Send + Sync> Handle<T, R> {
             },
             Handle::Cancel(cancel) => cancel.poll(w),
             Handle::Fallible(fallible) => fallible.poll(w),
-            Handle::Tick(tick) => match tick.poll(w) {
-                Poll::Ready(()) => return (Answer::Ticked, None),
-                Poll::Pending => Poll::Pending,
-            },
+            Handle::Ticker(ticker) => return ticker.poll(w),
         };
         match answer {
             Poll::Pending => (Answer::Pending, None),
@@ -69,7 +100,7 @@ impl<T: TestTick<R>, R: Wait + Clone + Drop + Send + Sync> Handle<T, R> {
     fn is_finished(&self) -> Option<bool> {
         match self {
             Handle::Task(task) => Some(task.is_finished()),
-            Handle::Cancel(_) | Handle::Tick(_) => None,
+            Handle::Cancel(_) | Handle::Ticker(_) => None,
             Handle::Fallible(fallible) => Some(fallible.is_finished()),
         }
     }
@@ -96,7 +127,7 @@ impl<T: TestTick<R>, R: Wait + Clone + Drop + Send + Sync> Handle<T, R> {
                 task.detach();
                 true
             }
-            Handle::Cancel(_) | Handle::Tick(_) => false,
+            Handle::Cancel(_) | Handle::Ticker(_) => false,
             Handle::Fallible(fallible) => {
                 fallible.detach();
                 true
@@ -105,7 +136,8 @@ impl<T: TestTick<R>, R: Wait + Clone + Drop + Send + Sync> Handle<T, R> {
     }
 }
 
-/// A task, its handle, and the waker that its handle is polled by; or a tick in place of the handle.
+/// A task, its handle, and the waker that its handle is polled by; or a tick or a run in place of
+/// the handle.
 #[derive(Drop)]
 pub struct Entry<T, R: Wait + Clone + Drop + Send + Sync> {
     pub handle: Option<Handle<T, R>>,
@@ -117,7 +149,7 @@ pub struct Entry<T, R: Wait + Clone + Drop + Send + Sync> {
     other: Record,
 }
 
-impl<T: TestTick<R>, R: Wait + Clone + Drop + Send + Sync> Entry<T, R> {
+impl<T: TestTicker<R>, R: Wait + Clone + Drop + Send + Sync> Entry<T, R> {
     // What has no handle yet.
     fn new(alloc: Global, halt: &Halt) -> Result<Entry<T, R>, Fail> {
         let record = Record::with_halt(alloc, halt)?;
@@ -152,7 +184,20 @@ impl<T: TestTick<R>, R: Wait + Clone + Drop + Send + Sync> Entry<T, R> {
         halt: &Halt,
     ) -> Result<Entry<T, R>, Fail> {
         let mut entry = Entry::new(alloc, halt)?;
-        entry.handle = Some(Handle::Tick(T::new(ex, alloc)?));
+        entry.handle = Some(Handle::Ticker(T::tick(ex, alloc)?));
+        Ok(entry)
+    }
+
+    /// A new run of this executor, beside a future of this kind.
+    pub fn run(
+        ex: &Arc<TestExecutor<R>>,
+        kind: Kind,
+        alloc: Global,
+        halt: &Halt,
+    ) -> Result<Entry<T, R>, Fail> {
+        let mut entry = Entry::new(alloc, halt)?;
+        let own = TestFuture::new(kind, WakerPlace::new(alloc)?, &entry.record)?;
+        entry.handle = Some(Handle::Ticker(T::run(ex, own, alloc)?));
         Ok(entry)
     }
 

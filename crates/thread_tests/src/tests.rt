@@ -1,5 +1,7 @@
 mod locks;
 mod races;
+mod run_locks;
+mod sharing;
 mod stack;
 mod threads;
 mod ticks;

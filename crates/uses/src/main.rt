@@ -4,12 +4,14 @@
 mod calling;
 mod futures;
 mod parking;
+mod pooling;
 
 use async_executor::{Cancelled, Executor, Future, OutOfMemory, Poll, TaskWaker, Wake};
 use calling::{asks_again, gives_back};
 use executor_core::interleave::{Reply, Step, World};
 use futures::{Job, Nobody, Receiver, Sum, send};
 use parking::parks;
+use pooling::pools;
 use std::alloc::Global;
 use std::io;
 use std::sync::Wait;
@@ -210,5 +212,6 @@ fn main(rt: HostRuntime) -> io::Result<()> {
     println!(rt; "boxes: {:?}", boxes(&rt, alloc))?;
     println!(rt; "receives: {:?}", receives(&rt, alloc))?;
     println!(rt; "parks: {:?}", parks(&rt, alloc))?;
+    println!(rt; "pools: {:?}", pools(&rt, alloc))?;
     println!(rt; "interleaves: {:?}", interleaves(alloc))
 }

@@ -10,12 +10,12 @@ use std::thread::{self, Parker, Threads};
 /// Where one thread parks, and what wakes it there. A wake is not lost where it comes before the
 /// thread parks: it does not wait then.
 #[derive(Drop)]
-struct ThreadWaker {
+pub struct ThreadWaker {
     parker: Arc<Parker>,
 }
 
 impl ThreadWaker {
-    fn new(alloc: Global) -> Result<ThreadWaker, AllocError> {
+    pub fn new(alloc: Global) -> Result<ThreadWaker, AllocError> {
         Ok(ThreadWaker {
             parker: Arc::new(alloc, Parker::new())?,
         })
@@ -31,6 +31,21 @@ impl Wake for ThreadWaker {
         let parker = Arc::try_clone(&self.parker)?;
         Ok(ThreadWaker { parker })
     }
+}
+
+/// Polls the future until it is ready. While it is not, the thread parks.
+pub fn block_on<G: Future<ThreadWaker>>(
+    rt: &impl Wait,
+    mine: &ThreadWaker,
+    future: &mut G,
+) -> G::Output {
+    for _ in rt.forever() {
+        if let Poll::Ready(output) = future.poll(mine) {
+            return output;
+        }
+        mine.parker.park(rt);
+    }
+    unreachable!()
 }
 
 /// What the threads share: the executor, how many futures are left, and where the threads park.

@@ -1,254 +1,354 @@
-//! The sleepers, and the flag beside them, by their calls.
-ghost use Rattle.std.specs.Prelude.{◌≡◌, [], false, IfOk};
+//! The sleepers behind their lock, and the flag beside them, by their calls.
+ghost use Rattle.std.specs.Prelude.{◌≡◌, false};
 
-use crate::tests::notices::is_spent;
-use crate::tests::wakers::{Counter, is_woken, new_counter};
+use crate::tests::lines::{Player, play};
+use crate::tests::notices::{is_spent, spend};
+use crate::tests::tasks::{Tasks, run};
+use crate::tests::wakers::{Counter, Wakers, is_woken};
+use Line::{
+    At, FlagIs, List, NoPlace, Queue, QueueTwice, Queued, Release, Remove, Reserve, Sleep,
+    SleepAgain, Woken,
+};
 use executor_core::plain_core::FlagValue;
 use executor_core::sleepers::{ClosedSleepers, Flag, Removed, Sleepers, Update};
-use executor_core::task::{Again, Cells, Pick};
+use executor_core::task::{Again, Change, Notice, Pick};
+use std::alloc::Global;
 use std::sync::{Mutex, Wait};
 use std::test::Fail;
 
-type Tasks = Cells<u8, u64, Counter>;
-
-fn three_places(rt: &HostRuntime) -> Result<Sleepers<Counter>, Fail>
-    ensures { IfOk result (λ s. s.is_open ≡ false) }
-{
-    let mut sleepers = Sleepers::new(rt.alloc());
-    sleepers.reserve()?;
-    sleepers.reserve()?;
-    sleepers.reserve()?;
-    Ok(sleepers)
+// What is done with the sleepers and the flag, and what has to come of it. Whoever changes the list
+// stores the flag under the same lock, and whoever goes to sleep then searches once more, in vain.
+#[derive(Clone, Copy)]
+enum Line {
+    // One more place is reserved.
+    Reserve,
+    // A reserved place is given back.
+    Release,
+    // Someone with a new waker goes to sleep under this number.
+    Sleep(usize),
+    // Someone would go to sleep, but no place is free.
+    NoPlace,
+    // The sleeper of this number, which was notified, goes to sleep again with a new waker.
+    SleepAgain(usize),
+    // The sleeper of this number, which was not notified, is removed.
+    Remove(usize),
+    // A task is queued, and its notice spent: there is no pick, or one that wakes somebody or not.
+    Queue(Option<bool>),
+    // The same twice. Between the two someone goes to sleep under this number, and the picks are
+    // spent at the end.
+    QueueTwice(Option<bool>, usize, Option<bool>),
+    // So many tasks are queued.
+    Queued(usize),
+    // So many numbers are in use, this one is notified, and so many stand in the list.
+    List(usize, usize, usize),
+    // At this place of the list stands this number.
+    At(usize, usize),
+    // The waker of so many before it was woken so often.
+    Woken(usize, u32),
+    // The flag has this value.
+    FlagIs(bool),
 }
 
-// The search that a sleeper makes again, where there is no task.
-fn search_in_vain(empty: &mut Tasks, again: Again)
-    requires { empty.old.global ≡ [] }
-    ensures { empty.new.global ≡ [] }
-{
-    match empty.take_global(Some(again)) {
-        None => {}
-        Some(_) => unreachable!(),
-    }
+// The flag, of either kind.
+#[derive(Drop)]
+enum AnyFlag {
+    Plain(FlagValue),
+    Shared(Flag),
 }
 
-// Goes to sleep, stores the flag, and searches again in vain.
-fn sleep(
-    flag: &mut FlagValue,
-    sleepers: &mut Sleepers<Counter>,
-    empty: &mut Tasks,
-    waker: Counter,
-) -> Option<usize>
-    requires closed { sleepers.old.is_open ≡ false }
-    requires none { empty.old.global ≡ [] }
-    ensures closed { sleepers.new.is_open ≡ false }
-    ensures none { empty.new.global ≡ [] }
-{
-    match sleepers.insert(waker) {
-        Ok((number, change)) => {
-            let again = flag.store(change, sleepers);
-            search_in_vain(empty, again);
-            Some(number)
+impl AnyFlag {
+    fn get(&self) -> bool {
+        match self {
+            AnyFlag::Plain(flag) => flag.get(),
+            AnyFlag::Shared(flag) => flag.get(),
         }
-        Err(_) => None,
+    }
+
+    fn exchange(&mut self, notice: Notice) -> Option<Pick> {
+        match self {
+            AnyFlag::Plain(flag) => flag.exchange(notice),
+            AnyFlag::Shared(flag) => flag.exchange(notice),
+        }
+    }
+
+    fn store<X>(&mut self, change: Change<X>, sleepers: &mut Sleepers<Counter>) -> X
+        ensures { sleepers.new.is_open ≡ false }
+    {
+        match self {
+            AnyFlag::Plain(flag) => flag.store(change, sleepers),
+            AnyFlag::Shared(flag) => flag.store(change, sleepers),
+        }
     }
 }
 
-// The exchange of the flag for the notice of a task that is queued.
-fn exchange(flag: &mut FlagValue, tasks: &mut Tasks) -> Option<Pick> {
-    match tasks.spawn(0) {
-        Ok((_, notice)) => flag.exchange(notice),
-        Err(_) => None,
+// Whether the search that a sleeper makes again finds no task.
+fn search_in_vain(tasks: &mut Tasks, again: Again) -> bool {
+    match tasks.take_global(Some(again)) {
+        None => true,
+        Some((taken, notice)) => {
+            spend(notice);
+            run(tasks, taken, None);
+            false
+        }
     }
 }
 
-// Whether the pick, where there is one, woke somebody.
-fn notify(sleepers: &mut Sleepers<Counter>, pick: Option<Pick>) -> bool
-    requires { sleepers.old.is_open ≡ false }
-    ensures { sleepers.new.is_open ≡ false }
-{
-    match pick {
-        Some(pick) => is_woken(sleepers.notify(pick)),
-        None => false,
+// Sleepers and their flag, a table for the tasks that are queued, and an empty one for the searches
+// of those who sleep.
+#[derive(Drop)]
+struct Party<'r, R: Wait> {
+    rt: &'r R,
+    flag: AnyFlag,
+    lock: Mutex<ClosedSleepers<Counter>>,
+    tasks: Tasks,
+    empty: Tasks,
+    wakers: Wakers,
+}
+
+impl<'r, R: Wait> Party<'r, R> {
+    fn new(rt: &'r R, alloc: Global, flag: AnyFlag) -> Result<Party<'r, R>, Fail> {
+        let tasks = Tasks::new(alloc)?;
+        let empty = Tasks::new(alloc)?;
+        Ok(Party {
+            rt,
+            flag,
+            lock: Mutex::new(ClosedSleepers::new(alloc)),
+            tasks,
+            empty,
+            wakers: Wakers::new(alloc),
+        })
     }
+
+    fn reserve(&self) -> bool {
+        self.lock.lock(self.rt).sleepers.reserve().is_ok()
+    }
+
+    fn release(&self) -> bool {
+        self.lock.lock(self.rt).sleepers.release();
+        true
+    }
+
+    // The number of the one who goes to sleep, and whether its search was in vain.
+    fn sleep(&mut self, waker: Counter) -> Option<(usize, bool)> {
+        let mut guard = self.lock.lock(self.rt);
+        let sleepers = &mut guard.sleepers;
+        match sleepers.insert(waker) {
+            Ok((number, change)) => {
+                let again = self.flag.store(change, sleepers);
+                Some((number, search_in_vain(&mut self.empty, again)))
+            }
+            Err(_) => None,
+        }
+    }
+
+    // Whether the sleeper was notified, and its search was in vain.
+    fn sleep_again(&mut self, number: usize, waker: Counter) -> bool {
+        let mut guard = self.lock.lock(self.rt);
+        let sleepers = &mut guard.sleepers;
+        match sleepers.update(number, waker) {
+            Update::WasNotified(change) => {
+                let again = self.flag.store(change, sleepers);
+                search_in_vain(&mut self.empty, again)
+            }
+            Update::Asleep(_) | Update::Unknown(_) => false,
+        }
+    }
+
+    // Whether the sleeper left its waker, and no notice.
+    fn remove(&mut self, number: usize) -> bool {
+        let mut guard = self.lock.lock(self.rt);
+        let sleepers = &mut guard.sleepers;
+        let change = sleepers.remove(number);
+        let Removed { notice, waker } = self.flag.store(change, sleepers);
+        !is_spent(notice) && waker.is_some()
+    }
+
+    // The exchange of the flag for the notice of a task that is queued.
+    fn exchange(&mut self) -> Option<Pick> {
+        match self.tasks.spawn(0) {
+            Ok((_, notice)) => self.flag.exchange(notice),
+            Err(_) => None,
+        }
+    }
+
+    // Whether the pick, where there is one, wakes somebody.
+    fn notify(&mut self, pick: Option<Pick>) -> Option<bool> {
+        match pick {
+            Some(pick) => Some(is_woken(self.lock.lock(self.rt).sleepers.notify(pick))),
+            None => None,
+        }
+    }
+
+    fn queue(&mut self) -> Option<bool> {
+        let pick = self.exchange();
+        self.notify(pick)
+    }
+
+    // What the picks do, and who went to sleep between them.
+    fn queue_twice(
+        &mut self,
+        waker: Counter,
+    ) -> (Option<bool>, Option<(usize, bool)>, Option<bool>) {
+        let first = self.exchange();
+        let slept = self.sleep(waker);
+        let second = self.exchange();
+        let first = self.notify(first);
+        (first, slept, self.notify(second))
+    }
+
+    fn list(&self) -> (usize, usize, usize) {
+        let guard = self.lock.lock(self.rt);
+        let sleepers = &guard.sleepers;
+        (sleepers.numbers(), sleepers.notified(), sleepers.len())
+    }
+
+    fn at(&self, place: usize) -> Option<usize> {
+        self.lock.lock(self.rt).sleepers.at(place)
+    }
+
+    // Whether the line, which is one on someone with this waker who goes to sleep, holds.
+    fn sleeper_holds(&mut self, waker: Counter, line: Line) -> bool {
+        match line {
+            Sleep(number) => self.sleep(waker) == Some((number, true)),
+            NoPlace => self.sleep(waker).is_none(),
+            SleepAgain(number) => self.sleep_again(number, waker),
+            QueueTwice(first, number, second) => {
+                self.queue_twice(waker) == (first, Some((number, true)), second)
+            }
+            _ => false,
+        }
+    }
+}
+
+impl<'r, R: Wait> Player<Line> for Party<'r, R> {
+    fn holds(&mut self, line: Line) -> Result<bool, Fail> {
+        Ok(match line {
+            Reserve => self.reserve(),
+            Release => self.release(),
+            Sleep(_) | NoPlace | SleepAgain(_) | QueueTwice(_, _, _) => {
+                let waker = self.wakers.make()?;
+                self.sleeper_holds(waker, line)
+            }
+            Remove(number) => self.remove(number),
+            Queue(woken) => self.queue() == woken,
+            Queued(count) => self.tasks.global_len() == count,
+            List(numbers, notified, len) => self.list() == (numbers, notified, len),
+            At(place, number) => self.at(place) == Some(number),
+            Woken(waker, times) => self.wakers.wakes(waker) == Some(times),
+            FlagIs(value) => self.flag.get() == value,
+        })
+    }
+}
+
+// Takes the lines, by a flag that is a plain value.
+fn play_plain<R: AllocGlobal + Wait>(rt: &R, lines: &[Line]) -> Result<(), Fail> {
+    let flag = AnyFlag::Plain(FlagValue::new());
+    play(Party::new(rt, rt.alloc(), flag)?, lines)
+}
+
+// Takes the lines, by a flag that threads share.
+fn play_shared<R: AllocGlobal + Wait>(rt: &R, lines: &[Line]) -> Result<(), Fail> {
+    let flag = AnyFlag::Shared(Flag::new());
+    play(Party::new(rt, rt.alloc(), flag)?, lines)
 }
 
 #[test]
 fn a_number_that_was_given_back_is_used_next(rt: HostRuntime) -> Result<(), Fail> {
-    let mut flag = FlagValue::new();
-    let mut empty = Tasks::new(rt.alloc())?;
-    let mut sleepers = three_places(&rt)?;
-    let first = sleep(&mut flag, &mut sleepers, &mut empty, new_counter(&rt)?);
-    let second = sleep(&mut flag, &mut sleepers, &mut empty, new_counter(&rt)?);
-    let change = sleepers.remove(1);
-    let Removed { notice, waker } = flag.store(change, &mut sleepers);
-    assert!(rt; !is_spent(notice) && waker.is_some());
-    let third = sleep(&mut flag, &mut sleepers, &mut empty, new_counter(&rt)?);
-    assert_eq!(rt; (first, second, third), (Some(1), Some(2), Some(1)));
-    Ok(())
-}
-
-// What came of two sleepers, and of a pick after each of them went to sleep.
-#[derive(Debug, PartialEq, Eq, Drop)]
-struct Notified {
-    numbers: (Option<usize>, Option<usize>),
-    picks: (bool, bool),
-    wakes: (bool, bool),
-}
-
-// Two go to sleep, a task is queued after each, and both picks are spent at the end.
-fn notify_two(rt: &HostRuntime, one: Counter, two: Counter) -> Result<Notified, Fail> {
-    let mut flag = FlagValue::new();
-    let mut empty = Tasks::new(rt.alloc())?;
-    let mut tasks = Tasks::new(rt.alloc())?;
-    let mut sleepers = three_places(rt)?;
-    let first = sleep(&mut flag, &mut sleepers, &mut empty, one);
-    let first_pick = exchange(&mut flag, &mut tasks);
-    let second = sleep(&mut flag, &mut sleepers, &mut empty, two);
-    let second_pick = exchange(&mut flag, &mut tasks);
-    let picks = (first_pick.is_some(), second_pick.is_some());
-    let woke_first = notify(&mut sleepers, first_pick);
-    let woke_second = notify(&mut sleepers, second_pick);
-    Ok(Notified {
-        numbers: (first, second),
-        picks,
-        wakes: (woke_first, woke_second),
-    })
+    play_plain(
+        &rt,
+        &[
+            Reserve,
+            Reserve,
+            Reserve,
+            Sleep(1),
+            Sleep(2),
+            Remove(1),
+            Sleep(1),
+        ],
+    )
 }
 
 #[test]
 fn the_last_to_sleep_is_notified_alone(rt: HostRuntime) -> Result<(), Fail> {
-    let one = new_counter(&rt)?;
-    let two = new_counter(&rt)?;
-    let ones = one.wakes.clone()?;
-    let twos = two.wakes.clone()?;
-    let notified = Notified {
-        numbers: (Some(1), Some(2)),
-        picks: (true, true),
-        wakes: (true, false),
-    };
-    assert_eq!(rt; notify_two(&rt, one, two)?, notified);
-    assert_eq!(rt; (ones.get(), twos.get()), (0, 1));
-    Ok(())
+    play_plain(
+        &rt,
+        &[
+            Reserve,
+            Reserve,
+            Reserve,
+            Sleep(1),
+            QueueTwice(Some(true), 2, Some(false)),
+            Woken(0, 0),
+            Woken(1, 1),
+        ],
+    )
 }
 
 #[test]
 fn a_notified_sleeper_sleeps_again_at_the_end(rt: HostRuntime) -> Result<(), Fail> {
-    let mut flag = FlagValue::new();
-    let mut empty = Tasks::new(rt.alloc())?;
-    let mut tasks = Tasks::new(rt.alloc())?;
-    let mut sleepers = three_places(&rt)?;
-    sleepers.release();
-    let _first = sleep(&mut flag, &mut sleepers, &mut empty, new_counter(&rt)?);
-    let _second = sleep(&mut flag, &mut sleepers, &mut empty, new_counter(&rt)?);
-    let refused = sleep(&mut flag, &mut sleepers, &mut empty, new_counter(&rt)?);
-    assert_eq!(rt; refused, None);
-    let pick = exchange(&mut flag, &mut tasks);
-    assert!(rt; notify(&mut sleepers, pick));
-    assert_eq!(rt;
-        (sleepers.numbers(), sleepers.notified(), sleepers.len()),
-        (2, 2, 1)
-    );
-    let waker = new_counter(&rt)?;
-    match sleepers.update(2, waker) {
-        Update::WasNotified(change) => search_in_vain(
-            &mut empty,
-            flag.store(change, &mut sleepers),
-        ),
-        Update::Asleep(_) | Update::Unknown(_) => assert!(rt; false),
-    }
-    assert_eq!(rt;
-        (sleepers.notified(), sleepers.at(0), sleepers.at(1)),
-        (0, Some(1), Some(2))
-    );
-    Ok(())
-}
-
-// Goes to sleep, and stores the flag before the lock is given up.
-fn sleep_under_lock(
-    rt: &impl Wait,
-    flag: &Flag,
-    lock: &Mutex<ClosedSleepers<Counter>>,
-    empty: &mut Tasks,
-    waker: Counter,
-) -> Result<bool, Fail>
-    requires { empty.old.global ≡ [] }
-{
-    let mut guard = lock.lock(rt);
-    let sleepers = &mut guard.sleepers;
-    sleepers.reserve()?;
-    match sleepers.insert(waker) {
-        Ok((_, change)) => {
-            search_in_vain(empty, flag.store(change, sleepers));
-            Ok(true)
-        }
-        Err(_) => Ok(false),
-    }
-}
-
-// Whether the notice of a task that is queued wakes a sleeper.
-fn wakes_sleeper(
-    rt: &impl Wait,
-    flag: &Flag,
-    lock: &Mutex<ClosedSleepers<Counter>>,
-    tasks: &mut Tasks,
-) -> bool {
-    let Ok((_, notice)) = tasks.spawn(0) else {
-        return false;
-    };
-    let wakeup = match flag.exchange(notice) {
-        Some(pick) => lock.lock(rt).sleepers.notify(pick),
-        None => None,
-    };
-    is_woken(wakeup)
+    play_plain(
+        &rt,
+        &[
+            Reserve,
+            Reserve,
+            Reserve,
+            Release,
+            Sleep(1),
+            Sleep(2),
+            NoPlace,
+            Queue(Some(true)),
+            List(2, 2, 1),
+            SleepAgain(2),
+            List(2, 0, 2),
+            At(0, 1),
+            At(1, 2),
+        ],
+    )
 }
 
 #[test]
 fn a_list_change_and_its_store_go_under_one_lock(rt: HostRuntime) -> Result<(), Fail> {
-    let flag = Flag::new();
-    let mut empty = Tasks::new(rt.alloc())?;
-    let mut tasks = Tasks::new(rt.alloc())?;
-    let lock = Mutex::new(ClosedSleepers::new(rt.alloc()));
-    let waker = new_counter(&rt)?;
-    let wakes = waker.wakes.clone()?;
-    let was_set = flag.get();
-    let sleeps = sleep_under_lock(&rt, &flag, &lock, &mut empty, waker)?;
-    let is_stored = !flag.get();
-    let is_woken = wakes_sleeper(&rt, &flag, &lock, &mut tasks);
-    assert_eq!(rt;
-        (was_set, sleeps, is_stored, is_woken, flag.get()),
-        (true, true, true, true, true)
-    );
-    assert_eq!(rt; wakes.get(), 1);
-    Ok(())
+    play_shared(
+        &rt,
+        &[
+            FlagIs(true),
+            Reserve,
+            Sleep(1),
+            FlagIs(false),
+            Queue(Some(true)),
+            FlagIs(true),
+            Woken(0, 1),
+        ],
+    )
 }
 
 #[test]
 fn a_true_flag_gives_no_pick(rt: HostRuntime) -> Result<(), Fail> {
-    let flag = Flag::new();
-    let mut tasks = Tasks::new(rt.alloc())?;
-    let mut sleepers = three_places(&rt)?;
-    let (_, notice) = tasks.spawn(0)?;
-    let pick = flag.exchange(notice);
-    let is_pick = pick.is_some();
-    assert!(rt; !notify(&mut sleepers, pick) && !is_pick);
-    assert!(rt; flag.get());
-    Ok(())
+    play_shared(
+        &rt,
+        &[
+            Reserve,
+            Reserve,
+            Reserve,
+            Queue(None),
+            Queued(1),
+            FlagIs(true),
+        ],
+    )
 }
 
 #[test]
 fn a_change_that_leaves_nobody_asleep_sets_the_flag(rt: HostRuntime) -> Result<(), Fail> {
-    let flag = Flag::new();
-    let mut empty = Tasks::new(rt.alloc())?;
-    let mut sleepers = three_places(&rt)?;
-    match sleepers.insert(new_counter(&rt)?) {
-        Ok((_, change)) => search_in_vain(&mut empty, flag.store(change, &mut sleepers)),
-        Err(_) => assert!(rt; false),
-    }
-    assert!(rt; !flag.get());
-    let change = sleepers.remove(1);
-    let Removed { notice, waker } = flag.store(change, &mut sleepers);
-    assert!(rt; !is_spent(notice) && waker.is_some());
-    assert!(rt; flag.get());
-    Ok(())
+    play_shared(
+        &rt,
+        &[
+            Reserve,
+            Reserve,
+            Reserve,
+            Sleep(1),
+            FlagIs(false),
+            Remove(1),
+            FlagIs(true),
+        ],
+    )
 }

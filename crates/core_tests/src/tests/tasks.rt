@@ -53,7 +53,7 @@ pub fn spawn(cells: &mut Tasks, future: u8) -> Result<TaskId, &'static str> {
 }
 
 /// What became of a task that was taken.
-#[derive(Debug, PartialEq, Eq, Drop)]
+#[derive(Clone, Copy, PartialEq)]
 pub struct Ticked {
     pub number: u64,
     pub polls: u64,

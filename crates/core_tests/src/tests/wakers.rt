@@ -1,5 +1,6 @@
 //! Wakers that count.
 use executor_core::task::{OutOfMemory, Wake, Wakeup};
+use std::alloc::Global;
 use std::cell::Cell;
 use std::rc::Rc;
 use std::test::Fail;
@@ -7,7 +8,7 @@ use std::test::Fail;
 /// Counts its wakes.
 #[derive(Drop)]
 pub struct Counter {
-    pub wakes: Rc<Cell<u32>>,
+    wakes: Rc<Cell<u32>>,
 }
 
 impl Wake for Counter {
@@ -23,11 +24,36 @@ impl Wake for Counter {
     }
 }
 
-/// A waker that was not woken yet.
-pub fn new_counter(rt: &HostRuntime) -> Result<Counter, Fail> {
-    Ok(Counter {
-        wakes: Rc::new(rt.alloc(), Cell::new(0))?,
-    })
+/// Makes wakers, and keeps their counts.
+#[derive(Drop)]
+pub struct Wakers {
+    counts: Vec<Rc<Cell<u32>>>,
+    alloc: Global,
+}
+
+impl Wakers {
+    /// No waker was made yet.
+    pub fn new(alloc: Global) -> Wakers {
+        Wakers {
+            counts: Vec::new(alloc),
+            alloc,
+        }
+    }
+
+    /// A waker that was not woken yet.
+    pub fn make(&mut self) -> Result<Counter, Fail> {
+        let wakes = Rc::new(self.alloc, Cell::new(0))?;
+        self.counts.push(wakes.clone()?)?;
+        Ok(Counter { wakes })
+    }
+
+    /// How often the waker was woken before which so many were made.
+    pub fn wakes(&self, waker: usize) -> Option<u32> {
+        match self.counts.get(waker) {
+            Some(count) => Some(count.get()),
+            None => None,
+        }
+    }
 }
 
 /// Whether there was somebody to be woken, which is done.

@@ -54,19 +54,48 @@ fn notify(rt: &impl Abort, world: &mut World<u8, u64>) {
     expect(rt, world, Phase::Rest, None, 0);
 }
 
-#[test]
-fn a_world_takes_no_more_steps_than_its_limit(rt: HostRuntime) -> Result<(), Fail> {
-    let mut one = World::<u8, u64>::new(rt.alloc(), 1)?;
-    assert!(rt; matches!(one.step(Step::Spawn(10)), Reply::Task(0)));
-    assert!(rt; matches!(one.step(Step::Spawn(11)), Reply::LogFull));
-    let mut none = World::<u8, u64>::new(rt.alloc(), 0)?;
-    assert!(rt; matches!(none.step(Step::Pend(0)), Reply::LogFull));
-    Ok(())
+// Expects how many runs have a queue, and the lengths of the first of them and of the global one.
+fn expect_lengths(
+    rt: &impl Abort,
+    world: &World<u8, u64>,
+    runners: usize,
+    local: Option<usize>,
+    global: usize,
+) {
+    let cells = world.cells();
+    let lengths = (cells.runners(), cells.local_len(0), cells.global_len());
+    assert_eq!(rt; lengths, (runners, local, global));
+}
+
+// Expects the front of the first run's queue, and the first two of the global one.
+fn expect_fronts(
+    rt: &impl Abort,
+    world: &World<u8, u64>,
+    local: Option<u64>,
+    global: (Option<u64>, Option<u64>),
+) {
+    let cells = world.cells();
+    assert_eq!(rt; cells.local_at(0, 0), local);
+    assert_eq!(rt; (cells.global_at(0), cells.global_at(1)), global);
+}
+
+// Expects whether task 0 is out, and whether the table keeps it.
+fn expect_task(rt: &impl Abort, world: &World<u8, u64>, is_out: bool, keeps: bool) {
+    assert_eq!(rt; (world.is_out(0), world.keeps(0)), (is_out, keeps));
 }
 
 #[test]
-fn a_run_is_the_list_of_its_steps(rt: HostRuntime) -> Result<(), Fail> {
-    let mut world = World::<u8, u64>::new(rt.alloc(), 10)?;
+fn a_world_takes_no_more_steps_than_its_limit(rt: HostRuntime) -> Result<(), Fail> {
+    let mut world = World::<u8, u64>::new(rt.alloc(), 1)?;
+    take(&rt, &mut world, Step::Spawn(10), Reply::Task(0));
+    take(&rt, &mut world, Step::Spawn(11), Reply::LogFull);
+    world = World::new(rt.alloc(), 0)?;
+    take(&rt, &mut world, Step::Pend(0), Reply::LogFull);
+    Ok(())
+}
+
+// Runs four steps in one call, and expects their replies.
+fn run_four<R: AllocGlobal + Abort>(rt: &R, world: &mut World<u8, u64>) -> Result<(), Fail> {
     let steps = vec![in rt.alloc();
         Step::Spawn(10),
         Step::TryTick,
@@ -85,17 +114,29 @@ fn a_run_is_the_list_of_its_steps(rt: HostRuntime) -> Result<(), Fail> {
             ]
         )
     );
-    assert!(rt; world.is_out(0) && !world.keeps(0));
+    Ok(())
+}
+
+// Expects that a task was spawned, taken and woken.
+fn expect_log(rt: &impl Abort, world: &World<u8, u64>) {
     assert!(rt;
         matches!(
             world.log(),
             [Event::Spawned(0), Event::Took(0, _), Event::Woken(0)]
         )
     );
-    assert!(rt; matches!(world.step(Step::Pend(0)), Reply::Queued(0)));
-    assert!(rt; !world.is_out(0) && world.keeps(0));
-    assert_eq!(rt; (world.notices(), world.picks()), (3, 0));
-    assert_eq!(rt; world.cells().undropped(), 1);
+}
+
+#[test]
+fn a_run_is_the_list_of_its_steps(rt: HostRuntime) -> Result<(), Fail> {
+    let mut world = World::<u8, u64>::new(rt.alloc(), 10)?;
+    run_four(&rt, &mut world)?;
+    expect_task(&rt, &world, true, false);
+    expect_log(&rt, &world);
+    take(&rt, &mut world, Step::Pend(0), Reply::Queued(0));
+    expect_task(&rt, &world, false, true);
+    let seen = (world.notices(), world.picks(), world.cells().undropped());
+    assert_eq!(rt; seen, (3, 0, 1));
     Ok(())
 }
 
@@ -144,12 +185,8 @@ fn a_run_has_a_queue_while_it_is_registered(rt: HostRuntime) -> Result<(), Fail>
     refuse(&rt, &mut world, Step::Register(0));
     refuse(&rt, &mut world, Step::Drop(0));
     take(&rt, &mut world, Step::Fair(0), Reply::Moved(2));
-    let cells = world.cells();
-    assert_eq!(rt; (cells.runners(), cells.local_len(0)), (1, Some(2)));
-    assert_eq!(rt;
-        (cells.local_at(0, 0), cells.global_at(0)),
-        (Some(0), Some(2))
-    );
+    expect_lengths(&rt, &world, 1, Some(2), 1);
+    expect_fronts(&rt, &world, Some(0), (Some(2), None));
     take(&rt, &mut world, Step::Poll(0), Reply::Done);
     refuse(&rt, &mut world, Step::Fair(0));
     refuse(&rt, &mut world, Step::Unregister(0));
@@ -157,12 +194,8 @@ fn a_run_has_a_queue_while_it_is_registered(rt: HostRuntime) -> Result<(), Fail>
     expect(&rt, &world, Phase::Rest, None, 4);
     take(&rt, &mut world, Step::Unregister(0), Reply::Notice);
     expect(&rt, &world, Phase::Leaving, None, 5);
-    let cells = world.cells();
-    assert_eq!(rt; (cells.runners(), cells.global_len()), (0, 2));
-    assert_eq!(rt;
-        (cells.global_at(0), cells.global_at(1)),
-        (Some(2), Some(1))
-    );
+    expect_lengths(&rt, &world, 0, None, 2);
+    expect_fronts(&rt, &world, None, (Some(2), Some(1)));
     refuse(&rt, &mut world, Step::Register(0));
     refuse(&rt, &mut world, Step::Poll(0));
     refuse(&rt, &mut world, Step::Fair(0));

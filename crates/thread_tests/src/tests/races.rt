@@ -6,7 +6,7 @@ use std::sync::Wait;
 use std::sync::atomic::{AtomicU64, Ordering};
 use std::test::Fail;
 use std::thread;
-use std::thread::yield_now;
+use std::thread::{Threads, yield_now};
 use test_parts::future::{Kind, TestFuture, WakerPlace};
 use test_parts::halt::{Halt, TURNS};
 use test_parts::record::{Moment, Record};
@@ -156,18 +156,24 @@ fn give_up<R: Wait + Clone + Drop + Send + Sync>(
     }
 }
 
-#[test]
-fn one_of_two_threads_runs_the_task(rt: HostRuntime) -> Result<(), Fail> {
-    let all = Fixture::new(&rt)?;
+// Whether one of two threads alone ran the task, and what it gave.
+fn run_by_one<R: AllocGlobal + Wait + Threads + Clone + Drop + Send + Sync>(
+    rt: &R,
+) -> Result<(bool, Option<u64>), Fail> {
+    let all = Fixture::new(rt)?;
     let mut task = spawned(&all.ex, all.future(Kind::Ready(7))?)?;
     let (shared, handle) = (&all, &task);
     let (one, two) = thread::join(
-        &rt,
+        rt,
         || shared.ticks_to_end(handle),
         || shared.ticks_to_end(handle),
     );
-    assert!(rt; one != two);
-    assert_eq!(rt; all.awaited(&mut task), Some(7));
+    Ok((one != two, all.awaited(&mut task)))
+}
+
+#[test]
+fn one_of_two_threads_runs_the_task(rt: HostRuntime) -> Result<(), Fail> {
+    assert_eq!(rt; run_by_one(&rt)?, (true, Some(7)));
     Ok(())
 }
 
@@ -176,54 +182,67 @@ fn an_executor_and_a_handle_are_sent(rt: HostRuntime) -> Result<(), Fail> {
     let all = Fixture::new(&rt)?;
     let task = spawned(&all.ex, all.future(Kind::Ready(7))?)?;
     let child = thread::spawn(&rt, move || all.ex.try_tick())?;
-    assert!(rt; child.join(&rt));
+    let ticked = child.join(&rt);
     let all = Fixture::new(&rt)?;
     let child = thread::spawn(&rt, move || {
         let mut task = task;
         all.awaited(&mut task)
     })?;
-    assert_eq!(rt; child.join(&rt), Some(7));
+    assert_eq!(rt; (ticked, child.join(&rt)), (true, Some(7)));
     Ok(())
 }
 
-#[test]
-fn no_output_is_lost_between_threads(rt: HostRuntime) -> Result<(), Fail> {
-    let all = Fixture::new(&rt)?;
+// How many threads were done, how many tasks gave their output, and whether none is left.
+fn await_each<R: AllocGlobal + Wait + Threads + Clone + Drop + Send + Sync>(
+    rt: &R,
+) -> Result<(u64, u64, bool), Fail> {
+    let all = Fixture::new(rt)?;
     let shared = &all;
-    thread::scope(thread::scope_env(), &rt, |scope| {
+    thread::scope(thread::scope_env(), rt, |scope| {
         for _ in 0..2u8 {
             let _ = scope.spawn(move || shared.ticks_until(2));
             let _ = scope.spawn(move || shared.awaits_each(20_000));
         }
     });
-    assert_eq!(rt; all.done.load(Ordering::SeqCst), 2);
-    assert_eq!(rt; all.good.load(Ordering::SeqCst), 40_000);
-    assert!(rt; all.ex.is_empty());
-    Ok(())
+    let done = all.done.load(Ordering::SeqCst);
+    Ok((done, all.good.load(Ordering::SeqCst), all.ex.is_empty()))
 }
 
 #[test]
-fn each_task_of_four_threads_ends_once(rt: HostRuntime) -> Result<(), Fail> {
-    let all = Fixture::new(&rt)?;
+fn no_output_is_lost_between_threads(rt: HostRuntime) -> Result<(), Fail> {
+    assert_eq!(rt; await_each(&rt)?, (2, 40_000, true));
+    Ok(())
+}
+
+// How many futures were dropped, whether each that was polled gave an output that was dropped, and
+// whether no task is left, nor scheduled.
+fn end_each<R: AllocGlobal + Wait + Threads + Clone + Drop + Send + Sync>(
+    rt: &R,
+) -> Result<(u64, [bool; 3]), Fail> {
+    let all = Fixture::new(rt)?;
     let shared = &all;
-    thread::scope(thread::scope_env(), &rt, |scope| {
+    thread::scope(thread::scope_env(), rt, |scope| {
         for _ in 0..4u8 {
             let _ = scope.spawn(move || shared.spawns_and_ticks(10_000, 40_000));
         }
     });
-    assert_eq!(rt; all.record.times(Moment::FutureDrop), 40_000);
-    assert_eq!(rt;
-        all.record.times(Moment::OutputDrop),
-        all.record.times(Moment::FuturePoll)
-    );
-    assert!(rt; all.ex.is_empty());
-    assert!(rt; !all.ex.try_tick());
-    Ok(())
+    let polls = all.record.times(Moment::FuturePoll);
+    let is_each = all.record.times(Moment::OutputDrop) == polls;
+    let drops = all.record.times(Moment::FutureDrop);
+    Ok((drops, [is_each, all.ex.is_empty(), !all.ex.try_tick()]))
 }
 
 #[test]
-fn an_output_of_a_handle_that_goes_is_not_left_to_a_spawn(rt: HostRuntime) -> Result<(), Fail> {
-    let all = Fixture::new(&rt)?;
+fn each_task_of_four_threads_ends_once(rt: HostRuntime) -> Result<(), Fail> {
+    assert_eq!(rt; end_each(&rt)?, (40_000, [true; 3]));
+    Ok(())
+}
+
+// How many outputs were dropped, and whether a spawn dropped none under a lock.
+fn let_go_beside<R: AllocGlobal + Wait + Threads + Clone + Drop + Send + Sync>(
+    rt: &R,
+) -> Result<(u64, bool), Fail> {
+    let all = Fixture::new(rt)?;
     let mut tasks = Vec::new(rt.alloc());
     for i in 0..OUTPUTS {
         tasks.push(spawned(&all.ex, all.future(Kind::Ready(i))?)?)?;
@@ -232,15 +251,16 @@ fn an_output_of_a_handle_that_goes_is_not_left_to_a_spawn(rt: HostRuntime) -> Re
     all.record.halt_at(Moment::OutputDrop);
     let shared = &all;
     thread::join(
-        &rt,
+        rt,
         move || shared.lets_go(tasks),
         move || shared.spawns_beside(),
     );
-    assert_eq!(rt; all.record.times(Moment::OutputDrop), OUTPUTS);
-    assert!(rt;
-        all.halt.was_passed(),
-        "a spawn drops an output under a lock"
-    );
+    Ok((all.record.times(Moment::OutputDrop), all.halt.was_passed()))
+}
+
+#[test]
+fn an_output_of_a_handle_that_goes_is_not_left_to_a_spawn(rt: HostRuntime) -> Result<(), Fail> {
+    assert_eq!(rt; let_go_beside(&rt)?, (OUTPUTS, true));
     Ok(())
 }
 

@@ -1,4 +1,4 @@
-//! Ticks on several threads.
+//! Ticks and runs that sleep, on several threads.
 use async_executor::executor::Executor;
 use executor_core::task::{Future, OutOfMemory, Poll, Wake};
 use std::alloc::{AllocError, Global};
@@ -6,9 +6,9 @@ use std::sync::atomic::{AtomicU64, Ordering};
 use std::sync::{Arc, Wait};
 use std::test::Fail;
 use std::thread;
-use std::thread::{Parker, yield_now};
+use std::thread::{Parker, Threads, yield_now};
 use std::time::Duration;
-use test_parts::future::Kind;
+use test_parts::future::{Kind, Until};
 use test_parts::halt::TURNS;
 use test_parts::line::Answer;
 use test_parts::line::Line::{
@@ -203,6 +203,40 @@ impl<R: Wait + Clone + Drop + Send + Sync> Fixture<R> {
         ROUNDS
     }
 
+    // Whether a run ends in time, which it does once so many tasks were polled as there are rounds.
+    // While there is none, this thread sleeps until it is woken.
+    fn runs_asleep(&self) -> bool {
+        let Ok(all) = Until::new(&self.polls, ROUNDS) else {
+            return false;
+        };
+        let Ok(mut run) = self.ex.run(all) else {
+            return false;
+        };
+        for _ in 0..TURNS {
+            let before = self.waker.wakes();
+            if run.poll(&self.waker) == Poll::Ready(()) {
+                return true;
+            }
+            self.sleeps.fetch_add(1, Ordering::SeqCst);
+            if !self.waker.sleeps(&self.rt, before) {
+                return false;
+            }
+        }
+        false
+    }
+
+    // Whether the thread went to sleep before each task.
+    fn slept(&self) -> bool {
+        self.sleeps.load(Ordering::SeqCst) >= ROUNDS
+    }
+
+    // Spawns the tasks one by one, and has the other thread see that all were polled.
+    fn spawns_all(&self) {
+        self.spawns_each();
+        are_there(&self.polls, ROUNDS);
+        self.waker.wake();
+    }
+
     // Spawns the tasks one by one, each once the other thread sleeps and has run those before it.
     fn spawns_each(&self) {
         for round in 0..ROUNDS {
@@ -219,27 +253,61 @@ impl<R: Wait + Clone + Drop + Send + Sync> Fixture<R> {
     }
 }
 
-#[test]
-fn two_ticks_run_tasks_at_once(rt: HostRuntime) -> Result<(), Fail> {
-    let all = Fixture::new(&rt)?;
+// Whether each of two threads ran a task, and what the handles give.
+fn run_at_once<R: AllocGlobal + Wait + Threads + Clone + Drop + Send + Sync>(
+    rt: &R,
+) -> Result<[bool; 4], Fail> {
+    let all = Fixture::new(rt)?;
     let mut one = spawned(&all.ex, all.meets(2)?)?;
     let mut two = spawned(&all.ex, all.meets(2)?)?;
     let shared = &all;
-    let ticked = thread::join(&rt, || shared.ticks(), || shared.ticks());
-    assert_eq!(rt; ticked, (true, true));
-    assert_eq!(rt; one.poll(&all.waker), Poll::Ready(Ok(true)));
-    assert_eq!(rt; two.poll(&all.waker), Poll::Ready(Ok(true)));
+    let (first, second) = thread::join(rt, || shared.ticks(), || shared.ticks());
+    let met = one.poll(&all.waker) == Poll::Ready(Ok(true));
+    Ok([
+        first,
+        second,
+        met,
+        two.poll(&all.waker) == Poll::Ready(Ok(true)),
+    ])
+}
+
+#[test]
+fn two_ticks_run_tasks_at_once(rt: HostRuntime) -> Result<(), Fail> {
+    assert_eq!(rt; run_at_once(&rt)?, [true; 4]);
     Ok(())
+}
+
+// How many tasks were run by ticks, and whether the thread slept before each of them.
+fn tick_asleep<R: AllocGlobal + Wait + Threads + Clone + Drop + Send + Sync>(
+    rt: &R,
+) -> Result<(u64, bool, bool), Fail> {
+    let all = Fixture::new(rt)?;
+    let shared = &all;
+    let (ticked, ()) = thread::join(rt, || shared.ticks_each(), || shared.spawns_each());
+    Ok((ticked, all.slept(), all.ex.is_empty()))
 }
 
 #[test]
 fn a_tick_sleeps_on_a_thread_that_parks(rt: HostRuntime) -> Result<(), Fail> {
-    let all = Fixture::new(&rt)?;
+    assert_eq!(rt; tick_asleep(&rt)?, (ROUNDS, true, true));
+    Ok(())
+}
+
+// How many tasks were run by a run, whether it ended, and whether the thread slept before each of
+// them.
+fn run_asleep<R: AllocGlobal + Wait + Threads + Clone + Drop + Send + Sync>(
+    rt: &R,
+) -> Result<(u64, bool, bool, bool), Fail> {
+    let all = Fixture::new(rt)?;
     let shared = &all;
-    let (ticked, ()) = thread::join(&rt, || shared.ticks_each(), || shared.spawns_each());
-    assert_eq!(rt; ticked, ROUNDS);
-    assert!(rt; all.sleeps.load(Ordering::SeqCst) >= ROUNDS);
-    assert!(rt; all.ex.is_empty());
+    let (ended, ()) = thread::join(rt, || shared.runs_asleep(), || shared.spawns_all());
+    let polls = all.polls.load(Ordering::SeqCst);
+    Ok((polls, ended, all.slept(), all.ex.is_empty()))
+}
+
+#[test]
+fn a_run_sleeps_on_a_thread_that_parks(rt: HostRuntime) -> Result<(), Fail> {
+    assert_eq!(rt; run_asleep(&rt)?, (ROUNDS, true, true, true));
     Ok(())
 }
 

@@ -1,0 +1,236 @@
+//! The handles of an executor's tasks.
+ghost use Rattle.std.specs.Prelude.{◌≡◌, IsTrue};
+ghost use Rattle.async_executor.specs.Answers.{is_ready, IsReadyErr, IsReadyNone};
+
+use crate::executor::TaskWaker;
+use crate::home::SharedHome;
+use crate::task::{Cancelled, TaskIn, some_if_ok};
+use executor_core::task::{Future, Poll, Wake};
+use std::sync::Wait;
+
+/// The handle of a task that was spawned: a future of its output, or of `Cancelled`.
+///
+/// Where it is dropped before it has answered, the task is cancelled: its future is dropped in
+/// place of its next poll, and an output that is there is dropped with the handle. It stands for
+/// the `Task` of the Rust crate.
+///
+/// Example: `uses::runs`, `uses::drops`.
+pub struct Task<F, W, R>
+where
+    F: Future<TaskWaker<W, R>>,
+    W: Wake,
+    R: Wait + Clone + Drop,
+{
+    pub(crate) inner: TaskIn<SharedHome<F, W, R>>,
+}
+
+impl<F, W, R> Task<F, W, R>
+where
+    F: Future<TaskWaker<W, R>>,
+    W: Wake,
+    R: Wait + Clone + Drop,
+{
+    /// Lets the task run on without a handle. Its output is dropped once it is there.
+    ///
+    /// Example: `uses::detaches`.
+    #[inline(always)]
+    pub fn detach(self) {
+        let Task { inner } = self;
+        inner.detach();
+    }
+
+    /// Cancels the task at once: it is scheduled, and its future is dropped in place of its next
+    /// poll. What is given is a future that ends once the future of the task was dropped.
+    ///
+    /// Example: `uses::cancels`.
+    #[inline(always)]
+    pub fn cancel(self) -> Cancel<F, W, R>
+        ensures { result.inner.answered ≡ self.inner.answered }
+    {
+        let Task { inner } = self;
+        inner.cancel();
+        Cancel { inner }
+    }
+
+    /// The same task, with `None` in place of `Cancelled`.
+    ///
+    /// Example: `uses::falls_back`.
+    pub fn fallible(self) -> FallibleTask<F, W, R>
+        ensures { result.inner.answered ≡ self.inner.answered }
+    {
+        let Task { inner } = self;
+        FallibleTask { inner }
+    }
+
+    /// Whether the task has ended or was cancelled, or this handle has answered.
+    ///
+    /// Example: `uses::falls_back`.
+    pub fn is_finished(&self) -> bool
+        ensures { IsTrue self.now.inner.answered → IsTrue result }
+    {
+        self.inner.is_finished()
+    }
+}
+
+impl<F, W, R> Future<W> for Task<F, W, R>
+where
+    F: Future<TaskWaker<W, R>>,
+    W: Wake,
+    R: Wait + Clone + Drop,
+{
+    type Output = Result<F::Output, Cancelled>;
+
+    /// Gives the output, which goes out once: a handle that has answered answers `Cancelled` from
+    /// then on. While there is no answer, a copy of the waker is kept, in place of an earlier one,
+    /// and is woken once there is one. Where the copy is refused, the waker itself is woken and
+    /// nothing is kept.
+    ///
+    /// Example: `uses::asks_again`.
+    #[inline(always)]
+    fn poll(&mut self, w: &W) -> Poll<Result<F::Output, Cancelled>>
+        ensures answered { self.new.inner.answered ≡ is_ready result }
+        ensures again { IsTrue self.old.inner.answered → IsReadyErr result }
+    {
+        self.inner.poll(w)
+    }
+}
+
+impl<F, W, R> Drop for Task<F, W, R>
+where
+    F: Future<TaskWaker<W, R>>,
+    W: Wake,
+    R: Wait + Clone + Drop,
+{
+    fn drop(self) {
+        let Task { inner } = self;
+        drop(inner);
+    }
+}
+
+/// The handle of a task that was cancelled: a future that ends once the future of the task was
+/// dropped.
+///
+/// It gives the output where the task had ended before it was cancelled. Where it is dropped, the
+/// task is let go. It stands for the future that `Task::cancel` of the Rust crate gives.
+///
+/// Example: `uses::cancels`.
+pub struct Cancel<F, W, R>
+where
+    F: Future<TaskWaker<W, R>>,
+    W: Wake,
+    R: Wait + Clone + Drop,
+{
+    inner: TaskIn<SharedHome<F, W, R>>,
+}
+
+impl<F, W, R> Future<W> for Cancel<F, W, R>
+where
+    F: Future<TaskWaker<W, R>>,
+    W: Wake,
+    R: Wait + Clone + Drop,
+{
+    type Output = Option<F::Output>;
+
+    /// As the poll of `Task`, with `None` in place of `Cancelled`.
+    ///
+    /// Example: `uses::cancels`.
+    #[inline(always)]
+    fn poll(&mut self, w: &W) -> Poll<Option<F::Output>>
+        ensures answered { self.new.inner.answered ≡ is_ready result }
+        ensures again { IsTrue self.old.inner.answered → IsReadyNone result }
+    {
+        some_if_ok(self.inner.poll(w))
+    }
+}
+
+impl<F, W, R> Drop for Cancel<F, W, R>
+where
+    F: Future<TaskWaker<W, R>>,
+    W: Wake,
+    R: Wait + Clone + Drop,
+{
+    fn drop(self) {
+        let Cancel { inner } = self;
+        drop(inner);
+    }
+}
+
+/// The handle of a task: a future of its output, or of `None` where the task was cancelled.
+///
+/// Its drop is that of `Task`. It stands for the `FallibleTask` of the Rust crate.
+///
+/// Example: `uses::falls_back`, `uses::lets_go`.
+pub struct FallibleTask<F, W, R>
+where
+    F: Future<TaskWaker<W, R>>,
+    W: Wake,
+    R: Wait + Clone + Drop,
+{
+    inner: TaskIn<SharedHome<F, W, R>>,
+}
+
+impl<F, W, R> FallibleTask<F, W, R>
+where
+    F: Future<TaskWaker<W, R>>,
+    W: Wake,
+    R: Wait + Clone + Drop,
+{
+    /// As `Task::detach`.
+    ///
+    /// Example: `uses::lets_go`.
+    pub fn detach(self) {
+        let FallibleTask { inner } = self;
+        inner.detach();
+    }
+
+    /// As `Task::cancel`.
+    ///
+    /// Example: `uses::lets_go`.
+    pub fn cancel(self) -> Cancel<F, W, R>
+        ensures { result.inner.answered ≡ self.inner.answered }
+    {
+        let FallibleTask { inner } = self;
+        inner.cancel();
+        Cancel { inner }
+    }
+
+    /// As `Task::is_finished`.
+    ///
+    /// Example: `uses::falls_back`.
+    pub fn is_finished(&self) -> bool
+        ensures { IsTrue self.now.inner.answered → IsTrue result }
+    {
+        self.inner.is_finished()
+    }
+}
+
+impl<F, W, R> Future<W> for FallibleTask<F, W, R>
+where
+    F: Future<TaskWaker<W, R>>,
+    W: Wake,
+    R: Wait + Clone + Drop,
+{
+    type Output = Option<F::Output>;
+
+    /// As the poll of `Task`, with `None` in place of `Cancelled`.
+    ///
+    /// Example: `uses::falls_back`.
+    fn poll(&mut self, w: &W) -> Poll<Option<F::Output>>
+        ensures answered { self.new.inner.answered ≡ is_ready result }
+        ensures again { IsTrue self.old.inner.answered → IsReadyNone result }
+    {
+        some_if_ok(self.inner.poll(w))
+    }
+}
+
+impl<F, W, R> Drop for FallibleTask<F, W, R>
+where
+    F: Future<TaskWaker<W, R>>,
+    W: Wake,
+    R: Wait + Clone + Drop,
+{
+    fn drop(self) {
+        let FallibleTask { inner } = self;
+        drop(inner);
+    }
+}

@@ -1,0 +1,117 @@
+//! The futures that run the tasks of an executor.
+ghost use Rattle.std.specs.Prelude.{◌≡◌, true, false, IsTrue};
+ghost use Rattle.async_executor.specs.Answers.{is_ready};
+ghost use Rattle.async_executor.specs.Runs.{has_ended};
+
+use crate::executor::TaskWaker;
+use crate::home::SharedHome;
+use crate::runner::RunIn;
+use crate::ticker::TickIn;
+use executor_core::task::{Future, Poll, Wake};
+use std::sync::Wait;
+
+/// A future that runs one task of an executor, and sleeps while none is scheduled.
+///
+/// Where it is dropped asleep, it leaves the sleepers, and if it was notified, another sleeper is
+/// woken in its place. It stands for the future that `Executor::tick` of the Rust crate gives.
+///
+/// Example: `uses::sleeps`, and on threads that park `uses::parks`.
+pub struct Tick<'a, F, W, R>
+where
+    F: Future<TaskWaker<W, R>>,
+    W: Wake,
+    R: Wait + Clone + Drop,
+{
+    pub(crate) inner: TickIn<'a, SharedHome<F, W, R>>,
+}
+
+impl<F, W, R> Future<W> for Tick<'_, F, W, R>
+where
+    F: Future<TaskWaker<W, R>>,
+    W: Wake,
+    R: Wait + Clone + Drop,
+{
+    type Output = ();
+
+    /// Runs the task that was scheduled first, and is ready then. Where none is scheduled, a copy
+    /// of the waker is kept, in place of an earlier one, and is woken once there may be one. Where
+    /// the copy is refused, the waker itself is woken and nothing is kept. A tick that was ready
+    /// stays so, and does nothing more.
+    ///
+    /// Example: `uses::sleeps`.
+    #[inline(always)]
+    fn poll(&mut self, w: &W) -> Poll<()>
+        ensures ended { self.new.inner.rest.ended ≡ is_ready result }
+        ensures again { IsTrue self.old.inner.rest.ended → self.new.inner.rest ≡ self.old.inner.rest }
+    {
+        self.inner.poll(w)
+    }
+}
+
+impl<F, W, R> Drop for Tick<'_, F, W, R>
+where
+    F: Future<TaskWaker<W, R>>,
+    W: Wake,
+    R: Wait + Clone + Drop,
+{
+    fn drop(self) {
+        let Tick { inner } = self;
+        drop(inner);
+    }
+}
+
+/// A future that runs tasks of an executor beside the future G, and ends with the output of G.
+///
+/// Each thread that polls one takes part in the work: a run has a queue of its own, and steals from
+/// the others. Where it is dropped, its tasks go to the queue that all share, and if it was
+/// notified, another sleeper is woken in its place. It stands for the future that `Executor::run` of
+/// the Rust crate gives.
+///
+/// Example: `uses::pools`.
+pub struct Run<'a, F, W, R, G>
+where
+    F: Future<TaskWaker<W, R>>,
+    W: Wake,
+    R: Wait + Clone + Drop,
+    G: Future<W>,
+{
+    pub(crate) inner: RunIn<'a, SharedHome<F, W, R>, G>,
+}
+
+impl<F, W, R, G> Future<W> for Run<'_, F, W, R, G>
+where
+    F: Future<TaskWaker<W, R>>,
+    W: Wake,
+    R: Wait + Clone + Drop,
+    G: Future<W>,
+{
+    type Output = G::Output;
+
+    /// Polls the own future, and is ready with its output where that is. Else runs tasks until none
+    /// is left, or 200 were run since it yielded last. Where none is left, a copy of the waker is
+    /// kept, in place of an earlier one, and is woken once there may be a task. After 200 tasks, or
+    /// where the copy is refused, the waker itself is woken. A run that was ready wakes it and is
+    /// pending, and does nothing more.
+    ///
+    /// Example: `uses::pools`.
+    #[inline(always)]
+    fn poll(&mut self, w: &W) -> Poll<G::Output>
+        ensures ended { IsTrue (is_ready result) → has_ended self.new.inner.rest ≡ true }
+        ensures again { IsTrue (has_ended self.old.inner.rest) → (self.new.inner.rest ≡ self.old.inner.rest) × (is_ready result ≡ false) }
+    {
+        self.inner.poll(w)
+    }
+}
+
+impl<F, W, R, G> Drop for Run<'_, F, W, R, G>
+where
+    F: Future<TaskWaker<W, R>>,
+    W: Wake,
+    R: Wait + Clone + Drop,
+    G: Future<W>,
+{
+    fn drop(self) {
+        let Run { inner } = self;
+        drop(inner);
+    }
+}

@@ -1,0 +1,62 @@
+//! Runs beside a future that awaits a task of the executor.
+use async_executor::executor::{Cancelled, Executor};
+use executor_core::task::{Future, Poll};
+use std::sync::Wait;
+use std::test::Fail;
+use test_parts::future::Ready;
+use test_parts::record::{Moment, Record};
+use test_parts::task::spawned;
+use test_parts::waker::TestWaker;
+
+// Gives twice what a task gives.
+#[derive(Drop)]
+struct Twice<G> {
+    task: G,
+}
+
+impl<W, G: Future<W, Output = Result<u64, Cancelled>>> Future<W> for Twice<G> {
+    type Output = Result<u64, Cancelled>;
+
+    fn poll(&mut self, w: &W) -> Poll<Result<u64, Cancelled>> {
+        match self.task.poll(w) {
+            Poll::Ready(Ok(number)) => Poll::Ready(Ok(number.saturating_mul(2))),
+            other => other,
+        }
+    }
+}
+
+// What a future gives at the second poll of a run, where the run was woken in the first one.
+fn second_answer<G: Future<TestWaker>>(run: &mut G, record: &Record) -> Option<G::Output> {
+    let waker = TestWaker::new(record).ok()?;
+    let first = run.poll(&waker);
+    let is_woken = record.times(Moment::WakerWake) == 1;
+    match (first, run.poll(&waker)) {
+        (Poll::Pending, Poll::Ready(output)) if is_woken => Some(output),
+        _ => None,
+    }
+}
+
+// What a run gives beside a future that doubles what a task gives, and beside its handle.
+fn awaits<R: AllocGlobal + Wait + Clone + Drop + Send + Sync>(
+    rt: &R,
+) -> Result<[Option<Result<u64, Cancelled>>; 2], Fail> {
+    let alloc = rt.alloc();
+    let executor = Executor::new(rt.clone()?, alloc)?;
+    let task = spawned(&executor, Ready::new(1 + 2))?;
+    let Ok(mut run) = executor.run(Twice { task }) else {
+        return Err("no memory for a run".into());
+    };
+    let twice = second_answer(&mut run, &Record::new(alloc)?);
+    let task = spawned(&executor, Ready::new(1 + 2))?;
+    let Ok(mut run) = executor.run(task) else {
+        return Err("no memory for a run".into());
+    };
+    let once = second_answer(&mut run, &Record::new(alloc)?);
+    Ok([twice, once])
+}
+
+#[test]
+fn a_run_awaits_a_task(rt: HostRuntime) -> Result<(), Fail> {
+    assert_eq!(rt; awaits(&rt)?, [Some(Ok(6)), Some(Ok(3))]);
+    Ok(())
+}

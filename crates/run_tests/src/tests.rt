@@ -1,3 +1,0 @@
-mod parts;
-mod running;
-mod sharing;
