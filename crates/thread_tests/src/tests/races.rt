@@ -192,49 +192,38 @@ fn an_executor_and_a_handle_are_sent(rt: HostRuntime) -> Result<(), Fail> {
     Ok(())
 }
 
-// How many threads were done, how many tasks gave their output, and whether none is left.
-fn await_each<R: AllocGlobal + Wait + Threads + Clone + Drop + Send + Sync>(
-    rt: &R,
-) -> Result<(u64, u64, bool), Fail> {
-    let all = Fixture::new(rt)?;
+#[test]
+fn no_output_is_lost_between_threads(rt: HostRuntime) -> Result<(), Fail> {
+    let all = Fixture::new(&rt)?;
     let shared = &all;
-    thread::scope(thread::scope_env(), rt, |scope| {
+    thread::scope(thread::scope_env(), &rt, |scope| {
         for _ in 0..2u8 {
             let _ = scope.spawn(move || shared.ticks_until(2));
             let _ = scope.spawn(move || shared.awaits_each(20_000));
         }
     });
     let done = all.done.load(Ordering::SeqCst);
-    Ok((done, all.good.load(Ordering::SeqCst), all.ex.is_empty()))
-}
-
-#[test]
-fn no_output_is_lost_between_threads(rt: HostRuntime) -> Result<(), Fail> {
-    assert_eq!(rt; await_each(&rt)?, (2, 40_000, true));
+    let good = all.good.load(Ordering::SeqCst);
+    assert_eq!(rt; (done, good, all.ex.is_empty()), (2, 40_000, true));
     Ok(())
-}
-
-// How many futures were dropped, whether each that was polled gave an output that was dropped, and
-// whether no task is left, nor scheduled.
-fn end_each<R: AllocGlobal + Wait + Threads + Clone + Drop + Send + Sync>(
-    rt: &R,
-) -> Result<(u64, [bool; 3]), Fail> {
-    let all = Fixture::new(rt)?;
-    let shared = &all;
-    thread::scope(thread::scope_env(), rt, |scope| {
-        for _ in 0..4u8 {
-            let _ = scope.spawn(move || shared.spawns_and_ticks(10_000, 40_000));
-        }
-    });
-    let polls = all.record.times(Moment::FuturePoll);
-    let is_each = all.record.times(Moment::OutputDrop) == polls;
-    let drops = all.record.times(Moment::FutureDrop);
-    Ok((drops, [is_each, all.ex.is_empty(), !all.ex.try_tick()]))
 }
 
 #[test]
 fn each_task_of_four_threads_ends_once(rt: HostRuntime) -> Result<(), Fail> {
-    assert_eq!(rt; end_each(&rt)?, (40_000, [true; 3]));
+    let all = Fixture::new(&rt)?;
+    let shared = &all;
+    thread::scope(thread::scope_env(), &rt, |scope| {
+        for _ in 0..4u8 {
+            let _ = scope.spawn(move || shared.spawns_and_ticks(10_000, 40_000));
+        }
+    });
+    // Each future was dropped, each that was polled gave an output that was dropped, and no task is
+    // left, nor scheduled.
+    let polls = all.record.times(Moment::FuturePoll);
+    let outputs = all.record.times(Moment::OutputDrop);
+    let drops = all.record.times(Moment::FutureDrop);
+    let left = (all.ex.is_empty(), all.ex.try_tick());
+    assert_eq!(rt; (drops, outputs, left), (40_000, polls, (true, false)));
     Ok(())
 }
 
