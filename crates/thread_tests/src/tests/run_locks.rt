@@ -5,7 +5,7 @@ use test_parts::future::Kind::{Never, Ready, Yields};
 use test_parts::line::Answer::{Gone, Output, Pending};
 use test_parts::line::Line::{
     AnotherWaker, Cancel, Count, Detach, DropHalts, DropHandle, Empty, HaltAt, HaltsAgain, MakeRun,
-    MakeTick, Poll, PollHalts, Returns, Spawn, SpawnHalts, SpawnMany, Tick, Ticks, Used,
+    MakeTick, Poll, PollHalts, Returns, Spawn, SpawnHalts, SpawnMany, Ticks, Used,
 };
 use test_parts::player::play;
 use test_parts::record::Moment::{
@@ -166,7 +166,7 @@ fn while_a_run_drops_an_unwanted_output(rt: HostRuntime) -> Result<(), Fail> {
     )
 }
 
-// No task is taken before the end of the one before: another may run it meanwhile.
+// No task is taken before the one before is over: another run may steal it meanwhile.
 #[test]
 fn while_a_run_wakes_an_awaiter(rt: HostRuntime) -> Result<(), Fail> {
     play(
@@ -177,8 +177,9 @@ fn while_a_run_wakes_an_awaiter(rt: HostRuntime) -> Result<(), Fail> {
             Poll(0, Pending),
             Spawn(Ready(8)),
             MakeRun(Never),
+            MakeRun(Never),
             PollHalts(2),
-            Tick(true),
+            Poll(3, Pending),
             Poll(1, Output(8)),
             Used,
             Returns(Pending),
