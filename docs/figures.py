@@ -18,7 +18,7 @@ HEADS = {
     "threads": ("row, on T threads", "one operation", "T = 1", "2", "4", "the Rust crate on 1, 2, 4"),
     "exsim": ("lines", "milliseconds", "million instructions", "peak memory, MB"),
 }
-CODE = {"time", "bench", "threads"}
+CODE = {"time", "bench"}
 
 
 def figures():
