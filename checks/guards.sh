@@ -101,10 +101,11 @@ try_round() {
     while read -r _ _ guard; do
         add_edit "$guard" "$room"
     done < "$room/applied"
-    (cd "$room/crates/$1" && xargs -d '\n' "$kit/bin/rattle" check < "$room/words") \
-        > "$room/log" 2>&1 || :
-    (cd "$room/crates/$1" && awk -v crate="$1" -f "$checks/refused.awk" "$room/log") > "$room/found"
     grep "^$2 " "$copy/$1.rounds" > "$room/round"
+    (cd "$room/crates/$1" &&
+        awk '{ print "--only"; print $2 }' "$room/round" | cat "$room/words" - |
+        xargs -d '\n' "$kit/bin/rattle" check) > "$room/log" 2>&1 || :
+    (cd "$room/crates/$1" && awk -v crate="$1" -f "$checks/refused.awk" "$room/log") > "$room/found"
     while read -r _ function guard; do
         judge "$function" "$(basename "$guard")"
     done < "$room/round"

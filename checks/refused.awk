@@ -89,4 +89,4 @@ function add_goal(name, goal) {
     print "beside: " $0
 }
 
-/^logic=/ { print "read" }
+/^(logic|only)=/ { print "read" }

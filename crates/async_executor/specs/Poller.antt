@@ -13,4 +13,4 @@ module _ {F W R T : Type 0} where
 
   -- a disposal leaves no future of its own task
   abbrev pub DisposesOwn : TaskPoller F W R T → TaskId → TaskPoller F W R T → Type 0
-  DisposesOwn poller id after = id ≡ poller.id → after.out ≡ None
+  DisposesOwn poller id after = id ≡ poller.id → after.out.now ≡ None

@@ -5,11 +5,11 @@ ghost use Rattle.async_executor.specs.Store.{IsHeldRight, IsLeftRight, IsEndRigh
 
 use crate::lock::lock;
 use crate::state::{APART, CacheLine, State};
-use crate::store::{EndThenSearch, FoundTask, LeftOver, PolledTask, Store};
+use crate::store::{EndThenSearch, LeftOver, Out, Store};
 use crate::waker::TaskWaker;
 use executor_core::queue::RunnerKey;
 use executor_core::task::{
-    Again, Future, Notice, OutOfMemory, PollHandle, SpawnError, TaskId, Wake,
+    Again, Future, Notice, OutOfMemory, PollHandle, Ran, SpawnError, Taken, TaskId, Wake,
 };
 use std::alloc::Global;
 use std::sync::{Arc, Mutex, Wait};
@@ -38,36 +38,39 @@ pub trait Home: Drop {
     fn spawn(&self, future: Self::Future) -> Result<(TaskId, Notice), SpawnError<Self::Future>>
         ensures { IfErr result (λ e. refused_future e ≡ future) };
 
-    /// Takes the future of the task, with the waker to poll it with.
-    fn take(&self, id: TaskId) -> Option<(Self::Future, TaskWaker<Self::Waker, Self::Runtime>)>;
+    /// Takes the future of the task out, with the waker to poll it with.
+    fn take(&self, id: TaskId) -> OutIn<Self>;
 
-    /// Takes a task for a runner, with its future.
+    /// Takes a task for a runner, and its future out.
     fn search(
         &self,
         key: RunnerKey,
         word: u64,
         again: Option<Again>,
-    ) -> Option<FoundTask<Self::Future, Self::Waker, Self::Runtime>>;
+        out: &mut OutIn<Self>,
+    ) -> Option<(Taken<()>, Notice)>;
 
-    /// Ends a task that was polled, and keeps its future or its output, where the handle wants it.
+    /// Ends a task that was run, and keeps its future or its output, where the handle wants it.
     /// There is a notice where the task was queued.
     fn end(
         &self,
         id: TaskId,
-        polled: PolledTask<Self::Future, Self::Waker, Self::Runtime, OutputIn<Self>>,
-    ) -> Result<Option<Notice>, LeftOver<Self::Future, Self::Waker, Self::Runtime, OutputIn<Self>>>
-        requires { IsHeldRight polled }
+        ran: Ran<(), OutputIn<Self>>,
+        out: &mut OutIn<Self>,
+    ) -> Result<Option<Notice>, LeftOver<Self::Waker, OutputIn<Self>>>
+        requires { IsHeldRight ran }
         ensures { IfErr result (λ left. IsLeftRight left) };
 
-    /// Ends a task that was polled, and takes the next one for a runner, with its future.
+    /// Ends a task that was run, and takes the next one for a runner, and its future out.
     fn end_then_search(
         &self,
         id: TaskId,
-        polled: PolledTask<Self::Future, Self::Waker, Self::Runtime, OutputIn<Self>>,
+        ran: Ran<(), OutputIn<Self>>,
+        out: &mut OutIn<Self>,
         key: RunnerKey,
         word: u64,
-    ) -> EndThenSearch<Self::Future, Self::Waker, Self::Runtime, OutputIn<Self>>
-        requires { IsHeldRight polled }
+    ) -> EndThenSearch<Self::Waker, OutputIn<Self>>
+        requires { IsHeldRight ran }
         ensures { IsEndRight result };
 
     /// Ends the handle of a task that has ended. The output comes out where there is one, and a
@@ -81,6 +84,9 @@ pub trait Home: Drop {
         waker: Self::Waker,
     ) -> PollHandle<Option<OutputIn<Self>>, Self::Waker>;
 }
+
+/// The future of a task of a home while it is out, with its waker.
+pub type OutIn<H> = Out<<H as Home>::Future, <H as Home>::Waker, <H as Home>::Runtime>;
 
 /// What a task gives.
 pub type OutputIn<H> = <<H as Home>::Future as Future<
@@ -140,7 +146,7 @@ impl<F: Future<TaskWaker<W, R>>, W: Wake, R: Wait + Clone + Drop> Home for Share
         }
     }
 
-    fn take(&self, id: TaskId) -> Option<(F, TaskWaker<W, R>)> {
+    fn take(&self, id: TaskId) -> Out<F, W, R> {
         lock!(self.shared.store, self.shared.state.rt()).take(id)
     }
 
@@ -149,37 +155,41 @@ impl<F: Future<TaskWaker<W, R>>, W: Wake, R: Wait + Clone + Drop> Home for Share
         key: RunnerKey,
         word: u64,
         again: Option<Again>,
-    ) -> Option<FoundTask<F, W, R>> {
-        lock!(self.shared.store, self.shared.state.rt()).search(self.state(), key, word, again)
+        out: &mut Out<F, W, R>,
+    ) -> Option<(Taken<()>, Notice)> {
+        let mut store = lock!(self.shared.store, self.shared.state.rt());
+        store.search(self.state(), key, word, again, out)
     }
 
     #[inline(always)]
     fn end(
         &self,
         id: TaskId,
-        polled: PolledTask<F, W, R, F::Output>,
-    ) -> Result<Option<Notice>, LeftOver<F, W, R, F::Output>>
-        requires { IsHeldRight polled }
+        ran: Ran<(), F::Output>,
+        out: &mut Out<F, W, R>,
+    ) -> Result<Option<Notice>, LeftOver<W, F::Output>>
+        requires { IsHeldRight ran }
         ensures { IfErr result (λ left. IsLeftRight left) }
     {
         let mut store = lock!(self.shared.store, self.shared.state.rt());
         let mut cells = self.state().cells();
-        store.end(&mut cells, id, polled)
+        store.end(&mut cells, id, ran, out)
     }
 
     #[inline(always)]
     fn end_then_search(
         &self,
         id: TaskId,
-        polled: PolledTask<F, W, R, F::Output>,
+        ran: Ran<(), F::Output>,
+        out: &mut Out<F, W, R>,
         key: RunnerKey,
         word: u64,
-    ) -> EndThenSearch<F, W, R, F::Output>
-        requires { IsHeldRight polled }
+    ) -> EndThenSearch<W, F::Output>
+        requires { IsHeldRight ran }
         ensures { IsEndRight result }
     {
         let mut store = lock!(self.shared.store, self.shared.state.rt());
-        store.end_then_search(self.state(), id, polled, key, word)
+        store.end_then_search(self.state(), id, ran, out, key, word)
     }
 
     #[inline(always)]

@@ -1,4 +1,5 @@
 //! Takes a lock that is usually free: tries once inline, and only then waits.
+use std::hint::spin_loop;
 use std::sync::{Mutex, MutexGuard, Wait};
 
 /// Waits for a lock. It is no function, since each call that may wait costs its caller a test.
@@ -13,9 +14,21 @@ macro_rules! lock {
 
 pub(crate) use lock;
 
-/// Waits for a lock that was not free.
+// How often a lock is tried again before the thread sleeps, each time after twice as long a pause.
+const TRIES: u32 = 7;
+
+/// Waits for a lock that was not free. A hold is short beside the sleep and the waking of a thread,
+/// so the lock is tried again for a while before the thread sleeps.
 #[cold]
 #[inline(never)]
 pub(crate) fn wait_for<'a, T, R: Wait>(mutex: &'a Mutex<T>, rt: &R) -> MutexGuard<'a, T> {
+    for tries in 0..TRIES {
+        for _ in 0..1u32 << tries {
+            spin_loop();
+        }
+        if let Some(guard) = mutex.try_lock() {
+            return guard;
+        }
+    }
     mutex.lock(rt)
 }

@@ -2,24 +2,25 @@
 ghost use Rattle.std.specs.Prelude.{◌≡◌};
 ghost use Rattle.async_executor.specs.Poller.{AnswersOwn, DisposesOwn};
 
+use crate::store::Out;
 use crate::waker::TaskWaker;
 use executor_core::task::{Future, Poll, Polled, Poller, TaskId, Wake};
 use std::sync::Wait;
 
-/// Holds the future of one task while it is out, and the waker that it is polled with. It answers
+/// Borrows the future of one task while it is out, and the waker that it is polled with. It answers
 /// for this task alone, and counts the polls and the disposals that it is asked for.
 #[derive(Drop)]
-pub(crate) struct TaskPoller<F: Future<TaskWaker<W, R>>, W: Wake, R: Wait + Clone + Drop> {
+pub(crate) struct TaskPoller<'a, F: Future<TaskWaker<W, R>>, W: Wake, R: Wait + Clone + Drop> {
     id: TaskId,
-    out: Option<(F, TaskWaker<W, R>)>,
+    out: &'a mut Out<F, W, R>,
     polls: u64,
     disposals: u64,
 }
 
-impl<F: Future<TaskWaker<W, R>>, W: Wake, R: Wait + Clone + Drop> TaskPoller<F, W, R> {
+impl<'a, F: Future<TaskWaker<W, R>>, W: Wake, R: Wait + Clone + Drop> TaskPoller<'a, F, W, R> {
     /// The poller of the task of this id.
-    pub(crate) fn new(id: TaskId, out: Option<(F, TaskWaker<W, R>)>) -> TaskPoller<F, W, R>
-        ensures { result ≡ record { id = id; out = out; polls = 0; disposals = 0 } }
+    pub(crate) fn new(id: TaskId, out: &'a mut Out<F, W, R>) -> TaskPoller<'a, F, W, R>
+        ensures { result ≡ record { id = id; out = out.entry; polls = 0; disposals = 0 } }
     {
         TaskPoller {
             id,
@@ -28,23 +29,10 @@ impl<F: Future<TaskWaker<W, R>>, W: Wake, R: Wait + Clone + Drop> TaskPoller<F, 
             disposals: 0,
         }
     }
-
-    /// The future, where it is not dropped, and its waker.
-    pub(crate) fn into_out(self) -> Option<(F, TaskWaker<W, R>)>
-        ensures { result ≡ self.out }
-    {
-        let TaskPoller {
-            id: _,
-            out,
-            polls: _,
-            disposals: _,
-        } = self;
-        out
-    }
 }
 
 impl<F: Future<TaskWaker<W, R>>, W: Wake, R: Wait + Clone + Drop> Poller<(), F::Output>
-    for TaskPoller<F, W, R> {
+    for TaskPoller<'_, F, W, R> {
     ghost polls = { λ p. p.polls };
 
     ghost disposals = { λ p. p.disposals };
@@ -57,7 +45,7 @@ impl<F: Future<TaskWaker<W, R>>, W: Wake, R: Wait + Clone + Drop> Poller<(), F::
     /// and so it is not ready.
     fn poll(&mut self, id: TaskId, _future: ()) -> Polled<(), F::Output> {
         self.polls += 1;
-        let Some((future, waker)) = &mut self.out else {
+        let Some((future, waker)) = &mut *self.out else {
             return Polled::Pending(());
         };
         if id != self.id {
@@ -66,7 +54,7 @@ impl<F: Future<TaskWaker<W, R>>, W: Wake, R: Wait + Clone + Drop> Poller<(), F::
         match future.poll(waker) {
             Poll::Pending => Polled::Pending(()),
             Poll::Ready(output) => {
-                self.out = None;
+                *self.out = None;
                 Polled::Ready(output)
             }
         }
@@ -76,7 +64,7 @@ impl<F: Future<TaskWaker<W, R>>, W: Wake, R: Wait + Clone + Drop> Poller<(), F::
     fn dispose(&mut self, id: TaskId, _future: ()) {
         self.disposals += 1;
         if id == self.id {
-            self.out = None;
+            *self.out = None;
         }
     }
 }

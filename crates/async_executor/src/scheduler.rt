@@ -10,14 +10,13 @@ ghost use Rattle.executor_core.specs.SpawnError.{refused_future};
 ghost use Rattle.async_executor.specs.RunError.{run_future};
 ghost use Rattle.async_executor.specs.Store.{IsHeldRight, IsLeftRight};
 
-use crate::home::{Home, OutputIn};
+use crate::home::{Home, OutIn, OutputIn};
 use crate::poller::TaskPoller;
 use crate::runner::{RunError, RunIn};
 use crate::state::{State, announce};
-use crate::store::{LeftOver, PolledTask};
+use crate::store::LeftOver;
 use crate::task::TaskIn;
 use crate::ticker::TickIn;
-use crate::waker::TaskWaker;
 use executor_core::queue::Ring;
 use executor_core::task::{
     EndPending, Future, Held, OutOfMemory, Ran, SpawnError, Taken, TaskId, run_taken,
@@ -115,27 +114,32 @@ impl<H: Home> ExecutorIn<H> {
     /// the task. No lock may be held.
     pub(crate) fn run_task(&self, taken: Taken<()>) {
         let id = taken.id();
-        let polled = poll_taken::<H>(taken, self.home.take(id));
-        self.end(id, polled);
+        let mut out = self.home.take(id);
+        let ran = poll_taken::<H>(taken, &mut out);
+        self.end(id, ran, &mut out);
     }
 
-    /// Ends a task that was polled. No lock may be held.
+    /// Ends a task that was run. No lock may be held.
     #[inline(always)]
-    pub(crate) fn end(&self, id: TaskId, polled: PolledIn<H>)
-        requires { IsHeldRight polled }
+    pub(crate) fn end(&self, id: TaskId, ran: Ran<(), OutputIn<H>>, out: &mut OutIn<H>)
+        requires { IsHeldRight ran }
     {
-        match polled {
-            PolledTask::Dropped(held) => self.end_dropped(held),
-            polled => match self.home.end(id, polled) {
+        match ran {
+            Ran::Dropped(held) => self.end_dropped(held),
+            ran => match self.home.end(id, ran, out) {
                 Ok(None) => {}
                 Ok(Some(notice)) => announce!(self.home.state(), notice),
-                Err(left) => self.finish(id, left),
+                Err(left) => {
+                    *out = None;
+                    self.finish(id, left);
+                }
             },
         }
     }
 
-    /// Does what the end of a task has left to do. No lock may be held.
-    pub(crate) fn finish(&self, id: TaskId, left: LeftOverIn<H>)
+    /// Does what the end of a task has left to do. A future that was refused is dropped. No lock
+    /// may be held.
+    pub(crate) fn finish(&self, id: TaskId, left: LeftOver<H::Waker, OutputIn<H>>)
         requires { IsLeftRight left }
     {
         match left {
@@ -146,10 +150,10 @@ impl<H: Home> ExecutorIn<H> {
                 }
             }
             LeftOver::ToDrop(held) => self.drop_pending(id, held),
-            LeftOver::Refused(held, future, share) => {
-                drop(future);
-                drop(share);
-                self.end_refused(id, held);
+            LeftOver::Refused(held) => self.end_pending(id, held),
+            LeftOver::Woken(held, notice) => {
+                announce!(self.home.state(), notice);
+                self.end_pending(id, held);
             }
         }
     }
@@ -162,10 +166,10 @@ impl<H: Home> ExecutorIn<H> {
         self.end_dropped(held);
     }
 
-    // Ends a task whose future had no place.
+    // Ends a task that is pending, with nothing to put back.
     #[cold]
     #[inline(never)]
-    fn end_refused(&self, id: TaskId, held: Held)
+    fn end_pending(&self, id: TaskId, held: Held)
         requires { held.to_drop ≡ false }
     {
         let ended = self.state().cells().end_pending(held, ());
@@ -188,39 +192,12 @@ impl<H: Home> ExecutorIn<H> {
     }
 }
 
-/// The future of a task of a home while it is out, with its waker.
-pub(crate) type OutIn<H> = Option<
-    (
-        <H as Home>::Future,
-        TaskWaker<<H as Home>::Waker, <H as Home>::Runtime>,
-    ),
->;
-
-/// A task of a home that was polled, and what its end leaves to do.
-pub(crate) type PolledIn<H> = PolledTask<
-    <H as Home>::Future,
-    <H as Home>::Waker,
-    <H as Home>::Runtime,
-    OutputIn<H>,
->;
-
-pub(crate) type LeftOverIn<H> = LeftOver<
-    <H as Home>::Future,
-    <H as Home>::Waker,
-    <H as Home>::Runtime,
-    OutputIn<H>,
->;
-
 /// Polls the future of a taken task once, or drops it where the task was cancelled. No lock may be
 /// held.
 #[inline(always)]
-pub(crate) fn poll_taken<H: Home>(taken: Taken<()>, out: OutIn<H>) -> PolledIn<H>
+pub(crate) fn poll_taken<H: Home>(taken: Taken<()>, out: &mut OutIn<H>) -> Ran<(), OutputIn<H>>
     ensures { IsHeldRight result }
 {
     let mut poller = TaskPoller::new(taken.id(), out);
-    match run_taken(taken, &mut poller) {
-        Ran::Pending(held, ()) => PolledTask::Pending(held, poller.into_out()),
-        Ran::Ready(held, output) => PolledTask::Ready(held, output),
-        Ran::Dropped(held) => PolledTask::Dropped(held),
-    }
+    run_taken(taken, &mut poller)
 }

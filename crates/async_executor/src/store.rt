@@ -3,7 +3,7 @@
 //! A task has the place of its slot for as long as its cell has that slot, also while its future is
 //! out to be polled. The place bears the number of the task, so that a later task of the same slot
 //! is not taken for it.
-ghost use Rattle.std.specs.Prelude.{◌≡◌, ◌<◌, [], false, cond, Some, None, OnOk, IfErr, IsTrue, is_some, vec_len};
+ghost use Rattle.std.specs.Prelude.{◌≡◌, ◌<◌, [], false, cond, Some, None, OnOk, IfErr, IsTrue, is_some, option_copied, vec_len};
 ghost use Rattle.executor_core.specs.SpawnError.{refused_future};
 ghost use Rattle.async_executor.specs.Store.{IsHeldRight, IsLeftRight, IsEndRight, kept_at, is_vacant, future_in, output_in, inserted, with_place, HasRoom};
 
@@ -11,8 +11,8 @@ use crate::state::State;
 use crate::waker::TaskWaker;
 use executor_core::queue::RunnerKey;
 use executor_core::task::{
-    Again, Cells, EndPending, EndReady, Held, Notice, OutOfMemory, PollHandle, SpawnError, Taken,
-    TaskId, Wake, Wakeup,
+    Again, Cells, EndPending, EndReady, Held, Notice, OutOfMemory, PollHandle, Ran, SpawnError,
+    Taken, TaskId, Wake, Wakeup,
 };
 use std::alloc::Global;
 use std::sync::{Arc, Wait};
@@ -74,15 +74,23 @@ impl<F: Drop, S: Drop, T: Drop> Store<F, S, T> {
         }
     }
 
+    // What is kept of the task, where it has its place.
+    fn kept(&self, id: TaskId) -> Option<&Kept<F, S, T>>
+        ensures kept { option_copied result ≡ kept_at self.now id }
+        ensures inside { IsTrue (is_some (kept_at self.now id)) → id.slot < vec_len self.now.places }
+    {
+        match self.places.get(id.slot()) {
+            Some(place) if place.number == id.number() => Some(&place.kept),
+            _ => None,
+        }
+    }
+
     // Whether the task has its place, and nothing is kept of it.
     fn is_vacant(&self, id: TaskId) -> bool
         ensures vacant { result ≡ is_vacant (kept_at self.now id) }
         ensures inside { IsTrue result → id.slot < vec_len self.now.places }
     {
-        match self.places.get(id.slot()) {
-            Some(place) => { place.number == id.number() && matches!(&place.kept, Kept::Nothing) }
-            None => false,
-        }
+        matches!(self.kept(id), Some(Kept::Nothing))
     }
 
     // Whether the future of the task is kept.
@@ -90,12 +98,7 @@ impl<F: Drop, S: Drop, T: Drop> Store<F, S, T> {
         ensures future { result ≡ is_some (future_in (kept_at self.now id)) }
         ensures inside { IsTrue result → id.slot < vec_len self.now.places }
     {
-        match self.places.get(id.slot()) {
-            Some(place) => {
-                place.number == id.number() && matches!(&place.kept, Kept::Future(_, _))
-            }
-            None => false,
-        }
+        matches!(self.kept(id), Some(Kept::Future(_, _)))
     }
 
     // Whether the output of the task is kept.
@@ -103,10 +106,7 @@ impl<F: Drop, S: Drop, T: Drop> Store<F, S, T> {
         ensures output { result ≡ is_some (output_in (kept_at self.now id)) }
         ensures inside { IsTrue result → id.slot < vec_len self.now.places }
     {
-        match self.places.get(id.slot()) {
-            Some(place) => { place.number == id.number() && matches!(&place.kept, Kept::Output(_)) }
-            None => false,
-        }
+        matches!(self.kept(id), Some(Kept::Output(_)))
     }
 
     /// Takes the future of the task, with its share.
@@ -168,27 +168,16 @@ impl<F: Drop, S: Drop, T: Drop> Store<F, S, T> {
     }
 }
 
-/// A task that a search took, and the notice of its take. The future is out, with its waker.
-pub struct FoundTask<F, W, R> {
-    pub(crate) taken: Taken<()>,
-    pub(crate) notice: Notice,
-    pub(crate) out: Option<(F, TaskWaker<W, R>)>,
-}
-
-/// A taken task whose future was polled once, or dropped.
-pub enum PolledTask<F, W, R, T> {
-    /// The future is pending, and out with its waker.
-    Pending(Held, Option<(F, TaskWaker<W, R>)>),
-    /// The future gave this output and was dropped.
-    Ready(Held, T),
-    /// The task was cancelled, and the future was dropped.
-    Dropped(Held),
-}
+/// The future of a task while it is out, with the waker that it is polled with.
+pub type Out<F, W, R> = Option<(F, TaskWaker<W, R>)>;
 
 /// What the end of a task leaves to do once no lock is held.
-pub enum LeftOver<F, W, R, T> {
+pub enum LeftOver<W, T> {
     /// The future has no place. It is to be dropped, and then the task is to be ended.
-    Refused(Held, F, Arc<State<W, R>>),
+    Refused(Held),
+    /// The task was woken during its poll, and the notice of that is to be spent. Then the task is
+    /// to be ended.
+    Woken(Held, Notice),
     /// The task was cancelled meanwhile. The future is to be dropped.
     ToDrop(Held),
     /// The output is to be dropped, and the awaiter to be woken.
@@ -196,11 +185,11 @@ pub enum LeftOver<F, W, R, T> {
 }
 
 /// What came of the end of a task and of a search after it, made as one change.
-pub enum EndThenSearch<F, W, R, T> {
+pub enum EndThenSearch<W, T> {
     /// The task was ended, with a notice where it was queued. This is what the search found.
-    Searched(Option<Notice>, Option<FoundTask<F, W, R>>),
+    Searched(Option<Notice>, Option<(Taken<()>, Notice)>),
     /// The end leaves something to do first, so nothing was searched.
-    Left(LeftOver<F, W, R, T>),
+    Left(LeftOver<W, T>),
 }
 
 // Each of these is one change of the store, with one of the table inside it where that has to
@@ -228,47 +217,57 @@ impl<F: Drop, W: Wake, R: Wait + Clone + Drop, T: Drop> Store<F, Arc<State<W, R>
         }
     }
 
-    pub(crate) fn take(&mut self, id: TaskId) -> Option<(F, TaskWaker<W, R>)> {
+    pub(crate) fn take(&mut self, id: TaskId) -> Out<F, W, R> {
         let (future, state) = self.take_future(id)?;
-        Some((future, TaskWaker::new(state, id)))
+        Some((future, TaskWaker::lent(state, id)))
     }
 
-    /// Takes a task for a runner, with its future.
+    /// Takes a task for a runner, and its future out.
     pub(crate) fn search(
         &mut self,
         state: &State<W, R>,
         key: RunnerKey,
         word: u64,
         again: Option<Again>,
-    ) -> Option<FoundTask<F, W, R>> {
+        out: &mut Out<F, W, R>,
+    ) -> Option<(Taken<()>, Notice)> {
         let found = state.cells().search(key, word, again);
-        self.with_future(found)
+        self.take_found(found, out)
     }
 
-    // Takes the future of a task that was found.
+    // Takes the future of a task that was found out, where none is out any more.
     #[inline(always)]
-    fn with_future(&mut self, found: Option<(Taken<()>, Notice)>) -> Option<FoundTask<F, W, R>> {
+    fn take_found(
+        &mut self,
+        found: Option<(Taken<()>, Notice)>,
+        out: &mut Out<F, W, R>,
+    ) -> Option<(Taken<()>, Notice)> {
         let (taken, notice) = found?;
-        let out = self.take(taken.id());
-        Some(FoundTask { taken, notice, out })
+        *out = self.take(taken.id());
+        Some((taken, notice))
     }
 
-    /// Ends a task, and keeps its future or output. There is a notice where it was queued.
+    /// Ends a task that was run, and keeps its future or output. There is a notice where it was
+    /// queued.
     #[inline(always)]
     pub(crate) fn end(
         &mut self,
         cells: &mut Cells<(), (), W>,
         id: TaskId,
-        polled: PolledTask<F, W, R, T>,
-    ) -> Result<Option<Notice>, LeftOver<F, W, R, T>>
-        requires { IsHeldRight polled }
+        ran: Ran<(), T>,
+        out: &mut Out<F, W, R>,
+    ) -> Result<Option<Notice>, LeftOver<W, T>>
+        requires { IsHeldRight ran }
         ensures { IfErr result (λ left. IsLeftRight left) }
     {
-        match polled {
-            PolledTask::Pending(held, out) => {
-                if let Some((future, waker)) = out {
-                    if let Some((future, share)) = self.put_back(future, waker) {
-                        return Err(LeftOver::Refused(held, future, share));
+        match ran {
+            Ran::Pending(held, ()) => {
+                let Some(is_woken) = self.put_back(id, out) else {
+                    return Err(LeftOver::Refused(held));
+                };
+                if is_woken {
+                    if let Some(notice) = cells.wake(id) {
+                        return Err(LeftOver::Woken(held, notice));
                     }
                 }
                 match cells.end_pending(held, ()) {
@@ -276,7 +275,7 @@ impl<F: Drop, W: Wake, R: Wait + Clone + Drop, T: Drop> Store<F, Arc<State<W, R>
                     EndPending::Drop((), held) => Err(LeftOver::ToDrop(held)),
                 }
             }
-            PolledTask::Ready(held, output) => {
+            Ran::Ready(held, output) => {
                 let EndReady { awaiter, unwanted } = cells.end_ready(held, ());
                 let unwanted = match unwanted {
                     Some(()) => Some(output),
@@ -284,34 +283,47 @@ impl<F: Drop, W: Wake, R: Wait + Clone + Drop, T: Drop> Store<F, Arc<State<W, R>
                 };
                 finished(unwanted, awaiter)
             }
-            PolledTask::Dropped(held) => finished(None, cells.end_dropped(held)),
+            Ran::Dropped(held) => finished(None, cells.end_dropped(held)),
         }
     }
 
-    fn put_back(&mut self, future: F, waker: TaskWaker<W, R>) -> Option<(F, Arc<State<W, R>>)> {
-        let (state, id) = waker.into_parts();
-        self.keep_future(id, future, state)
+    // Puts a future that was out back, where it has a place, and says whether the waker that it was
+    // lent was woken.
+    #[inline(always)]
+    fn put_back(&mut self, id: TaskId, out: &mut Out<F, W, R>) -> Option<bool> {
+        let Some((future, waker)) = out.take() else {
+            return Some(false);
+        };
+        let (state, is_woken) = waker.into_parts();
+        match self.keep_future(id, future, state) {
+            None => Some(is_woken),
+            Some((future, state)) => {
+                *out = Some((future, TaskWaker::lent(state, id)));
+                None
+            }
+        }
     }
 
-    /// Ends a task, and takes the next one for a runner.
+    /// Ends a task, and takes the next one for a runner, and its future out.
     #[inline(always)]
     pub(crate) fn end_then_search(
         &mut self,
         state: &State<W, R>,
         id: TaskId,
-        polled: PolledTask<F, W, R, T>,
+        ran: Ran<(), T>,
+        out: &mut Out<F, W, R>,
         key: RunnerKey,
         word: u64,
-    ) -> EndThenSearch<F, W, R, T>
-        requires { IsHeldRight polled }
+    ) -> EndThenSearch<W, T>
+        requires { IsHeldRight ran }
         ensures { IsEndRight result }
     {
         let mut cells = state.cells();
-        match self.end(&mut cells, id, polled) {
+        match self.end(&mut cells, id, ran, out) {
             Ok(notice) => {
                 let found = cells.search(key, word, None);
                 drop(cells);
-                EndThenSearch::Searched(notice, self.with_future(found))
+                EndThenSearch::Searched(notice, self.take_found(found, out))
             }
             Err(left) => EndThenSearch::Left(left),
         }
@@ -350,10 +362,10 @@ impl<F: Drop, W: Wake, R: Wait + Clone + Drop, T: Drop> Store<F, Arc<State<W, R>
 
 // What is left to do of a task that has ended.
 #[inline(always)]
-fn finished<F, W, R, T>(
+fn finished<W, T>(
     unwanted: Option<T>,
     awaiter: Option<Wakeup<W>>,
-) -> Result<Option<Notice>, LeftOver<F, W, R, T>>
+) -> Result<Option<Notice>, LeftOver<W, T>>
     ensures { IfErr result (λ left. IsLeftRight left) }
 {
     match (unwanted, awaiter) {

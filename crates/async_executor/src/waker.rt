@@ -1,9 +1,14 @@
 //! The wakers that tasks are polled with.
-ghost use Rattle.std.specs.Prelude.{◌≡◌};
+//!
+//! A poll is lent a waker, which cannot be kept: what is kept is a copy. A copy that is woken
+//! schedules its task at once. The lent one is only marked, which takes no lock; the task is woken
+//! when its poll has ended, in the change that ends it.
+ghost use Rattle.std.specs.Prelude.{◌≡◌, true, false, is_some};
 
 use crate::lock::lock;
 use crate::state::{State, announce};
 use executor_core::task::{OutOfMemory, TaskId, Wake};
+use std::sync::atomic::{AtomicBool, Ordering};
 use std::sync::{Arc, Wait};
 
 /// Schedules one task of an executor for another poll.
@@ -17,22 +22,31 @@ use std::sync::{Arc, Wait};
 pub struct TaskWaker<W, R> {
     state: Arc<State<W, R>>,
     id: TaskId,
+    // Whether the waker was woken, where it is lent. Other threads may wake it by reference.
+    mark: Option<AtomicBool>,
 }
 
 impl<W: Wake, R: Wait + Clone + Drop> TaskWaker<W, R> {
-    /// The waker of the task of this id.
-    pub(crate) fn new(state: Arc<State<W, R>>, id: TaskId) -> TaskWaker<W, R>
-        ensures { result ≡ record { state = state; id = id } }
+    /// The waker that is lent to a poll of the task of this id.
+    pub(crate) fn lent(state: Arc<State<W, R>>, id: TaskId) -> TaskWaker<W, R>
+        ensures state { result.state ≡ state }
+        ensures id { result.id ≡ id }
+        ensures lent { is_some result.mark ≡ true }
     {
-        TaskWaker { state, id }
+        let mark = Some(AtomicBool::new(false));
+        TaskWaker { state, id, mark }
     }
 
-    /// The share of the state and the id that the waker was made of.
-    pub(crate) fn into_parts(self) -> (Arc<State<W, R>>, TaskId)
-        ensures { result ≡ (self.state, self.id) }
+    /// The share of the state that the waker was made of, and whether it is lent and was woken.
+    pub(crate) fn into_parts(self) -> (Arc<State<W, R>>, bool)
+        ensures state { result.0 ≡ self.state }
+        ensures copy { is_some self.mark ≡ false → result.1 ≡ false }
     {
-        let TaskWaker { state, id } = self;
-        (state, id)
+        let TaskWaker { state, id: _, mark } = self;
+        match mark {
+            Some(mark) => (state, mark.into_inner()),
+            None => (state, false),
+        }
     }
 }
 
@@ -43,6 +57,10 @@ impl<W: Wake, R: Wait + Clone + Drop> Wake for TaskWaker<W, R> {
     /// Example: `uses::receives`.
     #[inline(always)]
     fn wake(&self) {
+        if let Some(mark) = &self.mark {
+            mark.store(true, Ordering::SeqCst);
+            return;
+        }
         // In place of `State::cells`, since a call that may wait costs its caller a test.
         let mut cells = lock!(self.state.cells, self.state.rt());
         if let Some(notice) = cells.wake(self.id) {
@@ -60,6 +78,10 @@ impl<W: Wake, R: Wait + Clone + Drop> Wake for TaskWaker<W, R> {
     /// Example: `uses::receives`.
     fn copy(&self) -> Result<Self, OutOfMemory> {
         let state = Arc::try_clone(&self.state)?;
-        Ok(TaskWaker { state, id: self.id })
+        Ok(TaskWaker {
+            state,
+            id: self.id,
+            mark: None,
+        })
     }
 }

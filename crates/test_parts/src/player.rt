@@ -7,7 +7,7 @@ use crate::task::{Entry, Handle, TaskFuture, TestExecutor, TestTicker, Ticker, s
 use crate::waker::TestWaker;
 use async_executor::executor::Executor;
 use executor_core::task::{Future, Wake};
-use std::alloc::Global;
+use std::alloc::{AllocError, Global};
 use std::sync::{Arc, Wait};
 use std::test::Fail;
 use std::thread;
@@ -163,8 +163,7 @@ impl<'s, E: 's, T: TestTicker<R> + 's, R: Wait + Threads + Clone + Drop + Send +
             return Ok(false);
         };
         for _ in 0..count {
-            let place = WakerPlace::new(self.alloc)?;
-            spawned(ex, TestFuture::new(Kind::Ready(0), place, &self.many)?)?.detach();
+            spawn_detached(ex, &self.many, self.alloc)?;
         }
         Ok(true)
     }
@@ -217,17 +216,22 @@ impl<'s, E: 's, T: TestTicker<R> + 's, R: Wait + Threads + Clone + Drop + Send +
             return Ok(false);
         };
         let ex = Arc::try_clone(ex)?;
+        let waker = TestWaker::new(&self.many)?;
         let mut tick = ex.tick()?;
-        tick.poll(&TestWaker::new(&Record::new(self.alloc)?)?);
-        if self.is_empty().is_none() || !self.spawn(Kind::Never)? {
-            return Ok(false);
-        }
+        tick.poll(&waker);
+        ex.is_empty();
+        let was_spawned = self.spawn(Kind::Never);
         drop(tick);
+        Ok(was_spawned? && self.gives_up_last())
+    }
+
+    // Gives up the task that was spawned last, which has not ended, and has a tick drop its future.
+    fn gives_up_last(&mut self) -> bool {
         let given_up = match self.entries.last_mut() {
             Some(entry) => entry.give_up(),
             None => false,
         };
-        Ok(given_up && self.tick() == Some(true))
+        given_up && self.tick() == Some(true)
     }
 
     // Has another thread make the call, and waits until it halts.
@@ -248,9 +252,8 @@ impl<'s, E: 's, T: TestTicker<R> + 's, R: Wait + Threads + Clone + Drop + Send +
         let Some(ex) = &self.ex else {
             return Ok(false);
         };
+        let future = ready_future(&self.many, self.alloc)?;
         let ex = Arc::try_clone(ex)?;
-        let (place, record) = (WakerPlace::new(self.alloc)?, Record::new(self.alloc)?);
-        let future = TestFuture::new(Kind::Ready(0), place, &record)?;
         self.start(Call::Spawn(ex, future))
     }
 
@@ -317,6 +320,25 @@ impl<'s, E: 's, T: TestTicker<R> + 's, R: Wait + Threads + Clone + Drop + Send +
         child.join(&self.rt);
         Ok(true)
     }
+}
+
+// Ready at its first poll.
+fn ready_future<R: Wait + Clone + Drop + Send + Sync>(
+    record: &Record,
+    alloc: Global,
+) -> Result<TaskFuture<R>, AllocError> {
+    let place = WakerPlace::new(alloc)?;
+    TestFuture::new(Kind::Ready(0), place, record)
+}
+
+fn spawn_detached<R: Wait + Clone + Drop + Send + Sync>(
+    ex: &TestExecutor<R>,
+    record: &Record,
+    alloc: Global,
+) -> Result<(), Fail> {
+    let future = ready_future(record, alloc)?;
+    spawned(ex, future)?.detach();
+    Ok(())
 }
 
 /// Takes the lines in turn, on a new executor. The test fails at the first that does not hold.

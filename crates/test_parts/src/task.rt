@@ -6,7 +6,7 @@ use crate::record::{Moment, Record};
 use crate::waker::TestWaker;
 use async_executor::executor::{Cancel, Executor, FallibleTask, Run, Task, TaskWaker, Tick};
 use executor_core::task::{Future, Poll, Wake};
-use std::alloc::Global;
+use std::alloc::{AllocError, Global};
 use std::sync::{Arc, Wait};
 use std::test::Fail;
 
@@ -136,6 +136,43 @@ impl<T: TestTicker<R>, R: Wait + Clone + Drop + Send + Sync> Handle<T, R> {
     }
 }
 
+/// What a task, a tick or a run of a test is recorded by: the waker that it is polled by, the place
+/// where its future leaves its waker, and its records.
+#[derive(Drop)]
+struct Parts<R: Wait + Clone + Drop + Send + Sync> {
+    waker: TestWaker,
+    place: WakerPlace<FutureWaker<R>>,
+    record: Record,
+    other: Record,
+}
+
+impl<R: Wait + Clone + Drop + Send + Sync> Parts<R> {
+    fn new(alloc: Global, halt: &Halt) -> Result<Parts<R>, AllocError> {
+        let place = WakerPlace::new(alloc)?;
+        let other = Record::with_halt(alloc, halt)?;
+        let (record, waker) = recorded(alloc, halt)?;
+        Ok(Parts {
+            waker,
+            place,
+            record,
+            other,
+        })
+    }
+}
+
+// A record, and a waker that it is of.
+fn recorded(alloc: Global, halt: &Halt) -> Result<(Record, TestWaker), AllocError> {
+    let record = Record::with_halt(alloc, halt)?;
+    let waker = TestWaker::new(&record)?;
+    Ok((record, waker))
+}
+
+// The future of a run, which leaves its waker where nobody finds it.
+fn own_future(kind: Kind, alloc: Global, record: &Record) -> Result<OwnFuture, AllocError> {
+    let place = WakerPlace::new(alloc)?;
+    TestFuture::new(kind, place, record)
+}
+
 /// A task, its handle, and the waker that its handle is polled by; or a tick or a run in place of
 /// the handle.
 #[derive(Drop)]
@@ -150,18 +187,22 @@ pub struct Entry<T, R: Wait + Clone + Drop + Send + Sync> {
 }
 
 impl<T: TestTicker<R>, R: Wait + Clone + Drop + Send + Sync> Entry<T, R> {
-    // What has no handle yet.
-    fn new(alloc: Global, halt: &Halt) -> Result<Entry<T, R>, Fail> {
-        let record = Record::with_halt(alloc, halt)?;
-        Ok(Entry {
-            handle: None,
-            waker: Some(TestWaker::new(&record)?),
+    fn of(parts: Parts<R>, handle: Handle<T, R>) -> Entry<T, R> {
+        let Parts {
+            waker,
+            place,
+            record,
+            other,
+        } = parts;
+        Entry {
+            handle: Some(handle),
+            waker: Some(waker),
             first: None,
             output: None,
-            place: WakerPlace::new(alloc)?,
+            place,
             record,
-            other: Record::with_halt(alloc, halt)?,
-        })
+            other,
+        }
     }
 
     /// A new task of this executor.
@@ -171,10 +212,10 @@ impl<T: TestTicker<R>, R: Wait + Clone + Drop + Send + Sync> Entry<T, R> {
         alloc: Global,
         halt: &Halt,
     ) -> Result<Entry<T, R>, Fail> {
-        let mut entry = Entry::new(alloc, halt)?;
-        let future = TestFuture::new(kind, entry.place.share()?, &entry.record)?;
-        entry.handle = Some(Handle::Task(spawned(ex, future)?));
-        Ok(entry)
+        let parts = Parts::new(alloc, halt)?;
+        let future = TestFuture::new(kind, parts.place.share()?, &parts.record)?;
+        let task = spawned(ex, future)?;
+        Ok(Entry::of(parts, Handle::Task(task)))
     }
 
     /// A new tick of this executor.
@@ -183,9 +224,9 @@ impl<T: TestTicker<R>, R: Wait + Clone + Drop + Send + Sync> Entry<T, R> {
         alloc: Global,
         halt: &Halt,
     ) -> Result<Entry<T, R>, Fail> {
-        let mut entry = Entry::new(alloc, halt)?;
-        entry.handle = Some(Handle::Ticker(T::tick(ex, alloc)?));
-        Ok(entry)
+        let parts = Parts::new(alloc, halt)?;
+        let tick = T::tick(ex, alloc)?;
+        Ok(Entry::of(parts, Handle::Ticker(tick)))
     }
 
     /// A new run of this executor, beside a future of this kind.
@@ -195,10 +236,10 @@ impl<T: TestTicker<R>, R: Wait + Clone + Drop + Send + Sync> Entry<T, R> {
         alloc: Global,
         halt: &Halt,
     ) -> Result<Entry<T, R>, Fail> {
-        let mut entry = Entry::new(alloc, halt)?;
-        let own = TestFuture::new(kind, WakerPlace::new(alloc)?, &entry.record)?;
-        entry.handle = Some(Handle::Ticker(T::run(ex, own, alloc)?));
-        Ok(entry)
+        let parts = Parts::new(alloc, halt)?;
+        let own = own_future(kind, alloc, &parts.record)?;
+        let run = T::run(ex, own, alloc)?;
+        Ok(Entry::of(parts, Handle::Ticker(run)))
     }
 
     /// Whether what comes of the line, which is one on this task, is what has to.

@@ -45,21 +45,19 @@ where
     /// Example: `uses::cancels`.
     #[inline(always)]
     pub fn cancel(self) -> Cancel<F, W, R>
-        ensures { result.inner.answered ≡ self.inner.answered }
+        ensures { result.task.inner.answered ≡ self.inner.answered }
     {
-        let Task { inner } = self;
-        inner.cancel();
-        Cancel { inner }
+        self.inner.cancel();
+        Cancel { task: self }
     }
 
     /// The same task, with `None` in place of `Cancelled`.
     ///
     /// Example: `uses::falls_back`.
     pub fn fallible(self) -> FallibleTask<F, W, R>
-        ensures { result.inner.answered ≡ self.inner.answered }
+        ensures { result.task.inner.answered ≡ self.inner.answered }
     {
-        let Task { inner } = self;
-        FallibleTask { inner }
+        FallibleTask { task: self }
     }
 
     /// Whether the task has ended or was cancelled, or this handle has answered.
@@ -120,7 +118,7 @@ where
     W: Wake,
     R: Wait + Clone + Drop,
 {
-    inner: TaskIn<SharedHome<F, W, R>>,
+    task: Task<F, W, R>,
 }
 
 impl<F, W, R> Future<W> for Cancel<F, W, R>
@@ -136,10 +134,10 @@ where
     /// Example: `uses::cancels`.
     #[inline(always)]
     fn poll(&mut self, w: &W) -> Poll<Option<F::Output>>
-        ensures answered { self.new.inner.answered ≡ is_ready result }
-        ensures again { IsTrue self.old.inner.answered → IsReadyNone result }
+        ensures answered { self.new.task.inner.answered ≡ is_ready result }
+        ensures again { IsTrue self.old.task.inner.answered → IsReadyNone result }
     {
-        some_if_ok(self.inner.poll(w))
+        some_if_ok(self.task.poll(w))
     }
 }
 
@@ -150,8 +148,8 @@ where
     R: Wait + Clone + Drop,
 {
     fn drop(self) {
-        let Cancel { inner } = self;
-        drop(inner);
+        let Cancel { task } = self;
+        drop(task);
     }
 }
 
@@ -166,7 +164,7 @@ where
     W: Wake,
     R: Wait + Clone + Drop,
 {
-    inner: TaskIn<SharedHome<F, W, R>>,
+    task: Task<F, W, R>,
 }
 
 impl<F, W, R> FallibleTask<F, W, R>
@@ -179,28 +177,27 @@ where
     ///
     /// Example: `uses::lets_go`.
     pub fn detach(self) {
-        let FallibleTask { inner } = self;
-        inner.detach();
+        let FallibleTask { task } = self;
+        task.detach();
     }
 
     /// As `Task::cancel`.
     ///
     /// Example: `uses::lets_go`.
     pub fn cancel(self) -> Cancel<F, W, R>
-        ensures { result.inner.answered ≡ self.inner.answered }
+        ensures { result.task.inner.answered ≡ self.task.inner.answered }
     {
-        let FallibleTask { inner } = self;
-        inner.cancel();
-        Cancel { inner }
+        let FallibleTask { task } = self;
+        task.cancel()
     }
 
     /// As `Task::is_finished`.
     ///
     /// Example: `uses::falls_back`.
     pub fn is_finished(&self) -> bool
-        ensures { IsTrue self.now.inner.answered → IsTrue result }
+        ensures { IsTrue self.now.task.inner.answered → IsTrue result }
     {
-        self.inner.is_finished()
+        self.task.is_finished()
     }
 }
 
@@ -216,10 +213,10 @@ where
     ///
     /// Example: `uses::falls_back`.
     fn poll(&mut self, w: &W) -> Poll<Option<F::Output>>
-        ensures answered { self.new.inner.answered ≡ is_ready result }
-        ensures again { IsTrue self.old.inner.answered → IsReadyNone result }
+        ensures answered { self.new.task.inner.answered ≡ is_ready result }
+        ensures again { IsTrue self.old.task.inner.answered → IsReadyNone result }
     {
-        some_if_ok(self.inner.poll(w))
+        some_if_ok(self.task.poll(w))
     }
 }
 
@@ -230,7 +227,7 @@ where
     R: Wait + Clone + Drop,
 {
     fn drop(self) {
-        let FallibleTask { inner } = self;
-        drop(inner);
+        let FallibleTask { task } = self;
+        drop(task);
     }
 }

@@ -13,15 +13,15 @@ ghost use Rattle.async_executor.specs.Store.{IsHeldRight};
 ghost use Rattle.async_executor.specs.Ticks as ticks;
 ghost use Rattle.async_executor.specs.Ticks.{is_return};
 
-use crate::home::Home;
+use crate::home::{Home, OutIn, OutputIn};
 use crate::runner::machine::{RunAction, RunMachine, RunNext, RunReply, RunRest, Runner};
 use crate::runner::words::Words;
-use crate::scheduler::{ExecutorIn, OutIn, PolledIn, poll_taken};
+use crate::scheduler::{ExecutorIn, poll_taken};
 use crate::state::announce;
-use crate::store::{EndThenSearch, FoundTask};
+use crate::store::EndThenSearch;
 use crate::ticker::{TickAction, TickEnd, TickReply, insert, remove, update};
 use executor_core::queue::{Ring, RunnerError, RunnerKey};
-use executor_core::task::{Again, Future, Poll, Taken, TaskId, Wake};
+use executor_core::task::{Again, Future, Notice, Poll, Ran, Taken, TaskId, Wake};
 use std::sync::Wait;
 use thiserror::Error;
 
@@ -245,9 +245,9 @@ impl<'x, 'y, H: Home, G: Future<H::Waker>> Driver<'x, 'y, H, G> {
     {
         let own = &mut *self.own;
         let word = own.words.next();
-        match self.executor.home().search(self.key, word, again) {
-            Some(FoundTask { taken, notice, out }) => {
-                self.out = out;
+        let home = self.executor.home();
+        match home.search(self.key, word, again, &mut self.out) {
+            Some((taken, notice)) => {
                 machine.next(RunReply::Tick(TickReply::Found(taken, notice)))
             }
             None => machine.next(RunReply::Tick(TickReply::Empty)),
@@ -264,30 +264,22 @@ impl<'x, 'y, H: Home, G: Future<H::Waker>> Driver<'x, 'y, H, G> {
     {
         let mut runner = machine.into_runner();
         let mut taken = taken;
-        let mut out = self.out.take();
         for _ in self.executor.state().rt().forever() {
             let id = taken.id();
-            let polled = poll_taken::<H>(taken, out);
-            let Some(ran) = runner.ran() else {
-                self.executor.end(id, polled);
+            let ran = poll_taken::<H>(taken, &mut self.out);
+            let Some(next_runner) = runner.ran() else {
+                self.executor.end(id, ran, &mut self.out);
                 return RunMachine::turn_over(runner);
             };
-            let Some(found) = self.end_then_search(id, polled) else {
-                return RunMachine::searching(ran).next(RunReply::Tick(TickReply::Empty));
+            let Some((next, notice)) = self.end_then_search(id, ran) else {
+                return RunMachine::searching(next_runner).next(RunReply::Tick(TickReply::Empty));
             };
-            let FoundTask {
-                taken: next,
-                notice,
-                out: next_out,
-            } = found;
             if let Some(pick) = self.executor.state().exchange(notice) {
-                self.out = next_out;
-                let machine = RunMachine::exchanging(ran, next);
+                let machine = RunMachine::exchanging(next_runner, next);
                 return machine.next(RunReply::Tick(TickReply::Exchanged(Some(pick))));
             }
-            runner = self.count_found(ran);
+            runner = self.count_found(next_runner);
             taken = next;
-            out = next_out;
         }
         unreachable!()
     }
@@ -307,22 +299,23 @@ impl<'x, 'y, H: Home, G: Future<H::Waker>> Driver<'x, 'y, H, G> {
     fn end_then_search(
         &mut self,
         id: TaskId,
-        polled: PolledIn<H>,
-    ) -> Option<FoundTask<H::Future, H::Waker, H::Runtime>>
-        requires { IsHeldRight polled }
+        ran: Ran<(), OutputIn<H>>,
+    ) -> Option<(Taken<()>, Notice)>
+        requires { IsHeldRight ran }
     {
         let own = &mut *self.own;
         let word = own.words.next();
         let home = self.executor.home();
-        match home.end_then_search(id, polled, self.key, word) {
+        match home.end_then_search(id, ran, &mut self.out, self.key, word) {
             EndThenSearch::Searched(None, found) => found,
             EndThenSearch::Searched(Some(notice), found) => {
                 announce!(self.executor.state(), notice);
                 found
             }
             EndThenSearch::Left(left) => {
+                self.out = None;
                 self.executor.finish(id, left);
-                home.search(self.key, word, None)
+                home.search(self.key, word, None, &mut self.out)
             }
         }
     }

@@ -1,7 +1,7 @@
 //! Executors that several threads use with no order between them.
 use async_executor::executor::{Executor, Task};
 use executor_core::task::{Future, Poll};
-use std::alloc::AllocError;
+use std::alloc::{AllocError, Global};
 use std::sync::Wait;
 use std::sync::atomic::{AtomicU64, Ordering};
 use std::test::Fail;
@@ -55,6 +55,21 @@ impl<R: Wait + Clone + Drop + Send + Sync> Fixture<R> {
         self.ex.spawn(future).ok()
     }
 
+    // So many tasks that have ended and keep their outputs.
+    fn ended_tasks(
+        &self,
+        count: u64,
+        alloc: Global,
+    ) -> Result<Vec<Task<TaskFuture<R>, TestWaker, R>>, Fail> {
+        let mut tasks = Vec::new(alloc);
+        for i in 0..count {
+            let future = self.future(Kind::Ready(i))?;
+            tasks.push(spawned(&self.ex, future)?)?;
+            self.ex.try_tick();
+        }
+        Ok(tasks)
+    }
+
     // Whether this thread runs the task to its end.
     fn ticks_to_end(&self, task: &Task<TaskFuture<R>, TestWaker, R>) -> bool {
         self.ex.try_tick() && task.is_finished()
@@ -96,6 +111,11 @@ impl<R: Wait + Clone + Drop + Send + Sync> Fixture<R> {
             }
         }
         None
+    }
+
+    // The same, after which its handle is dropped.
+    fn awaited_last(&self, mut task: Task<TaskFuture<R>, TestWaker, R>) -> Option<u64> {
+        self.awaited(&mut task)
     }
 
     // Spawns and gives up tasks, and runs tasks, until all of them are over.
@@ -144,6 +164,16 @@ impl<R: Wait + Clone + Drop + Send + Sync> Fixture<R> {
     }
 }
 
+// A fixture, and a task of its executor that is ready with 7.
+fn with_task<R: AllocGlobal + Wait + Clone + Drop + Send + Sync>(
+    rt: &R,
+) -> Result<(Fixture<R>, Task<TaskFuture<R>, TestWaker, R>), Fail> {
+    let all = Fixture::new(rt)?;
+    let future = all.future(Kind::Ready(7))?;
+    let task = spawned(&all.ex, future)?;
+    Ok((all, task))
+}
+
 // Detaches the task, or drops its handle.
 fn give_up<R: Wait + Clone + Drop + Send + Sync>(
     task: Task<TaskFuture<R>, TestWaker, R>,
@@ -160,8 +190,7 @@ fn give_up<R: Wait + Clone + Drop + Send + Sync>(
 fn run_by_one<R: AllocGlobal + Wait + Threads + Clone + Drop + Send + Sync>(
     rt: &R,
 ) -> Result<(bool, Option<u64>), Fail> {
-    let all = Fixture::new(rt)?;
-    let mut task = spawned(&all.ex, all.future(Kind::Ready(7))?)?;
+    let (all, mut task) = with_task(rt)?;
     let (shared, handle) = (&all, &task);
     let (one, two) = thread::join(
         rt,
@@ -179,16 +208,11 @@ fn one_of_two_threads_runs_the_task(rt: HostRuntime) -> Result<(), Fail> {
 
 #[test]
 fn an_executor_and_a_handle_are_sent(rt: HostRuntime) -> Result<(), Fail> {
+    let (all, task) = with_task(&rt)?;
+    let ticked = thread::spawn(&rt, move || all.ex.try_tick())?.join(&rt);
     let all = Fixture::new(&rt)?;
-    let task = spawned(&all.ex, all.future(Kind::Ready(7))?)?;
-    let child = thread::spawn(&rt, move || all.ex.try_tick())?;
-    let ticked = child.join(&rt);
-    let all = Fixture::new(&rt)?;
-    let child = thread::spawn(&rt, move || {
-        let mut task = task;
-        all.awaited(&mut task)
-    })?;
-    assert_eq!(rt; (ticked, child.join(&rt)), (true, Some(7)));
+    let output = thread::spawn(&rt, move || all.awaited_last(task))?.join(&rt);
+    assert_eq!(rt; (ticked, output), (true, Some(7)));
     Ok(())
 }
 
@@ -232,11 +256,7 @@ fn let_go_beside<R: AllocGlobal + Wait + Threads + Clone + Drop + Send + Sync>(
     rt: &R,
 ) -> Result<(u64, bool), Fail> {
     let all = Fixture::new(rt)?;
-    let mut tasks = Vec::new(rt.alloc());
-    for i in 0..OUTPUTS {
-        tasks.push(spawned(&all.ex, all.future(Kind::Ready(i))?)?)?;
-        all.ex.try_tick();
-    }
+    let tasks = all.ended_tasks(OUTPUTS, rt.alloc())?;
     all.record.halt_at(Moment::OutputDrop);
     let shared = &all;
     thread::join(
