@@ -65,6 +65,10 @@ numbers_of (Step (step.Fair k)) = k ∷ []
 numbers_of (Step (step.Unregister k)) = k ∷ []
 numbers_of (Step (step.Drop k)) = k ∷ []
 
+-- it is the command of this word and these numbers
+abbrev pub IsWritten : List ℕ → List ℕ → Command → Type 0
+IsWritten word numbers command = (word ≡ word_of command) × (numbers ≡ numbers_of command)
+
 -- each number in decimal, after one space
 abbrev pub spaced : List ℕ → List ℕ
 spaced numbers = flat_map (λ n. 32 ∷ decimal n) numbers

@@ -2,10 +2,12 @@
 //!
 //! A line is a word, and behind it up to two numbers, each after one space. A number is decimal,
 //! without a sign or a leading zero.
-ghost use Rattle.std.specs.Prelude.{◌≡◌, ◌<◌, ◌^◌, ◌++◌, ◌∷◌, ◌↔◌, ℕ, List, IfSome, IsSomeAnd, IsTrue, Some};
+ghost use Rattle.std.specs.Prelude.{◌≡◌, ◌<◌, ◌^◌, ◌++◌, ◌∷◌, ◌↔◌, ℕ, List, [], IfSome, IsSomeAnd, IsTrue, Some};
 ghost use Rattle.std.specs.Fmt.{decimal};
-ghost use Rattle.exsim.specs.Grammar.{word_of, numbers_of, line_of, spaced, listed, AreInRange, IsWord, IsPlain};
+ghost use Rattle.executor_core.specs.declared.interleave.request.Step.{Step};
+ghost use Rattle.exsim.specs.Grammar.{numbers_of, line_of, spaced, listed, AreInRange, IsWord, IsWritten, IsPlain};
 ghost use Rattle.exsim.specs.declared.command.Arguments.{Arguments};
+ghost use Rattle.exsim.specs.declared.command.Command.TheVariants.{Step as AsStep};
 
 use executor_core::interleave::Step;
 
@@ -36,39 +38,71 @@ pub fn command_of(line: &[u8]) -> Option<Command>
 
 // The command of a word and its arguments.
 fn command_from(word: &str, arguments: Arguments) -> Option<Command>
-    ensures found { IfSome result (λ command. (word.now ≡ word_of command) × (listed arguments ≡ numbers_of command)) }
-    ensures read { (command : Command) → word.now ≡ word_of command → listed arguments ≡ numbers_of command
-        → result ≡ Some command }
+    ensures found { IfSome result (IsWritten word.now (listed arguments)) }
+    ensures read { (command : Command) → IsWritten word.now (listed arguments) command → result ≡ Some command }
 {
-    let step = match (word, arguments) {
-        ("show", Arguments::None) => return Some(Command::Show),
-        ("spawn", Arguments::None) => Step::Spawn(()),
-        ("wake", Arguments::One(n)) => Step::Wake(n),
-        ("trytick", Arguments::None) => Step::TryTick,
-        ("pend", Arguments::One(n)) => Step::Pend(n),
-        ("ready", Arguments::Two(n, output)) => Step::Ready(n, output),
-        ("pollhandle", Arguments::One(n)) => Step::PollHandle(n),
-        ("cancel", Arguments::One(n)) => Step::Cancel(n),
-        ("detach", Arguments::One(n)) => Step::Detach(n),
-        ("drophandle", Arguments::One(n)) => Step::DropHandle(n),
-        ("dropped", Arguments::One(n)) => Step::Dropped(n),
-        ("exchange", Arguments::None) => Step::Exchange,
-        ("notify", Arguments::None) => Step::Notify,
-        ("tick", Arguments::None) => Step::Tick,
-        ("run", Arguments::None) => Step::Run,
-        ("register", Arguments::One(k)) => Step::Register(k as usize),
-        ("poll", Arguments::One(k)) => Step::Poll(k as usize),
-        ("search", Arguments::Two(k, word)) => Step::Search(k as usize, word),
-        ("sleep", Arguments::One(k)) => Step::Sleep(k as usize),
-        ("yield", Arguments::One(k)) => Step::Yield(k as usize),
-        ("remove", Arguments::One(k)) => Step::Remove(k as usize),
-        ("store", Arguments::One(k)) => Step::Store(k as usize),
-        ("fair", Arguments::One(k)) => Step::Fair(k as usize),
-        ("unregister", Arguments::One(k)) => Step::Unregister(k as usize),
-        ("drop", Arguments::One(k)) => Step::Drop(k as usize),
-        _ => return None,
+    let step = match arguments {
+        Arguments::None if word == "show" => return Some(Command::Show),
+        Arguments::None => step_alone(word)?,
+        Arguments::One(n) => step_with_one(word, n)?,
+        Arguments::Two(n, m) => step_with_two(word, n, m)?,
     };
     Some(Command::Step(step))
+}
+
+// The step of a word with no number.
+fn step_alone(word: &str) -> Option<Step<(), u64>>
+    ensures found { IfSome result (λ step. IsWritten word.now [] (AsStep step)) }
+    ensures read { (step : Step Unit ℕ) → IsWritten word.now [] (AsStep step) → result ≡ Some step }
+{
+    Some(match word {
+        "spawn" => Step::Spawn(()),
+        "trytick" => Step::TryTick,
+        "exchange" => Step::Exchange,
+        "notify" => Step::Notify,
+        "tick" => Step::Tick,
+        "run" => Step::Run,
+        _ => return None,
+    })
+}
+
+// The step of a word with one number: n where it is of a task, and k where it is of a ticker.
+fn step_with_one(word: &str, n: u64) -> Option<Step<(), u64>>
+    ensures found { IfSome result (λ step. IsWritten word.now (n ∷ []) (AsStep step)) }
+    ensures read { (step : Step Unit ℕ) → IsWritten word.now (n ∷ []) (AsStep step) → result ≡ Some step }
+{
+    let k = n as usize;
+    Some(match word {
+        "wake" => Step::Wake(n),
+        "pend" => Step::Pend(n),
+        "pollhandle" => Step::PollHandle(n),
+        "cancel" => Step::Cancel(n),
+        "detach" => Step::Detach(n),
+        "drophandle" => Step::DropHandle(n),
+        "dropped" => Step::Dropped(n),
+        "register" => Step::Register(k),
+        "poll" => Step::Poll(k),
+        "sleep" => Step::Sleep(k),
+        "yield" => Step::Yield(k),
+        "remove" => Step::Remove(k),
+        "store" => Step::Store(k),
+        "fair" => Step::Fair(k),
+        "unregister" => Step::Unregister(k),
+        "drop" => Step::Drop(k),
+        _ => return None,
+    })
+}
+
+// The step of a word with two numbers.
+fn step_with_two(word: &str, n: u64, m: u64) -> Option<Step<(), u64>>
+    ensures found { IfSome result (λ step. IsWritten word.now (n ∷ m ∷ []) (AsStep step)) }
+    ensures read { (step : Step Unit ℕ) → IsWritten word.now (n ∷ m ∷ []) (AsStep step) → result ≡ Some step }
+{
+    Some(match word {
+        "ready" => Step::Ready(n, m),
+        "search" => Step::Search(n as usize, m),
+        _ => return None,
+    })
 }
 
 // The word of a line, and the numbers behind it.

@@ -12,4 +12,4 @@ pub returns-clause-read : goal.returns-clause-read
 returns-clause-read c = λ command small e.
     let a = arguments_for command in
     let parts = c.in_ok-word.ensures.read (word_of command) a.0 (is_word command) (rw a.1 small) (rw a.1 e) in
-    c.command_from.ensures.read command parts.0 (ap listed parts.1 ∙ a.1)
+    c.command_from.ensures.read command (parts.0, ap listed parts.1 ∙ a.1)
