@@ -1,5 +1,8 @@
 //! The futures that the callers spawn, and the waker that they ask with.
-use async_executor::{Future, OutOfMemory, Poll, Wake};
+//!
+//! `Sum`, `Counted` and `Job` take the waker of a task alone, with which an executor polls: a caller
+//! is proved sooner where a future is one for no other waker.
+use async_executor::{Future, OutOfMemory, Poll, TaskWaker, Wake};
 use std::alloc::{AllocError, Global};
 use std::sync::atomic::{AtomicU64, Ordering};
 use std::sync::{Arc, Mutex, Wait};
@@ -32,10 +35,10 @@ impl Sum {
     }
 }
 
-impl<W: Wake> Future<W> for Sum {
+impl<W: Wake, R: Wait + Clone + Drop> Future<TaskWaker<W, R>> for Sum {
     type Output = u64;
 
-    fn poll(&mut self, w: &W) -> Poll<u64> {
+    fn poll(&mut self, w: &TaskWaker<W, R>) -> Poll<u64> {
         if self.is_polled {
             return Poll::Ready(u64::from(self.numbers.0) + u64::from(self.numbers.1));
         }
@@ -59,10 +62,10 @@ impl Counted {
     }
 }
 
-impl<W: Wake> Future<W> for Counted {
+impl<W: Wake, R: Wait + Clone + Drop> Future<TaskWaker<W, R>> for Counted {
     type Output = u64;
 
-    fn poll(&mut self, w: &W) -> Poll<u64> {
+    fn poll(&mut self, w: &TaskWaker<W, R>) -> Poll<u64> {
         self.sum.poll(w)
     }
 }
@@ -81,10 +84,10 @@ pub enum Job {
     Give(u64),
 }
 
-impl<W: Wake> Future<W> for Job {
+impl<W: Wake, R: Wait + Clone + Drop> Future<TaskWaker<W, R>> for Job {
     type Output = u64;
 
-    fn poll(&mut self, w: &W) -> Poll<u64> {
+    fn poll(&mut self, w: &TaskWaker<W, R>) -> Poll<u64> {
         match self {
             Job::Add(sum) => sum.poll(w),
             Job::Give(number) => Poll::Ready(*number),

@@ -192,13 +192,43 @@ fn call_each<R: Wait + Threads + Clone + Drop + Send + Sync + Print>(
     println!(rt; "drops: {}", drops(executor))?;
     println!(rt; "falls_back: {:?}", falls_back(rt, executor))?;
     println!(rt; "lets_go: {:?}", lets_go(rt, executor))?;
+    call_last(rt, executor)
+}
+
+// The last ones of them, since a short function is proved sooner.
+fn call_last<R: Wait + Threads + Clone + Drop + Send + Sync + Print>(
+    rt: &R,
+    executor: &Executor<Sum, Nobody, R>,
+) -> io::Result<()> {
     println!(rt; "sleeps: {:?}", sleeps(executor))?;
     println!(rt; "shares: {:?}", shares(rt, executor))?;
-    let Ok(mut task) = gives_back(executor, Sum::of(1, 2)) else {
-        return Ok(());
-    };
+    match asks(rt, executor) {
+        Some(answers) => println!(rt; "asks_again: {answers:?}"),
+        None => Ok(()),
+    }
+}
+
+// Asks the handle of a task that has ended twice.
+fn asks<R: Wait + Clone + Drop + Send + Sync>(
+    rt: &R,
+    executor: &Executor<Sum, Nobody, R>,
+) -> Option<(Poll<Result<u64, Cancelled>>, Poll<Result<u64, Cancelled>>)> {
+    let mut task = gives_back(executor, Sum::of(1, 2)).ok()?;
     run_all(rt, executor);
-    println!(rt; "asks_again: {:?}", asks_again(&mut task, &Nobody))
+    Some(asks_again(&mut task, &Nobody))
+}
+
+// The callers that make executors of their own.
+fn call_alone<R: Wait + Threads + Clone + Drop + Send + Sync + Print>(
+    rt: &R,
+    alloc: Global,
+) -> io::Result<()> {
+    println!(rt; "mixes: {:?}", mixes(rt, alloc))?;
+    println!(rt; "boxes: {:?}", boxes(rt, alloc))?;
+    println!(rt; "receives: {:?}", receives(rt, alloc))?;
+    println!(rt; "parks: {:?}", parks(rt, alloc))?;
+    println!(rt; "pools: {:?}", pools(rt, alloc))?;
+    println!(rt; "interleaves: {:?}", interleaves(alloc))
 }
 
 fn main(rt: HostRuntime) -> io::Result<()> {
@@ -208,10 +238,5 @@ fn main(rt: HostRuntime) -> io::Result<()> {
         Ok(executor) => call_each(&rt, &executor)?,
         Err(OutOfMemory) => println!(rt; "{OutOfMemory}")?,
     }
-    println!(rt; "mixes: {:?}", mixes(&rt, alloc))?;
-    println!(rt; "boxes: {:?}", boxes(&rt, alloc))?;
-    println!(rt; "receives: {:?}", receives(&rt, alloc))?;
-    println!(rt; "parks: {:?}", parks(&rt, alloc))?;
-    println!(rt; "pools: {:?}", pools(&rt, alloc))?;
-    println!(rt; "interleaves: {:?}", interleaves(alloc))
+    call_alone(&rt, alloc)
 }

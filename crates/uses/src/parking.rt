@@ -1,7 +1,7 @@
 //! Threads that run the tasks of one executor, and park while none is scheduled.
 use crate::futures::{Counted, Sum};
 use crate::output_of;
-use async_executor::{Executor, Future, OutOfMemory, Poll, Wake};
+use async_executor::{Executor, Future, OutOfMemory, Poll, Task, Wake};
 use std::alloc::{AllocError, Global};
 use std::sync::atomic::{AtomicU64, Ordering};
 use std::sync::{Arc, Wait};
@@ -56,7 +56,25 @@ struct Crew<R: Wait + Clone + Drop + Send + Sync> {
     wakers: [ThreadWaker; 3],
 }
 
+type CrewTask<R> = Task<Counted, ThreadWaker, R>;
+
 impl<R: Wait + Clone + Drop + Send + Sync> Crew<R> {
+    fn new(rt: &R, alloc: Global) -> Option<Crew<R>> {
+        let wakers = three_wakers(alloc)?;
+        let left = Arc::new(alloc, AtomicU64::new(0)).ok()?;
+        let executor = Executor::new(rt.clone().ok()?, alloc).ok()?;
+        Some(Crew {
+            executor,
+            left,
+            wakers,
+        })
+    }
+
+    // A future that counts as left from now on.
+    fn future(&self, sum: Sum) -> Option<Counted> {
+        Counted::new(sum, &self.left).ok()
+    }
+
     /// Runs tasks until no future is left. A thread that stops wakes the others, who may wait for a
     /// task that does not come.
     fn work(&self, rt: &R, mine: &ThreadWaker) {
@@ -89,31 +107,45 @@ impl<R: Wait + Clone + Drop + Send + Sync> Crew<R> {
     }
 }
 
+fn three_wakers(alloc: Global) -> Option<[ThreadWaker; 3]> {
+    let first = ThreadWaker::new(alloc).ok()?;
+    let second = ThreadWaker::new(alloc).ok()?;
+    let third = ThreadWaker::new(alloc).ok()?;
+    Some([first, second, third])
+}
+
+// Has two threads park, spawns a task of each future, and runs them on all three.
+fn drives<R: Wait + Threads + Clone + Drop + Send + Sync>(
+    rt: &R,
+    crew: &Crew<R>,
+    one: Counted,
+    two: Counted,
+) -> (Option<CrewTask<R>>, Option<CrewTask<R>>) {
+    let [mine, second, third] = &crew.wakers;
+    thread::scope(thread::scope_env(), rt, |scope| {
+        let _ = scope.spawn(move || crew.work(rt, second));
+        let _ = scope.spawn(move || crew.work(rt, third));
+        let tasks = (crew.executor.spawn(one).ok(), crew.executor.spawn(two).ok());
+        crew.work(rt, mine);
+        tasks
+    })
+}
+
+// The output of a task that has ended.
+fn output<R: Wait + Clone + Drop + Send + Sync>(
+    task: Option<CrewTask<R>>,
+    mine: &ThreadWaker,
+) -> Option<u64> {
+    output_of(task?.poll(mine))
+}
+
 /// Runs tasks on three threads, each by ticks of its own, and adds their outputs. A thread that
 /// finds no task parks, and is woken by a spawn or by the wake of a task.
 pub fn parks<R: Wait + Threads + Clone + Drop + Send + Sync>(rt: &R, alloc: Global) -> Option<u64> {
-    let crew = Crew {
-        executor: Executor::new(rt.clone().ok()?, alloc).ok()?,
-        left: Arc::new(alloc, AtomicU64::new(0)).ok()?,
-        wakers: [
-            ThreadWaker::new(alloc).ok()?,
-            ThreadWaker::new(alloc).ok()?,
-            ThreadWaker::new(alloc).ok()?,
-        ],
-    };
-    let (one, two) = (
-        Counted::new(Sum::of(1, 2), &crew.left).ok()?,
-        Counted::new(Sum::of(3, 4), &crew.left).ok()?,
-    );
-    let shared = &crew;
-    let [mine, second, third] = &crew.wakers;
-    let (add, more) = thread::scope(thread::scope_env(), rt, |scope| {
-        let _ = scope.spawn(move || shared.work(rt, second));
-        let _ = scope.spawn(move || shared.work(rt, third));
-        let tasks = (shared.executor.spawn(one), shared.executor.spawn(two));
-        shared.work(rt, mine);
-        tasks
-    });
-    let first = output_of(add.ok()?.poll(mine))?;
-    first.checked_add(output_of(more.ok()?.poll(mine))?)
+    let crew = Crew::new(rt, alloc)?;
+    let (one, two) = crew.future(Sum::of(1, 2)).zip(crew.future(Sum::of(3, 4)))?;
+    let (add, more) = drives(rt, &crew, one, two);
+    let [mine, _, _] = &crew.wakers;
+    let (first, second) = (output(add, mine), output(more, mine));
+    first?.checked_add(second?)
 }
