@@ -25,11 +25,16 @@ impl<W, G: Future<W, Output = Result<u64, Cancelled>>> Future<W> for Twice<G> {
     }
 }
 
-// What a future gives at the second poll of a run, where the run was woken in the first one.
-fn second_answer<G: Future<TestWaker>>(run: &mut G, record: &Record) -> Option<G::Output> {
-    let waker = TestWaker::new(record).ok()?;
+// What a run gives beside this future at its second poll, where it was woken in the first one.
+fn given_beside<G: Future<TestWaker>, R: AllocGlobal + Wait + Clone + Drop + Send + Sync>(
+    rt: &R,
+    executor: &Executor<Ready<u64>, TestWaker, R>,
+    own: G,
+) -> Option<G::Output> {
+    let waker = TestWaker::new(&Record::new(rt.alloc()).ok()?).ok()?;
+    let mut run = executor.run(own).ok()?;
     let first = run.poll(&waker);
-    let is_woken = record.times(Moment::WakerWake) == 1;
+    let is_woken = waker.record().times(Moment::WakerWake) == 1;
     match (first, run.poll(&waker)) {
         (Poll::Pending, Poll::Ready(output)) if is_woken => Some(output),
         _ => None,
@@ -40,19 +45,11 @@ fn second_answer<G: Future<TestWaker>>(run: &mut G, record: &Record) -> Option<G
 fn awaits<R: AllocGlobal + Wait + Clone + Drop + Send + Sync>(
     rt: &R,
 ) -> Result<[Option<Result<u64, Cancelled>>; 2], Fail> {
-    let alloc = rt.alloc();
-    let executor = Executor::new(rt.clone()?, alloc)?;
+    let executor = Executor::new(rt.clone()?, rt.alloc())?;
     let task = spawned(&executor, Ready::new(1 + 2))?;
-    let Ok(mut run) = executor.run(Twice { task }) else {
-        return Err("no memory for a run".into());
-    };
-    let twice = second_answer(&mut run, &Record::new(alloc)?);
+    let twice = given_beside(rt, &executor, Twice { task });
     let task = spawned(&executor, Ready::new(1 + 2))?;
-    let Ok(mut run) = executor.run(task) else {
-        return Err("no memory for a run".into());
-    };
-    let once = second_answer(&mut run, &Record::new(alloc)?);
-    Ok([twice, once])
+    Ok([twice, given_beside(rt, &executor, task)])
 }
 
 #[test]

@@ -1,7 +1,7 @@
 //! Several executors, beside one another or within.
-use async_executor::executor::{Cancelled, Executor, TaskWaker};
+use async_executor::executor::{Cancelled, Executor, Run, Task, TaskWaker};
 use executor_core::task::{Future, Poll, Wake};
-use std::alloc::Global;
+use std::alloc::{AllocError, Global};
 use std::sync::atomic::AtomicU64;
 use std::sync::{Arc, Wait};
 use std::test::Fail;
@@ -13,14 +13,41 @@ use test_parts::waker::TestWaker;
 // The answers of a handle's first and last poll.
 type Polls<T> = (Poll<Result<T, Cancelled>>, Poll<Result<T, Cancelled>>);
 
-// Runs the future as a task of a new executor. Gives the answers of its handle, whether that executor
-// had a task to run, twice, then the inner one, and the outer again, and how often the waker of the
-// handle was woken before the last tick, and after it.
+// What the answers of a handle, the ticks and the wakes were.
+type Seen<T> = (Polls<T>, [bool; 4], [u64; 2]);
+
+// Gives the answers of the handle, whether the outer executor, of which its task is, had a task to
+// run, twice, then the inner one, and the outer again, and how often the waker of the handle was
+// woken before the last tick, and after it.
+fn seen_in<F, G, V, R>(
+    outer: &Executor<F, TestWaker, R>,
+    inner: &Executor<G, V, R>,
+    mut task: Task<F, TestWaker, R>,
+    waker: &TestWaker,
+) -> Seen<F::Output>
+where
+    F: Future<TaskWaker<TestWaker, R>> + Send,
+    F::Output: Send,
+    G: Future<TaskWaker<V, R>> + Send,
+    G::Output: Send,
+    V: Wake + Send,
+    R: Wait + Clone + Drop + Send + Sync,
+{
+    let first = task.poll(waker);
+    let (one, two, three) = (outer.try_tick(), outer.try_tick(), inner.try_tick());
+    let before = waker.record().times(Moment::WakerWake);
+    let four = outer.try_tick();
+    let after = waker.record().times(Moment::WakerWake);
+    let polls = (first, task.poll(waker));
+    (polls, [one, two, three, four], [before, after])
+}
+
+// Runs the future as a task of a new executor, and gives what was seen.
 fn seen_of<F, G, V, R>(
     rt: &R,
     inner: &Executor<G, V, R>,
     future: F,
-) -> Result<(Polls<F::Output>, [bool; 4], [u64; 2]), Fail>
+) -> Result<Seen<F::Output>, Fail>
 where
     F: Future<TaskWaker<TestWaker, R>> + Send,
     F::Output: Send,
@@ -29,23 +56,16 @@ where
     V: Wake + Send,
     R: AllocGlobal + Wait + Clone + Drop + Send + Sync,
 {
-    let record = Record::new(rt.alloc())?;
-    let waker = TestWaker::new(&record)?;
+    let waker = TestWaker::new(&Record::new(rt.alloc())?)?;
     let outer = Executor::new(rt.clone()?, rt.alloc())?;
-    let mut task = spawned(&outer, future)?;
-    let first = task.poll(&waker);
-    let (one, two, three) = (outer.try_tick(), outer.try_tick(), inner.try_tick());
-    let before = record.times(Moment::WakerWake);
-    let four = outer.try_tick();
-    let after = record.times(Moment::WakerWake);
-    let polls = (first, task.poll(&waker));
-    Ok((polls, [one, two, three, four], [before, after]))
+    let task = spawned(&outer, future)?;
+    Ok(seen_in(&outer, inner, task, &waker))
 }
 
 // The same of the handle of a task, and whether no task is left to its executor.
 fn seen_of_handle<R: AllocGlobal + Wait + Clone + Drop + Send + Sync>(
     rt: &R,
-) -> Result<((Polls<Result<u64, Cancelled>>, [bool; 4], [u64; 2]), bool), Fail> {
+) -> Result<(Seen<Result<u64, Cancelled>>, bool), Fail> {
     let inner: Executor<Ready<u64>, TaskWaker<TestWaker, R>, R> = Executor::new(
         rt.clone()?,
         rt.alloc(),
@@ -66,42 +86,59 @@ fn a_handle_is_a_task_of_another_executor(rt: HostRuntime) -> Result<(), Fail> {
 
 type Apart<R> = Executor<Ready<u64>, TestWaker, R>;
 
+// Two executors with nothing in common.
+fn two_apart<R: AllocGlobal + Wait + Clone + Drop + Send + Sync>(
+    rt: &R,
+) -> Result<(Apart<R>, Apart<R>), Fail> {
+    let one = Apart::new(rt.clone()?, rt.alloc())?;
+    let two = Apart::new(rt.clone()?, rt.alloc())?;
+    Ok((one, two))
+}
+
+// A waker that nobody else has a share of.
+fn new_waker(alloc: Global) -> Result<TestWaker, AllocError> {
+    TestWaker::new(&Record::new(alloc)?)
+}
+
+fn wakes_of(wakers: [&TestWaker; 2]) -> [u64; 2] {
+    let [first, second] = wakers;
+    [
+        first.record().times(Moment::WakerWake),
+        second.record().times(Moment::WakerWake),
+    ]
+}
+
 // Has a ticker of each of two executors go to sleep, and spawns a task on the first one. Gives
 // whether it ran then, after a poll of the other ticker, and after one of its own; and how often the
 // wakers of the two were woken by the spawn, and after another one on the second executor.
 fn seen_apart<T: Future<TestWaker, Output = ()>, R: Wait + Clone + Drop + Send + Sync>(
-    alloc: Global,
     executors: (&Apart<R>, &Apart<R>),
     tickers: (T, T),
-) -> Result<([bool; 3], [u64; 4]), Fail> {
-    let (one, two) = (Record::new(alloc)?, Record::new(alloc)?);
-    let (first, second) = (TestWaker::new(&one)?, TestWaker::new(&two)?);
+    wakers: [&TestWaker; 2],
+) -> Result<([bool; 3], [[u64; 2]; 2]), Fail> {
     let (mut own, mut other) = tickers;
-    own.poll(&first);
-    other.poll(&second);
+    own.poll(wakers[0]);
+    other.poll(wakers[1]);
     let task = spawned(executors.0, Ready::new(7))?;
+    let wakes = wakes_of(wakers);
     let before = task.is_finished();
-    let wakes = [one.times(Moment::WakerWake), two.times(Moment::WakerWake)];
-    other.poll(&second);
+    other.poll(wakers[1]);
     let between = task.is_finished();
-    own.poll(&first);
+    own.poll(wakers[0]);
     let after = task.is_finished();
     spawned(executors.1, Ready::new(8))?.detach();
-    let [early, none] = wakes;
-    let (late, last) = (one.times(Moment::WakerWake), two.times(Moment::WakerWake));
-    Ok(([before, between, after], [early, none, late, last]))
+    Ok(([before, between, after], [wakes, wakes_of(wakers)]))
 }
 
-const SEEN_APART: ([bool; 3], [u64; 4]) = ([false, false, true], [1, 0, 1, 1]);
+const SEEN_APART: ([bool; 3], [[u64; 2]; 2]) = ([false, false, true], [[1, 0], [1, 1]]);
 
 fn ticks_apart<R: AllocGlobal + Wait + Clone + Drop + Send + Sync>(
     rt: &R,
-) -> Result<([bool; 3], [u64; 4]), Fail> {
-    let alloc = rt.alloc();
-    let executor = Apart::new(rt.clone()?, alloc)?;
-    let other = Apart::new(rt.clone()?, alloc)?;
-    let ticks = (executor.tick()?, other.tick()?);
-    seen_apart(alloc, (&executor, &other), ticks)
+) -> Result<([bool; 3], [[u64; 2]; 2]), Fail> {
+    let wakers = (new_waker(rt.alloc())?, new_waker(rt.alloc())?);
+    let (one, two) = two_apart(rt)?;
+    let ticks = (one.tick()?, two.tick()?);
+    seen_apart((&one, &two), ticks, [&wakers.0, &wakers.1])
 }
 
 #[test]
@@ -110,18 +147,28 @@ fn a_spawn_wakes_no_tick_of_another_executor(rt: HostRuntime) -> Result<(), Fail
     Ok(())
 }
 
+// A run that does not end.
+fn endless_run<R: Wait + Clone + Drop + Send + Sync>(
+    executor: &Apart<R>,
+    alloc: Global,
+) -> Result<Run<'_, Ready<u64>, TestWaker, R, Until>, Fail> {
+    let never = Until::new(&Arc::new(alloc, AtomicU64::new(0))?, 1)?;
+    match executor.run(never) {
+        Ok(run) => Ok(run),
+        Err(_) => Err("no memory for a run".into()),
+    }
+}
+
 fn runs_apart<R: AllocGlobal + Wait + Clone + Drop + Send + Sync>(
     rt: &R,
-) -> Result<([bool; 3], [u64; 4]), Fail> {
-    let alloc = rt.alloc();
-    let never = Arc::new(alloc, AtomicU64::new(0))?;
-    let executor = Apart::new(rt.clone()?, alloc)?;
-    let other = Apart::new(rt.clone()?, alloc)?;
-    let run = executor.run(Until::new(&never, 1)?);
-    match (run, other.run(Until::new(&never, 1)?)) {
-        (Ok(own), Ok(other_run)) => seen_apart(alloc, (&executor, &other), (own, other_run)),
-        _ => Err("no memory for a run".into()),
-    }
+) -> Result<([bool; 3], [[u64; 2]; 2]), Fail> {
+    let wakers = (new_waker(rt.alloc())?, new_waker(rt.alloc())?);
+    let (one, two) = two_apart(rt)?;
+    let runs = (
+        endless_run(&one, rt.alloc())?,
+        endless_run(&two, rt.alloc())?,
+    );
+    seen_apart((&one, &two), runs, [&wakers.0, &wakers.1])
 }
 
 #[test]
