@@ -13,6 +13,8 @@ use test_parts::record::{Moment, Record};
 use test_parts::task::{FutureWaker, TaskFuture, spawned};
 use test_parts::waker::TestWaker;
 
+type TestTask<R> = Task<TaskFuture<R>, TestWaker, R>;
+
 // An executor, the record of its futures and their outputs, a waker for its handles, and what the
 // threads count.
 #[derive(Drop)]
@@ -31,11 +33,13 @@ impl<R: Wait + Clone + Drop + Send + Sync + AllocGlobal> Fixture<R> {
         let alloc = rt.alloc();
         let halt = Halt::new(alloc)?;
         let record = Record::with_halt(alloc, &halt)?;
+        let waker = TestWaker::new(&Record::new(alloc)?)?;
+        let place = WakerPlace::new(alloc)?;
         Ok(Fixture {
             ex: Executor::new(rt.clone()?, alloc)?,
-            waker: TestWaker::new(&Record::new(alloc)?)?,
+            waker,
             record,
-            place: WakerPlace::new(alloc)?,
+            place,
             halt,
             good: AtomicU64::new(0),
             done: AtomicU64::new(0),
@@ -48,7 +52,7 @@ impl<R: Wait + Clone + Drop + Send + Sync> Fixture<R> {
         TestFuture::new(kind, self.place.share()?, &self.record)
     }
 
-    fn task(&self, kind: Kind) -> Option<Task<TaskFuture<R>, TestWaker, R>> {
+    fn task(&self, kind: Kind) -> Option<TestTask<R>> {
         let Ok(future) = self.future(kind) else {
             return None;
         };
@@ -56,11 +60,7 @@ impl<R: Wait + Clone + Drop + Send + Sync> Fixture<R> {
     }
 
     // So many tasks that have ended and keep their outputs.
-    fn ended_tasks(
-        &self,
-        count: u64,
-        alloc: Global,
-    ) -> Result<Vec<Task<TaskFuture<R>, TestWaker, R>>, Fail> {
+    fn ended_tasks(&self, count: u64, alloc: Global) -> Result<Vec<TestTask<R>>, Fail> {
         let mut tasks = Vec::new(alloc);
         for i in 0..count {
             let future = self.future(Kind::Ready(i))?;
@@ -71,7 +71,7 @@ impl<R: Wait + Clone + Drop + Send + Sync> Fixture<R> {
     }
 
     // Whether this thread runs the task to its end.
-    fn ticks_to_end(&self, task: &Task<TaskFuture<R>, TestWaker, R>) -> bool {
+    fn ticks_to_end(&self, task: &TestTask<R>) -> bool {
         self.ex.try_tick() && task.is_finished()
     }
 
@@ -102,7 +102,7 @@ impl<R: Wait + Clone + Drop + Send + Sync> Fixture<R> {
     }
 
     // What the task gives in the end.
-    fn awaited(&self, task: &mut Task<TaskFuture<R>, TestWaker, R>) -> Option<u64> {
+    fn awaited(&self, task: &mut TestTask<R>) -> Option<u64> {
         for _ in 0..TURNS {
             match task.poll(&self.waker) {
                 Poll::Pending => yield_now(),
@@ -114,7 +114,7 @@ impl<R: Wait + Clone + Drop + Send + Sync> Fixture<R> {
     }
 
     // The same, after which its handle is dropped.
-    fn awaited_last(&self, mut task: Task<TaskFuture<R>, TestWaker, R>) -> Option<u64> {
+    fn awaited_last(&self, mut task: TestTask<R>) -> Option<u64> {
         self.awaited(&mut task)
     }
 
@@ -154,7 +154,7 @@ impl<R: Wait + Clone + Drop + Send + Sync> Fixture<R> {
     }
 
     // Lets finished tasks go, whose outputs halt in their drop.
-    fn lets_go(&self, mut tasks: Vec<Task<TaskFuture<R>, TestWaker, R>>) {
+    fn lets_go(&self, mut tasks: Vec<TestTask<R>>) {
         for i in 0..OUTPUTS {
             if let Some(task) = tasks.pop() {
                 give_up(task, i % 2 == 0);
@@ -167,7 +167,7 @@ impl<R: Wait + Clone + Drop + Send + Sync> Fixture<R> {
 // A fixture, and a task of its executor that is ready with 7.
 fn with_task<R: AllocGlobal + Wait + Clone + Drop + Send + Sync>(
     rt: &R,
-) -> Result<(Fixture<R>, Task<TaskFuture<R>, TestWaker, R>), Fail> {
+) -> Result<(Fixture<R>, TestTask<R>), Fail> {
     let all = Fixture::new(rt)?;
     let future = all.future(Kind::Ready(7))?;
     let task = spawned(&all.ex, future)?;
@@ -175,10 +175,7 @@ fn with_task<R: AllocGlobal + Wait + Clone + Drop + Send + Sync>(
 }
 
 // Detaches the task, or drops its handle.
-fn give_up<R: Wait + Clone + Drop + Send + Sync>(
-    task: Task<TaskFuture<R>, TestWaker, R>,
-    detaches: bool,
-) {
+fn give_up<R: Wait + Clone + Drop + Send + Sync>(task: TestTask<R>, detaches: bool) {
     if detaches {
         task.detach();
     } else {
@@ -206,13 +203,20 @@ fn one_of_two_threads_runs_the_task(rt: HostRuntime) -> Result<(), Fail> {
     Ok(())
 }
 
+// What the task of this handle gives on another thread.
+fn awaited_elsewhere<R: AllocGlobal + Wait + Threads + Clone + Drop + Send + Sync + 'static>(
+    rt: &R,
+    task: TestTask<R>,
+) -> Result<Option<u64>, Fail> {
+    let all = Fixture::new(rt)?;
+    Ok(thread::spawn(rt, move || all.awaited_last(task))?.join(rt))
+}
+
 #[test]
 fn an_executor_and_a_handle_are_sent(rt: HostRuntime) -> Result<(), Fail> {
     let (all, task) = with_task(&rt)?;
     let ticked = thread::spawn(&rt, move || all.ex.try_tick())?.join(&rt);
-    let all = Fixture::new(&rt)?;
-    let output = thread::spawn(&rt, move || all.awaited_last(task))?.join(&rt);
-    assert_eq!(rt; (ticked, output), (true, Some(7)));
+    assert_eq!(rt; (ticked, awaited_elsewhere(&rt, task)?), (true, Some(7)));
     Ok(())
 }
 

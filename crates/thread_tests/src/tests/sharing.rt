@@ -52,6 +52,24 @@ struct Neighbour<V> {
     parts: AtDrop,
 }
 
+impl<V: Drop> Neighbour<V> {
+    // Leaves its waker at one place, and finds that of its neighbour at the other.
+    fn new(
+        own: WakerPlace<V>,
+        other: &WakerPlace<V>,
+        ended: &Arc<AtomicU64>,
+        record: &Record,
+    ) -> Result<Neighbour<V>, AllocError> {
+        Ok(Neighbour {
+            polls_left: 2,
+            own,
+            other: other.share()?,
+            ended: Arc::try_clone(ended)?,
+            parts: AtDrop::new(record.share()?, Moment::FutureDrop),
+        })
+    }
+}
+
 impl<V: Wake> Future<V> for Neighbour<V> {
     type Output = ();
 
@@ -83,30 +101,30 @@ struct Neighbours<R: Wait + Clone + Drop + Send + Sync> {
 }
 
 impl<R: Wait + Clone + Drop + Send + Sync> Neighbours<R> {
-    // Spawns the tasks, each of which is the neighbour of the one before.
-    fn spawn(rt: R, alloc: Global) -> Result<Neighbours<R>, Fail> {
-        let mut all = Neighbours {
-            ex: Executor::new(rt, alloc)?,
-            waker: TestWaker::new(&Record::new(alloc)?)?,
+    fn new(rt: R, alloc: Global) -> Result<Neighbours<R>, Fail> {
+        let waker = TestWaker::new(&Record::new(alloc)?)?;
+        let ended = Arc::new(alloc, AtomicU64::new(0))?;
+        let ex = Executor::new(rt, alloc)?;
+        Ok(Neighbours {
+            ex,
+            waker,
             records: Vec::new(alloc),
-            ended: Arc::new(alloc, AtomicU64::new(0))?,
-        };
+            ended,
+        })
+    }
+
+    // Spawns the tasks, each of which is the neighbour of the one before.
+    fn spawn(&mut self, alloc: Global) -> Result<(), Fail> {
         let mut own = WakerPlace::new(alloc)?;
         for _ in 0..TASKS {
             let other = WakerPlace::new(alloc)?;
             let record = Record::new(alloc)?;
-            let future = Neighbour {
-                polls_left: 2,
-                own,
-                other: other.share()?,
-                ended: Arc::try_clone(&all.ended)?,
-                parts: AtDrop::new(record.share()?, Moment::FutureDrop),
-            };
-            spawned(&all.ex, future)?.detach();
-            all.records.push(record)?;
+            let future = Neighbour::new(own, &other, &self.ended, &record)?;
+            self.records.push(record)?;
+            spawned(&self.ex, future)?.detach();
             own = other;
         }
-        Ok(all)
+        Ok(())
     }
 
     // Polls a run until all tasks have ended, and says whether it ended within as many polls as a
@@ -154,7 +172,8 @@ fn four_runs_end<R: Wait + Threads + Clone + Drop + Send + Sync>(
     rt: &R,
     alloc: Global,
 ) -> Result<bool, Fail> {
-    let all = Neighbours::spawn(rt.clone()?, alloc)?;
+    let mut all = Neighbours::new(rt.clone()?, alloc)?;
+    all.spawn(alloc)?;
     Ok(are_driven(rt, &all) && all.are_right() && all.ex.is_empty())
 }
 

@@ -1,5 +1,5 @@
 //! Ticks and runs that sleep, on several threads.
-use async_executor::executor::Executor;
+use async_executor::executor::{Executor, Task};
 use executor_core::task::{Future, OutOfMemory, Poll, Wake};
 use std::alloc::{AllocError, Global};
 use std::sync::atomic::{AtomicU64, Ordering};
@@ -149,10 +149,13 @@ struct Fixture<R: Wait + Clone + Drop + Send + Sync> {
 impl<R: Wait + Clone + Drop + Send + Sync + AllocGlobal> Fixture<R> {
     fn new(rt: &R) -> Result<Fixture<R>, Fail> {
         let alloc = rt.alloc();
+        let waker = Unparks::new(alloc)?;
+        let polls = Arc::new(alloc, AtomicU64::new(0))?;
+        let ex = Executor::new(rt.clone()?, alloc)?;
         Ok(Fixture {
-            ex: Executor::new(rt.clone()?, alloc)?,
-            waker: Unparks::new(alloc)?,
-            polls: Arc::new(alloc, AtomicU64::new(0))?,
+            ex,
+            waker,
+            polls,
             sleeps: AtomicU64::new(0),
             rt: rt.clone()?,
         })
@@ -165,6 +168,16 @@ impl<R: Wait + Clone + Drop + Send + Sync> Fixture<R> {
             polls: Arc::try_clone(&self.polls)?,
             all,
         })
+    }
+
+    // A task that waits until it and another one are polled.
+    fn spawn_one_of_two(&self) -> Result<Task<Meets, Unparks, R>, Fail> {
+        spawned(&self.ex, self.meets(2)?)
+    }
+
+    // Whether the task has ended and was polled beside another one.
+    fn has_met(&self, mut task: Task<Meets, Unparks, R>) -> bool {
+        task.poll(&self.waker) == Poll::Ready(Ok(true))
     }
 
     // Whether a tick finds a task at its first poll.
@@ -253,22 +266,16 @@ impl<R: Wait + Clone + Drop + Send + Sync> Fixture<R> {
     }
 }
 
-// Whether each of two threads ran a task, and what the handles give.
+// Whether each of two threads ran a task, and whether each task met the other.
 fn run_at_once<R: AllocGlobal + Wait + Threads + Clone + Drop + Send + Sync>(
     rt: &R,
 ) -> Result<[bool; 4], Fail> {
     let all = Fixture::new(rt)?;
-    let mut one = spawned(&all.ex, all.meets(2)?)?;
-    let mut two = spawned(&all.ex, all.meets(2)?)?;
+    let one = all.spawn_one_of_two()?;
+    let two = all.spawn_one_of_two()?;
     let shared = &all;
     let (first, second) = thread::join(rt, || shared.ticks(), || shared.ticks());
-    let met = one.poll(&all.waker) == Poll::Ready(Ok(true));
-    Ok([
-        first,
-        second,
-        met,
-        two.poll(&all.waker) == Poll::Ready(Ok(true)),
-    ])
+    Ok([first, second, all.has_met(one), all.has_met(two)])
 }
 
 #[test]
