@@ -1,7 +1,7 @@
 //! The futures that are run, and a waker that does nothing.
-use async_executor::{Future, OutOfMemory, Poll, Wake};
+use async_executor::{Future, OutOfMemory, Poll, TaskWaker, Wake};
 use std::alloc::{AllocError, Global};
-use std::sync::{Arc, Mutex};
+use std::sync::{Arc, Mutex, Wait};
 
 /// Wakes nobody.
 #[derive(Drop)]
@@ -31,10 +31,10 @@ impl Yields {
     }
 }
 
-impl<W: Wake> Future<W> for Yields {
+impl<W: Wake, R: Wait + Clone + Drop> Future<TaskWaker<W, R>> for Yields {
     type Output = u64;
 
-    fn poll(&mut self, w: &W) -> Poll<u64> {
+    fn poll(&mut self, w: &TaskWaker<W, R>) -> Poll<u64> {
         if self.left == 0 {
             return Poll::Ready(7);
         }
@@ -46,14 +46,16 @@ impl<W: Wake> Future<W> for Yields {
 
 /// Leaves a copy of its waker where others find it, once, and is never ready.
 #[derive(Drop)]
-pub struct LeavesWaker<W> {
-    place: Arc<Mutex<Option<W>>>,
+pub struct LeavesWaker<W, R> {
+    place: Arc<Mutex<Option<TaskWaker<W, R>>>>,
     is_left: bool,
 }
 
-impl<W: Drop> LeavesWaker<W> {
+impl<W: Wake, R: Wait + Clone + Drop> LeavesWaker<W, R> {
     /// The waker is left here.
-    pub fn at(place: &Arc<Mutex<Option<W>>>) -> Result<LeavesWaker<W>, AllocError> {
+    pub fn at(
+        place: &Arc<Mutex<Option<TaskWaker<W, R>>>>,
+    ) -> Result<LeavesWaker<W, R>, AllocError> {
         Ok(LeavesWaker {
             place: Arc::try_clone(place)?,
             is_left: false,
@@ -61,10 +63,10 @@ impl<W: Drop> LeavesWaker<W> {
     }
 }
 
-impl<W: Wake> Future<W> for LeavesWaker<W> {
+impl<W: Wake, R: Wait + Clone + Drop> Future<TaskWaker<W, R>> for LeavesWaker<W, R> {
     type Output = u64;
 
-    fn poll(&mut self, w: &W) -> Poll<u64> {
+    fn poll(&mut self, w: &TaskWaker<W, R>) -> Poll<u64> {
         if self.is_left {
             return Poll::Pending;
         }
@@ -80,16 +82,16 @@ impl<W: Wake> Future<W> for LeavesWaker<W> {
 
 /// Wakes its partner at each poll, and is ready with 7 after a number of polls.
 #[derive(Drop)]
-pub struct Rally<W> {
-    own: Arc<Mutex<Option<W>>>,
-    partner: Arc<Mutex<Option<W>>>,
+pub struct Rally<W, R> {
+    own: Arc<Mutex<Option<TaskWaker<W, R>>>>,
+    partner: Arc<Mutex<Option<TaskWaker<W, R>>>>,
     is_left: bool,
     left: u64,
 }
 
-impl<W: Drop> Rally<W> {
+impl<W: Wake, R: Wait + Clone + Drop> Rally<W, R> {
     /// Two futures that wake each other, each of which is ready after this number of polls.
-    pub fn pair(alloc: Global, left: u64) -> Result<(Rally<W>, Rally<W>), AllocError> {
+    pub fn pair(alloc: Global, left: u64) -> Result<(Rally<W, R>, Rally<W, R>), AllocError> {
         let one = Arc::new(alloc, Mutex::new(None))?;
         let two = Arc::new(alloc, Mutex::new(None))?;
         let first = Rally {
@@ -106,11 +108,9 @@ impl<W: Drop> Rally<W> {
         };
         Ok((first, second))
     }
-}
 
-impl<W: Wake> Rally<W> {
     // Leaves a copy of the waker where the partner finds it.
-    fn leave(&mut self, w: &W) {
+    fn leave(&mut self, w: &TaskWaker<W, R>) {
         let before = match (w.copy(), self.own.try_lock()) {
             (Ok(copy), Some(mut place)) => place.replace(copy),
             _ => None,
@@ -128,10 +128,10 @@ impl<W: Wake> Rally<W> {
     }
 }
 
-impl<W: Wake> Future<W> for Rally<W> {
+impl<W: Wake, R: Wait + Clone + Drop> Future<TaskWaker<W, R>> for Rally<W, R> {
     type Output = u64;
 
-    fn poll(&mut self, w: &W) -> Poll<u64> {
+    fn poll(&mut self, w: &TaskWaker<W, R>) -> Poll<u64> {
         if !self.is_left {
             self.leave(w);
         }

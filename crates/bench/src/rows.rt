@@ -301,7 +301,10 @@ fn wake_idle<R: Wait + Clone + Drop + Send + Sync>(
     operations: u64,
 ) -> Option<u64> {
     let place = Arc::new(alloc, Mutex::new(None)).ok()?;
-    let ex: Executor<LeavesWaker<_>, IdleWaker, R> = Executor::new(rt.clone().ok()?, alloc).ok()?;
+    let ex: Executor<LeavesWaker<_, R>, IdleWaker, R> = Executor::new(
+        rt.clone().ok()?,
+        alloc,
+    ).ok()?;
     ex.spawn(LeavesWaker::at(&place).ok()?).ok()?.detach();
     ex.try_tick();
     let left = place.lock(rt).take();
