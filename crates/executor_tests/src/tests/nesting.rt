@@ -13,7 +13,7 @@ use test_parts::waker::TestWaker;
 // The answers of a handle's first and last poll.
 type Polls<T> = (Poll<Result<T, Cancelled>>, Poll<Result<T, Cancelled>>);
 
-// What the answers of a handle, the ticks and the wakes were.
+// The answers of a handle, whether each tick ran a task, and how often a waker was woken.
 type Seen<T> = (Polls<T>, [bool; 4], [u64; 2]);
 
 // Gives the answers of the handle, whether the outer executor, of which its task is, had a task to
@@ -42,7 +42,7 @@ where
     (polls, [one, two, three, four], [before, after])
 }
 
-// Runs the future as a task of a new executor, and gives what was seen.
+// The same of the future as a task of a new executor.
 fn seen_of<F, G, V, R>(
     rt: &R,
     inner: &Executor<G, V, R>,
