@@ -89,7 +89,7 @@ for page in README.md docs/PROVED.md docs/ARCHITECTURE.md "$calling"; do
     fi
 done
 
-for crate in executor_core async_executor exsim; do
+for crate in executor_core async_executor simulation; do
     (cd crates/$crate/src && find . -name '*.rt') | sed 's/^\.\///; s/\.rt$//' |
         grep -vxE 'lib|main|tests(/.*)?' | sort > "$copy/wanted"
     quoted docs/ARCHITECTURE.md | grep -Fxf "$copy/wanted" | sort > "$copy/said"
@@ -125,7 +125,7 @@ done > "$copy/log"
 if [ -s "$copy/log" ]; then fail "links to nothing:" "$copy/log"; else pass "each link has its page"; fi
 
 sed -n '/^## The lines/,/^## /s/^| `\([a-z]*\).*/\1/p' docs/EXSIM.md | sort > "$copy/said"
-sed -n 's/^word_of .* = codes "\(.*\)"$/\1/p' crates/exsim/specs/Grammar.antt | sort > "$copy/wanted"
+sed -n 's/^word_of .* = codes "\(.*\)"$/\1/p' crates/simulation/specs/Grammar.antt | sort > "$copy/wanted"
 same "EXSIM.md, the words of a line"
 
 sed -n '/^## One interleaving/,/^## /s/^| `\([^`]*\)` | `\([^`]*\)` |.*/\1\t\2/p' docs/EXSIM.md > "$copy/rows"

@@ -1,19 +1,7 @@
-//! A simulator of an executor: steps as lines in, replies as lines out.
-//!
-//! Each line of standard input is one step of a `World`, or `show`, and has one line of reply on
-//! standard output. The world refuses a step that isn't enabled, so any order of steps may be
-//! tried. `command` reads a line, `reply` writes what is answered, `lines` cuts the input into
-//! lines of bounded length, and `simulation` runs them all.
+//! The simulation of an executor as a program: steps on standard input, replies on standard output.
 #![tactic(auto)]
 
-mod command;
-mod lines;
-mod reply;
-mod simulation;
-#[cfg(test)]
-mod tests;
-
-pub use simulation::run_lines;
+use simulation::run_lines;
 use std::io;
 use std::process::ExitCode;
 

@@ -1,7 +1,7 @@
 use Rattle.std.proofs.Common.{◌∙◌, ap}
-use Rattle.exsim.specs.Grammar.{word_of, listed}
-use Rattle.exsim.proofs.Words.{is_word, arguments_for}
-use Rattle.exsim.proofs.command.command_of.Goals as goal
+use Rattle.simulation.specs.Grammar.{word_of, listed}
+use Rattle.simulation.proofs.Words.{is_word, arguments_for}
+use Rattle.simulation.proofs.command.command_of.Goals as goal
 
 pub returns-in_err-word-clause-read : goal.returns-in_err-word-clause-read
 returns-in_err-word-clause-read c = λ command small e.

@@ -1,6 +1,6 @@
 use Rattle.std.proofs.Common.{◌≡◌, sym, ◌∙◌, Some, None}
-use Rattle.exsim.proofs.Words.{is_text, refused, accepted, alone, not_alone}
-use Rattle.exsim.proofs.command.split_line.Goals as goal
+use Rattle.simulation.proofs.Words.{is_text, refused, accepted, alone, not_alone}
+use Rattle.simulation.proofs.command.split_line.Goals as goal
 
 pub returns-in_err-text-clause-read : goal.returns-in_err-text-clause-read
 returns-in_err-text-clause-read c = λ word a whole small e.

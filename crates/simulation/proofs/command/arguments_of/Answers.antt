@@ -1,7 +1,7 @@
 use Rattle.std.proofs.Common.{◌≡◌, Some, None}
-use Rattle.exsim.specs.declared.command.Arguments.TheVariants.{One, Two}
-use Rattle.exsim.proofs.Words.{one_number, two_numbers}
-use Rattle.exsim.proofs.command.arguments_of.Goals as goal
+use Rattle.simulation.specs.declared.command.Arguments.TheVariants.{One, Two}
+use Rattle.simulation.proofs.Words.{one_number, two_numbers}
+use Rattle.simulation.proofs.command.arguments_of.Goals as goal
 
 pub returns-in_err-number_of-in-None-clause-read :
     goal.returns-in_err-number_of-in-None-clause-read

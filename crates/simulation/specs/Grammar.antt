@@ -4,10 +4,10 @@ use Rattle.std.specs.List.{flat_map, AllByRecursion}
 use Rattle.std.specs.Fmt.{decimal}
 use lib.Chars.{codes}
 use Rattle.executor_core.specs.declared.interleave.request.Step.TheVariants as step
-use Rattle.exsim.specs.declared.command.Command.{Command}
-use Rattle.exsim.specs.declared.command.Command.TheVariants.{Step, Show}
-use Rattle.exsim.specs.declared.command.Arguments.{Arguments}
-use Rattle.exsim.specs.declared.command.Arguments.TheVariants as arguments
+use Rattle.simulation.specs.declared.command.Command.{Command}
+use Rattle.simulation.specs.declared.command.Command.TheVariants.{Step, Show}
+use Rattle.simulation.specs.declared.command.Arguments.{Arguments}
+use Rattle.simulation.specs.declared.command.Arguments.TheVariants as arguments
 
 -- the word of a command
 abbrev pub word_of : Command → List ℕ

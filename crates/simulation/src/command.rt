@@ -5,9 +5,9 @@
 ghost use Rattle.std.specs.Prelude.{◌≡◌, ◌<◌, ◌^◌, ◌++◌, ◌∷◌, ◌↔◌, ℕ, List, [], IfSome, IsSomeAnd, IsTrue, Some};
 ghost use Rattle.std.specs.Fmt.{decimal};
 ghost use Rattle.executor_core.specs.declared.interleave.request.Step.{Step};
-ghost use Rattle.exsim.specs.Grammar.{numbers_of, line_of, spaced, listed, AreInRange, IsWord, IsWritten, IsPlain};
-ghost use Rattle.exsim.specs.declared.command.Arguments.{Arguments};
-ghost use Rattle.exsim.specs.declared.command.Command.TheVariants.{Step as AsStep};
+ghost use Rattle.simulation.specs.Grammar.{numbers_of, line_of, spaced, listed, AreInRange, IsWord, IsWritten, IsPlain};
+ghost use Rattle.simulation.specs.declared.command.Arguments.{Arguments};
+ghost use Rattle.simulation.specs.declared.command.Command.TheVariants.{Step as AsStep};
 
 use executor_core::interleave::Step;
 

@@ -14,12 +14,12 @@ use Rattle.std.proofs.lemmas.List.Sums.{AllPass-from_list_all}
 use Rattle.std.proofs.lemmas.Str.Ascii.{IsAscii-from_all}
 use Rattle.std.proofs.lemmas.Bool.Decides.{nat_tests}
 use Rattle.executor_core.specs.declared.interleave.request.Step.TheVariants as step
-use Rattle.exsim.specs.declared.command.Command.{Command}
-use Rattle.exsim.specs.declared.command.Command.TheVariants.{Step, Show}
-use Rattle.exsim.specs.Grammar.{word_of, numbers_of, spaced, listed, AreInRange, IsWord}
-use Rattle.exsim.specs.declared.command.Arguments.{Arguments}
-use Rattle.exsim.specs.declared.command.Arguments.TheVariants as arguments
-use Rattle.exsim.proofs.Numbers.{unspaced}
+use Rattle.simulation.specs.declared.command.Command.{Command}
+use Rattle.simulation.specs.declared.command.Command.TheVariants.{Step, Show}
+use Rattle.simulation.specs.Grammar.{word_of, numbers_of, spaced, listed, AreInRange, IsWord}
+use Rattle.simulation.specs.declared.command.Arguments.{Arguments}
+use Rattle.simulation.specs.declared.command.Arguments.TheVariants as arguments
+use Rattle.simulation.proofs.Numbers.{unspaced}
 
 tail_of : List ℕ → List ℕ
 tail_of [] = []

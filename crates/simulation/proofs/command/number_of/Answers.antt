@@ -1,7 +1,7 @@
 use Rattle.std.proofs.Common.{sym, ◌≡◌, ◌∙◌, true}
-use Rattle.exsim.specs.Grammar.{IsPlain}
-use Rattle.exsim.proofs.Numbers.{plain_decimal, parsed, parses}
-use Rattle.exsim.proofs.command.number_of.Goals as goal
+use Rattle.simulation.specs.Grammar.{IsPlain}
+use Rattle.simulation.proofs.Numbers.{plain_decimal, parsed, parses}
+use Rattle.simulation.proofs.command.number_of.Goals as goal
 
 pub returns-then-is_plain-clause-found : goal.returns-then-is_plain-clause-found
 returns-then-is_plain-clause-found c =

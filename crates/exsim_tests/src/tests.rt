@@ -2,7 +2,7 @@
 mod runs;
 mod tickers;
 
-use crate::run_lines;
+use simulation::run_lines;
 use std::alloc::Global;
 use std::io;
 use std::io::{ErrorKind, Read, Write};

@@ -1,6 +1,6 @@
 //! The text of what is answered.
 ghost use Rattle.std.specs.Prelude.{◌≡◌, Some};
-ghost use Rattle.exsim.specs.Replies.{awaiter_text, reply_text};
+ghost use Rattle.simulation.specs.Replies.{awaiter_text, reply_text};
 
 use executor_core::interleave::{Reply, World};
 use executor_core::task::Cells;
