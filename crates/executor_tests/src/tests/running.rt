@@ -136,6 +136,33 @@ fn another_run_steals_what_a_run_has(rt: HostRuntime) -> Result<(), Fail> {
     )
 }
 
+// A run takes one word a search, also where its own queue has a task. By its words the first of
+// three runs steals from the second at its third search, and from the third at its 110th, when it
+// takes the task of number 3. With more or fewer words it would steal from the second again.
+#[test]
+fn each_search_takes_one_word(rt: HostRuntime) -> Result<(), Fail> {
+    play(
+        &rt,
+        &[
+            MakeRun(Never),
+            MakeRun(Never),
+            MakeRun(Never),
+            Poll(0, Pending),
+            SpawnMany(359),
+            Spawn(Ready(7)),
+            SpawnMany(309),
+            Poll(1, Pending),
+            ManyRan(200),
+            Poll(2, Pending),
+            ManyRan(400),
+            Count(3, FuturePoll, 0),
+            Poll(0, Pending),
+            ManyRan(599),
+            Count(3, FuturePoll, 1),
+        ],
+    )
+}
+
 // A run that has ended wakes who polls it and does nothing more.
 #[test]
 fn a_run_ends_with_its_own_future(rt: HostRuntime) -> Result<(), Fail> {
