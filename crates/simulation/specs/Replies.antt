@@ -1,5 +1,5 @@
 -- How a reply is written.
-use Rattle.std.specs.Prelude.{ℕ, Bool, true, false, List, [], ◌++◌}
+use Rattle.std.specs.Prelude.{ℕ, Bool, true, false, List, [], ◌++◌, Option, Some, None}
 use Rattle.std.specs.Fmt.{decimal}
 use lib.Chars.{codes}
 use Rattle.executor_core.specs.declared.interleave.reply.Reply.{Reply}
@@ -9,6 +9,11 @@ use Rattle.executor_core.specs.declared.interleave.reply.Reply.TheVariants as re
 abbrev pub awaiter_text : Bool → List ℕ
 awaiter_text true = codes " awaiter"
 awaiter_text false = []
+
+-- a number behind a word
+abbrev pub number_text : Option ℕ → List ℕ
+number_text None = []
+number_text (Some n) = codes " " ++ decimal n
 
 abbrev pub reply_text : Reply ℕ → List ℕ
 reply_text (reply.Task n) = codes "task " ++ decimal n

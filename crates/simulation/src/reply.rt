@@ -1,6 +1,6 @@
 //! The text of what is answered.
-ghost use Rattle.std.specs.Prelude.{◌≡◌, Some};
-ghost use Rattle.simulation.specs.Replies.{awaiter_text, reply_text};
+ghost use Rattle.std.specs.Prelude.{◌≡◌, ◌++◌, Some};
+ghost use Rattle.simulation.specs.Replies.{awaiter_text, number_text, reply_text};
 
 use executor_core::interleave::{Reply, World};
 use executor_core::task::Cells;
@@ -17,43 +17,53 @@ fn awaiter_suffix(awaiter: bool) -> &'static str
 #[derive(Drop)]
 pub struct ReplyText(pub Reply<u64>);
 
+// The word of a reply, the number behind it, and whether an awaiter came out.
+fn parts_of(reply: Reply<u64>) -> (&'static str, Option<u64>, bool)
+    ensures { reply_text reply ≡ result.0.now ++ number_text result.1 ++ awaiter_text result.2 }
+{
+    match reply {
+        Reply::Task(n) => ("task", Some(n), false),
+        Reply::Notice => ("notice", None, false),
+        Reply::Nothing => ("nothing", None, false),
+        Reply::Poll(n) => ("poll", Some(n), false),
+        Reply::Drop(n) => ("drop", Some(n), false),
+        Reply::NoTask => ("none", None, false),
+        Reply::Idle(n) => ("idle", Some(n), false),
+        Reply::Queued(n) => ("queued", Some(n), false),
+        Reply::Finished { awaiter } => ("finished", None, awaiter),
+        Reply::Unwanted { output, awaiter } => ("unwanted", Some(output), awaiter),
+        Reply::Gone { awaiter } => ("gone", None, awaiter),
+        Reply::Pick => ("pick", None, false),
+        Reply::Sleeper(i) => ("sleeper", Some(i), false),
+        Reply::Nobody => ("nobody", None, false),
+        Reply::Output(output) => ("output", Some(output), false),
+        Reply::Cancelled => ("cancelled", None, false),
+        Reply::Pending => ("pending", None, false),
+        Reply::Ticker(k) => ("ticker", Some(k as u64), false),
+        Reply::Done => ("done", None, false),
+        Reply::Number(i) => ("number", Some(i as u64), false),
+        Reply::Again => ("again", None, false),
+        Reply::Parked => ("parked", None, false),
+        Reply::Notified => ("notified", None, false),
+        Reply::Unnotified => ("unnotified", None, false),
+        Reply::Stored(flag) => (if flag { "true" } else { "false" }, None, false),
+        Reply::Moved(count) => ("moved", Some(count as u64), false),
+        Reply::Awake => ("awake", None, false),
+        Reply::LogFull => ("log full", None, false),
+        Reply::NotNow => ("not now", None, false),
+        Reply::OutOfMemory => ("out of memory", None, false),
+    }
+}
+
 impl fmt::Display for ReplyText {
     ghost output = { λ reply. Some (reply_text reply.0) };
 
     fn fmt<W: fmt::Write>(&self, f: &mut fmt::Formatter<W>) -> fmt::Result {
-        match self.0 {
-            Reply::Task(n) => write!(f, "task {n}"),
-            Reply::Notice => f.write_str("notice"),
-            Reply::Nothing => f.write_str("nothing"),
-            Reply::Poll(n) => write!(f, "poll {n}"),
-            Reply::Drop(n) => write!(f, "drop {n}"),
-            Reply::NoTask => f.write_str("none"),
-            Reply::Idle(n) => write!(f, "idle {n}"),
-            Reply::Queued(n) => write!(f, "queued {n}"),
-            Reply::Finished { awaiter } => write!(f, "finished{}", awaiter_suffix(awaiter)),
-            Reply::Unwanted { output, awaiter } => {
-                write!(f, "unwanted {output}{}", awaiter_suffix(awaiter))
-            }
-            Reply::Gone { awaiter } => write!(f, "gone{}", awaiter_suffix(awaiter)),
-            Reply::Pick => f.write_str("pick"),
-            Reply::Sleeper(i) => write!(f, "sleeper {i}"),
-            Reply::Nobody => f.write_str("nobody"),
-            Reply::Output(output) => write!(f, "output {output}"),
-            Reply::Cancelled => f.write_str("cancelled"),
-            Reply::Pending => f.write_str("pending"),
-            Reply::Ticker(k) => write!(f, "ticker {k}"),
-            Reply::Done => f.write_str("done"),
-            Reply::Number(i) => write!(f, "number {i}"),
-            Reply::Again => f.write_str("again"),
-            Reply::Parked => f.write_str("parked"),
-            Reply::Notified => f.write_str("notified"),
-            Reply::Unnotified => f.write_str("unnotified"),
-            Reply::Stored(flag) => write!(f, "{flag}"),
-            Reply::Moved(count) => write!(f, "moved {count}"),
-            Reply::Awake => f.write_str("awake"),
-            Reply::LogFull => f.write_str("log full"),
-            Reply::NotNow => f.write_str("not now"),
-            Reply::OutOfMemory => f.write_str("out of memory"),
+        let (word, number, awaiter) = parts_of(self.0);
+        let suffix = awaiter_suffix(awaiter);
+        match number {
+            Some(n) => write!(f, "{word} {n}{suffix}"),
+            None => write!(f, "{word}{suffix}"),
         }
     }
 }
