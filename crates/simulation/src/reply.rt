@@ -78,16 +78,31 @@ fn separator(place: usize) -> &'static str {
     if place > 0 { ", " } else { "" }
 }
 
-// The queue of the runner at this position.
+// The global queue, or that of the runner at this position.
 #[derive(Drop)]
-struct LocalText<'a>(&'a Cells<(), u64, ()>, usize);
+struct QueueText<'a>(&'a Cells<(), u64, ()>, Option<usize>);
 
-impl fmt::Display for LocalText<'_> {
+impl QueueText<'_> {
+    fn len(&self) -> usize {
+        match self.1 {
+            None => self.0.global_len(),
+            Some(runner) => self.0.local_len(runner).unwrap_or(0),
+        }
+    }
+
+    fn number_at(&self, place: usize) -> Option<u64> {
+        match self.1 {
+            None => self.0.global_at(place),
+            Some(runner) => self.0.local_at(runner, place),
+        }
+    }
+}
+
+impl fmt::Display for QueueText<'_> {
     fn fmt<W: fmt::Write>(&self, f: &mut fmt::Formatter<W>) -> fmt::Result {
-        let (cells, runner) = (self.0, self.1);
         f.write_str("[")?;
-        for place in 0..cells.local_len(runner).unwrap_or(0) {
-            if let Some(n) = cells.local_at(runner, place) {
+        for place in 0..self.len() {
+            if let Some(n) = self.number_at(place) {
                 write!(f, "{}{n}", separator(place))?;
             }
         }
@@ -95,25 +110,36 @@ impl fmt::Display for LocalText<'_> {
     }
 }
 
-impl fmt::Display for StateText<'_> {
+// What is counted.
+#[derive(Drop)]
+struct CountsText<'a>(&'a World<(), u64>);
+
+impl fmt::Display for CountsText<'_> {
     fn fmt<W: fmt::Write>(&self, f: &mut fmt::Formatter<W>) -> fmt::Result {
         let world = self.0;
-        let cells = world.cells();
-        f.write_str("global [")?;
-        for place in 0..cells.global_len() {
-            if let Some(n) = cells.global_at(place) {
-                write!(f, "{}{n}", separator(place))?;
-            }
-        }
-        f.write_str("] locals [")?;
-        for runner in 0..cells.runners() {
-            write!(f, "{}{}", separator(runner), LocalText(cells, runner))?;
-        }
         let state = world.state();
         let (flag, sleepers) = (state.flag().get(), state.sleepers());
         let (numbers, notified) = (sleepers.numbers(), sleepers.notified());
-        write!(f, "] flag {flag} numbers {numbers} notified {notified} ")?;
-        let (notices, picks, undropped) = (world.notices(), world.picks(), cells.undropped());
-        write!(f, "notices {notices} picks {picks} undropped {undropped}")
+        let (notices, picks, undropped) = (
+            world.notices(),
+            world.picks(),
+            world.cells().undropped(),
+        );
+        write!(
+            f,
+            "flag {flag} numbers {numbers} notified {notified} notices {notices} picks {picks} \
+             undropped {undropped}"
+        )
+    }
+}
+
+impl fmt::Display for StateText<'_> {
+    fn fmt<W: fmt::Write>(&self, f: &mut fmt::Formatter<W>) -> fmt::Result {
+        let cells = self.0.cells();
+        write!(f, "global {} locals [", QueueText(cells, None))?;
+        for runner in 0..cells.runners() {
+            write!(f, "{}{}", separator(runner), QueueText(cells, Some(runner)))?;
+        }
+        write!(f, "] {}", CountsText(self.0))
     }
 }
