@@ -87,13 +87,29 @@ fn empty_sink(alloc: Global) -> Sink {
     }
 }
 
+// The status of the run over this input into this sink, and whether it writes this text. It asserts
+// nothing itself: a sink that is alive at an assertion is dear to prove.
+fn run_into(alloc: Global, input: Source<'_>, mut sink: Sink, output: &[u8]) -> (u8, bool) {
+    let status = run_lines(alloc, input, &mut sink);
+    (status, sink.kept.as_slice() == output)
+}
+
 // That the run over this input writes this text and ends with this status.
 fn expect_run(rt: &impl Abort, alloc: Global, input: Source<'_>, output: &str, status: u8) {
     let text = input.text;
-    let mut written = empty_sink(alloc);
-    let ended = run_lines(alloc, input, &mut written);
-    assert_eq!(rt; str::from_utf8(&written.kept), Ok(output), "of {text:?}");
-    assert_eq!(rt; ended, status, "of {text:?}");
+    let ended = run_into(alloc, input, empty_sink(alloc), output.as_bytes());
+    assert_eq!(rt; ended, (status, true), "of {text:?}");
+}
+
+// These texts, each so many times.
+fn joined(alloc: Global, texts: &[(&[u8], usize)]) -> Result<Vec<u8>, Fail> {
+    let mut all = Vec::new(alloc);
+    for (text, times) in texts {
+        for _ in 0..*times {
+            all.extend_from_slice(text)?;
+        }
+    }
+    Ok(all)
 }
 
 // What is read, what is written and the status.
@@ -171,6 +187,25 @@ const RUNS: [(&str, &str, u8); 14] = [
 // Lines that are taken, the replies, and which of a party's lines may come next.
 type Turn<'a> = (&'a [u8], &'a str, &'a [&'a [u8]]);
 
+// Adds the lines of a turn, and each of the party's other lines, with the replies.
+fn push_turn(
+    input: &mut Vec<u8>,
+    output: &mut String,
+    lines: &[&[u8]],
+    turn: &Turn<'_>,
+) -> Result<(), Fail> {
+    let (taken, replies, next) = turn;
+    input.extend_from_slice(taken)?;
+    output.push_str(replies)?;
+    for line in lines {
+        if !next.contains(line) {
+            input.extend_from_slice(line)?;
+            output.push_str("not now\n")?;
+        }
+    }
+    Ok(())
+}
+
 // Takes the turns, and tries each of the party's other lines after each turn.
 fn expect_turns(
     rt: &impl Abort,
@@ -180,15 +215,8 @@ fn expect_turns(
 ) -> Result<(), Fail> {
     let mut input = Vec::new(alloc);
     let mut output = String::new(alloc);
-    for (taken, replies, next) in turns {
-        input.extend_from_slice(taken)?;
-        output.push_str(replies)?;
-        for line in lines {
-            if !next.contains(line) {
-                input.extend_from_slice(line)?;
-                output.push_str("not now\n")?;
-            }
-        }
+    for turn in turns {
+        push_turn(&mut input, &mut output, lines, turn)?;
     }
     expect_run(rt, alloc, whole(&input), &output, 0);
     Ok(())
@@ -196,8 +224,8 @@ fn expect_turns(
 
 #[test]
 fn runs_print_their_replies_however_the_input_is_cut(rt: HostRuntime) {
-    for (input, output, status) in RUNS {
-        for most in [1, 2, 7, usize::MAX] {
+    for &(input, output, status) in &RUNS {
+        for &most in &[1, 2, 7, usize::MAX] {
             let source = Source {
                 most,
                 ..whole(input.as_bytes())
@@ -257,19 +285,28 @@ const NO_STEPS: [&[u8]; 43] = [
 const LATER: &str = "task 0\nglobal [0] locals [] flag true numbers 0 notified 0 notices 1 picks 0 \
                      undropped 1\nbad line 3\n";
 
+// That this line ends the run with this text, where these lines stand before it.
+fn expect_no_step<'a>(
+    rt: &impl Abort,
+    alloc: Global,
+    front: &'a [u8],
+    line: &'a [u8],
+    output: &str,
+) -> Result<(), Fail> {
+    let input = joined(alloc, &[(front, 1), (line, 1), (b"\n", 1)])?;
+    expect_run(rt, alloc, guarded(&input), output, 1);
+    Ok(())
+}
+
 #[test]
-fn a_line_that_is_no_step_ends_the_run_and_nothing_after_it_is_read(rt: HostRuntime) {
-    for line in NO_STEPS {
-        let mut input = Vec::new(rt.alloc());
-        for (front, output) in [("", "bad line 1\n"), ("spawn\nshow\n", LATER)] {
-            input.clear();
-            let made = input.extend_from_slice(front.as_bytes()).is_ok()
-                && input.extend_from_slice(line).is_ok()
-                && input.push(b'\n').is_ok();
-            assert!(rt; made);
-            expect_run(&rt, rt.alloc(), guarded(&input), output, 1);
-        }
+fn a_line_that_is_no_step_ends_the_run_and_nothing_after_it_is_read(
+    rt: HostRuntime,
+) -> Result<(), Fail> {
+    for line in &NO_STEPS {
+        expect_no_step(&rt, rt.alloc(), b"", line, "bad line 1\n")?;
+        expect_no_step(&rt, rt.alloc(), b"spawn\nshow\n", line, LATER)?;
     }
+    Ok(())
 }
 
 #[test]
@@ -286,71 +323,80 @@ fn a_failed_read_ends_the_run_after_the_replies_to_whole_lines(rt: HostRuntime) 
         ("spawn\ntrytick\n", "task 0\npoll 0\nread failed\n"),
         ("spawn\ntrytick", "task 0\nread failed\n"),
     ];
-    for (input, output) in inputs {
+    for &(input, output) in &inputs {
         expect_run(&rt, rt.alloc(), guarded(input.as_bytes()), output, 3);
     }
 }
 
+// Of the run over this input whose write of this number fails: the status, how many writes it tried,
+// whether what it wrote begins what is written where no write fails, and whether it wrote nothing.
+fn run_with_failed_write(alloc: Global, input: &[u8], fails: usize) -> (u8, usize, bool, bool) {
+    let mut all = empty_sink(alloc);
+    run_lines(alloc, whole(input), &mut all);
+    let mut written = Sink {
+        fails_write: Some(fails),
+        ..empty_sink(alloc)
+    };
+    let status = run_lines(alloc, whole(input), &mut written);
+    let begins = all.kept.starts_with(&written.kept);
+    (status, written.writes, begins, written.kept.is_empty())
+}
+
+// That the run over this input ends with its write of this number, which fails.
+fn expect_failed_write(rt: &impl Abort, alloc: Global, input: &[u8], fails: usize) {
+    let ended = run_with_failed_write(alloc, input, fails);
+    let bytes = input.len();
+    let tried = fails.saturating_add(1);
+    assert_eq!(rt; ended, (4, tried, true, fails == 0), "of {bytes} bytes");
+}
+
 #[test]
 fn nothing_is_written_after_a_failed_write(rt: HostRuntime) -> Result<(), Fail> {
-    let mut long = String::new(rt.alloc());
-    for _ in 0..3000 {
-        long.push_str("spawn\n")?;
-    }
-    long.push_str("cancel 0\n")?;
+    expect_failed_write(&rt, rt.alloc(), b"spawn\n", 0);
+    expect_failed_write(&rt, rt.alloc(), b"spawn\nspwan\n", 0);
     // The replies to the long input take several writes.
-    let runs = [
-        ("spawn\n", 0),
-        ("spawn\nspwan\n", 0),
-        (long.as_str(), 0),
-        (long.as_str(), 1),
-        (long.as_str(), 2),
-    ];
-    for (input, fails) in runs {
-        let mut all = empty_sink(rt.alloc());
-        run_lines(rt.alloc(), whole(input.as_bytes()), &mut all);
-        let mut written = Sink {
-            fails_write: Some(fails),
-            ..empty_sink(rt.alloc())
-        };
-        let status = run_lines(rt.alloc(), whole(input.as_bytes()), &mut written);
-        assert_eq!(rt; status, 4);
-        assert_eq!(rt; written.writes, fails + 1);
-        assert!(rt; all.kept.starts_with(&written.kept));
-        assert_eq!(rt; written.kept.is_empty(), fails == 0);
+    let long = joined(rt.alloc(), &[(b"spawn\n", 3000), (b"cancel 0\n", 1)])?;
+    for fails in 0..3 {
+        expect_failed_write(&rt, rt.alloc(), &long, fails);
     }
     Ok(())
 }
 
 #[test]
 fn a_failed_flush_is_a_failed_write(rt: HostRuntime) {
-    let mut written = Sink {
+    let sink = Sink {
         fails_flush: true,
         ..empty_sink(rt.alloc())
     };
-    assert_eq!(rt; run_lines(rt.alloc(), whole(b"spawn\n"), &mut written), 4);
-    assert_eq!(rt; written.kept.as_slice(), b"task 0\n".as_slice());
+    let ended = run_into(rt.alloc(), whole(b"spawn\n"), sink, b"task 0\n");
+    assert_eq!(rt; ended, (4, true));
+}
+
+// The state of a new world.
+const NEW: &[u8] =
+    b"global [] locals [] flag true numbers 0 notified 0 notices 0 picks 0 undropped 0\n";
+
+// The status of a run of a hundred thousand steps and one more, and whether it refuses that one alone.
+fn run_past_the_limit(alloc: Global) -> Result<(u8, bool), Fail> {
+    let steps: [(&[u8], usize); 3] = [
+        (b"show\npend 0\n", 1),
+        (b"trytick\n", 100_000),
+        (b"pend 0\nshow\n", 1),
+    ];
+    let replies: [(&[u8], usize); 5] = [
+        (NEW, 1),
+        (b"not now\n", 1),
+        (b"none\n", 100_000),
+        (b"log full\n", 1),
+        (NEW, 1),
+    ];
+    let input = joined(alloc, &steps)?;
+    let output = joined(alloc, &replies)?;
+    Ok(run_into(alloc, whole(&input), empty_sink(alloc), &output))
 }
 
 #[test]
 fn a_run_accepts_a_hundred_thousand_steps(rt: HostRuntime) -> Result<(), Fail> {
-    let mut input = String::from_str(rt.alloc(), "show\npend 0\n")?;
-    for _ in 0..100_000 {
-        input.push_str("trytick\n")?;
-    }
-    input.push_str("pend 0\nshow\n")?;
-    let mut written = empty_sink(rt.alloc());
-    let status = run_lines(rt.alloc(), whole(input.as_bytes()), &mut written);
-    let state =
-        "global [] locals [] flag true numbers 0 notified 0 notices 0 picks 0 undropped 0\n";
-    let end = format!(in rt.alloc(); "none\nlog full\n{state}")?;
-    let refused = format!(in rt.alloc(); "{state}not now\nnone\n")?;
-    assert_eq!(rt; status, 0);
-    assert!(rt; written.kept.starts_with(refused.as_bytes()));
-    assert!(rt; written.kept.ends_with(end.as_bytes()));
-    assert_eq!(rt;
-        written.kept.iter().filter(|b| **b == b'\n').count(),
-        100_004
-    );
+    assert_eq!(rt; run_past_the_limit(rt.alloc())?, (0, true));
     Ok(())
 }

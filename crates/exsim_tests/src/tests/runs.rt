@@ -61,7 +61,7 @@ const RUNS: [(&str, &str); 5] = [
 
 #[test]
 fn runs_search_steal_and_end(rt: HostRuntime) {
-    for (input, output) in RUNS {
+    for &(input, output) in &RUNS {
         expect_run(&rt, rt.alloc(), whole(input.as_bytes()), output, 0);
     }
 }

@@ -67,7 +67,7 @@ const RUNS: [(&str, &str); 7] = [
 
 #[test]
 fn tickers_search_sleep_and_end(rt: HostRuntime) {
-    for (input, output) in RUNS {
+    for &(input, output) in &RUNS {
         expect_run(&rt, rt.alloc(), whole(input.as_bytes()), output, 0);
     }
 }
