@@ -376,7 +376,8 @@ fn a_failed_flush_is_a_failed_write(rt: HostRuntime) {
 const NEW: &[u8] =
     b"global [] locals [] flag true numbers 0 notified 0 notices 0 picks 0 undropped 0\n";
 
-// The status of a run of a hundred thousand steps and one more, and whether it refuses that one alone.
+// The status of a run of a hundred thousand steps and one more, and whether each has its reply. What
+// is not enabled counts as no step.
 fn run_past_the_limit(alloc: Global) -> Result<(u8, bool), Fail> {
     let steps: [(&[u8], usize); 3] = [
         (b"show\npend 0\n", 1),

@@ -58,23 +58,22 @@ fn refuse<W: Write>(writer: &mut W) -> Ending {
 
 impl<R: Read + Drop, W: Write + Drop> Simulation<R, W> {
     fn new(alloc: Global, reader: R, writer: W) -> Result<Self, OutOfMemory> {
-        let lines = Lines::new(alloc, reader)?;
-        let world = World::new(alloc, STEP_LIMIT)?;
-        let Ok(replies) = BufWriter::new(alloc, writer) else {
-            return Err(OutOfMemory);
-        };
-        Ok(Simulation {
-            lines,
-            world,
-            replies,
-        })
+        match (
+            Lines::new(alloc, reader),
+            World::new(alloc, STEP_LIMIT),
+            BufWriter::new(alloc, writer),
+        ) {
+            (Ok(lines), Ok(world), Ok(replies)) => Ok(Simulation {
+                lines,
+                world,
+                replies,
+            }),
+            _ => Err(OutOfMemory),
+        }
     }
 
     fn run(mut self) -> Ending {
-        let ending = match self.answer_lines() {
-            Ok(ending) if self.replies.flush().is_ok() => ending,
-            _ => Ending::WriteFailed,
-        };
+        let ending = self.answer_and_flush();
         let Simulation {
             lines: _,
             world: _,
@@ -83,6 +82,13 @@ impl<R: Read + Drop, W: Write + Drop> Simulation<R, W> {
         // What a failed write left in the buffer isn't tried again.
         let (_, _) = replies.into_parts();
         ending
+    }
+
+    fn answer_and_flush(&mut self) -> Ending {
+        match self.answer_lines() {
+            Ok(ending) if self.replies.flush().is_ok() => ending,
+            _ => Ending::WriteFailed,
+        }
     }
 
     // Answers the lines in order, up to the first that is bad. An error is that of a write.
@@ -94,24 +100,38 @@ impl<R: Read + Drop, W: Write + Drop> Simulation<R, W> {
                 // The same is said of more lines than can be counted.
                 Err(_) => break,
             };
-            if line.len() > LINE_LIMIT {
-                return self.end_at_bad_line(number);
-            }
-            match command_of(line) {
-                Some(Command::Step(step)) => {
-                    let reply = self.world.step(step);
-                    self.replies.writeln(ReplyText(reply))?;
-                }
-                Some(Command::Show) => self.replies.writeln(StateText(&self.world))?,
-                None => return self.end_at_bad_line(number),
+            match command_within(line) {
+                Some(command) => answer(&mut self.world, &mut self.replies, command)?,
+                None => return end_at_bad_line(&mut self.replies, number),
             }
         }
         self.replies.write_all(b"read failed\n")?;
         Ok(Ending::ReadFailed)
     }
+}
 
-    fn end_at_bad_line(&mut self, number: u64) -> io::Result<Ending> {
-        writeln!(self.replies, "bad line {number}")?;
-        Ok(Ending::BadLine)
+// The command of a line that is not too long.
+fn command_within(line: &[u8]) -> Option<Command> {
+    if line.len() > LINE_LIMIT {
+        None
+    } else {
+        command_of(line)
     }
+}
+
+// Takes the step, or shows the state.
+fn answer<W: Write + Drop>(
+    world: &mut World<(), u64>,
+    replies: &mut BufWriter<W>,
+    command: Command,
+) -> io::Result<()> {
+    match command {
+        Command::Step(step) => replies.writeln(ReplyText(world.step(step))),
+        Command::Show => replies.writeln(StateText(world)),
+    }
+}
+
+fn end_at_bad_line<W: Write + Drop>(replies: &mut BufWriter<W>, number: u64) -> io::Result<Ending> {
+    writeln!(replies, "bad line {number}")?;
+    Ok(Ending::BadLine)
 }
