@@ -39,18 +39,23 @@ impl<R: Read + Drop> Lines<R> {
     /// asked again. After an error what was read of the line is lost.
     pub fn next_line(&mut self) -> io::Result<Option<&[u8]>> {
         self.line.clear();
-        if self.is_ended {
-            return Ok(None);
+        if !self.is_ended {
+            self.reader.set_limit(LINE_LIMIT as u64 + 1);
+            self.reader.read_until(b'\n', &mut self.line)?;
         }
-        self.reader.set_limit(LINE_LIMIT as u64 + 1);
-        self.reader.read_until(b'\n', &mut self.line)?;
+        Ok(self.line_read())
+    }
+
+    // The line that was read, without its line feed. Past the end nothing was read.
+    fn line_read(&mut self) -> Option<&[u8]> {
         if let Some(line) = self.line.strip_suffix(b"\n") {
-            return Ok(Some(line));
+            return Some(line);
         }
         self.is_ended = self.line.len() <= LINE_LIMIT;
         if self.line.is_empty() {
-            return Ok(None);
+            None
+        } else {
+            Some(&self.line)
         }
-        Ok(Some(&self.line))
     }
 }
