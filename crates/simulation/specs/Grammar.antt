@@ -1,8 +1,9 @@
 -- How a line is written.
-use Rattle.std.specs.Prelude.{◌≡◌, ◌≢◌, ℕ, ◌<◌, ◌≤◌, ◌^◌, List, [], ◌∷◌, ◌++◌, length, slice_index}
+use Rattle.std.specs.Prelude.{◌≡◌, ◌≢◌, ℕ, ◌<◌, ◌≤◌, ◌^◌, Bool, true, false, List, [], ◌∷◌, ◌++◌, length, slice_index}
 use Rattle.std.specs.List.{flat_map, AllByRecursion}
 use Rattle.std.specs.Fmt.{decimal}
 use lib.Chars.{codes}
+use Rattle.executor_core.specs.declared.interleave.request.Step.{Step as StepOf}
 use Rattle.executor_core.specs.declared.interleave.request.Step.TheVariants as step
 use Rattle.simulation.specs.declared.command.Command.{Command}
 use Rattle.simulation.specs.declared.command.Command.TheVariants.{Step, Show}
@@ -68,6 +69,19 @@ numbers_of (Step (step.Drop k)) = k ∷ []
 -- it is the command of this word and these numbers
 abbrev pub IsWritten : List ℕ → List ℕ → Command → Type 0
 IsWritten word numbers command = (word ≡ word_of command) × (numbers ≡ numbers_of command)
+
+-- a step of a ticker, with the ticker's number alone
+abbrev pub is_of_ticker : StepOf Unit ℕ → Bool
+is_of_ticker (step.Register _) = true
+is_of_ticker (step.Poll _) = true
+is_of_ticker (step.Sleep _) = true
+is_of_ticker (step.Yield _) = true
+is_of_ticker (step.Remove _) = true
+is_of_ticker (step.Store _) = true
+is_of_ticker (step.Fair _) = true
+is_of_ticker (step.Unregister _) = true
+is_of_ticker (step.Drop _) = true
+is_of_ticker _ = false
 
 -- each number in decimal, after one space
 abbrev pub spaced : List ℕ → List ℕ

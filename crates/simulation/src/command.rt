@@ -2,10 +2,10 @@
 //!
 //! A line is a word, and behind it up to two numbers, each after one space. A number is decimal,
 //! without a sign or a leading zero.
-ghost use Rattle.std.specs.Prelude.{◌≡◌, ◌<◌, ◌^◌, ◌++◌, ◌∷◌, ◌↔◌, ℕ, List, [], IfSome, IsSomeAnd, IsTrue, Some};
+ghost use Rattle.std.specs.Prelude.{◌≡◌, ◌<◌, ◌^◌, ◌++◌, ◌∷◌, ◌↔◌, ℕ, List, [], IfSome, IsSomeAnd, IsTrue, Some, true};
 ghost use Rattle.std.specs.Fmt.{decimal};
 ghost use Rattle.executor_core.specs.declared.interleave.request.Step.{Step};
-ghost use Rattle.simulation.specs.Grammar.{numbers_of, line_of, spaced, listed, AreInRange, IsWord, IsWritten, IsPlain};
+ghost use Rattle.simulation.specs.Grammar.{numbers_of, line_of, is_of_ticker, spaced, listed, AreInRange, IsWord, IsWritten, IsPlain};
 ghost use Rattle.simulation.specs.declared.command.Arguments.{Arguments};
 ghost use Rattle.simulation.specs.declared.command.Command.TheVariants.{Step as AsStep};
 
@@ -42,20 +42,20 @@ fn command_from(word: &str, arguments: Arguments) -> Option<Command>
     ensures read { (command : Command) → IsWritten word.now (listed arguments) command → result ≡ Some command }
 {
     let step = match arguments {
-        Arguments::None if word == "show" => return Some(Command::Show),
-        Arguments::None => step_alone(word)?,
+        Arguments::None => return command_alone(word),
         Arguments::One(n) => step_with_one(word, n)?,
         Arguments::Two(n, m) => step_with_two(word, n, m)?,
     };
     Some(Command::Step(step))
 }
 
-// The step of a word with no number.
-fn step_alone(word: &str) -> Option<Step<(), u64>>
-    ensures found { IfSome result (λ step. IsWritten word.now [] (AsStep step)) }
-    ensures read { (step : Step Unit ℕ) → IsWritten word.now [] (AsStep step) → result ≡ Some step }
+// The command of a word with no number.
+fn command_alone(word: &str) -> Option<Command>
+    ensures found { IfSome result (IsWritten word.now []) }
+    ensures read { (command : Command) → IsWritten word.now [] command → result ≡ Some command }
 {
-    Some(match word {
+    Some(Command::Step(match word {
+        "show" => return Some(Command::Show),
         "spawn" => Step::Spawn(()),
         "trytick" => Step::TryTick,
         "exchange" => Step::Exchange,
@@ -63,15 +63,14 @@ fn step_alone(word: &str) -> Option<Step<(), u64>>
         "tick" => Step::Tick,
         "run" => Step::Run,
         _ => return None,
-    })
+    }))
 }
 
-// The step of a word with one number: n where it is of a task, and k where it is of a ticker.
+// The step of a word with one number, which is of a task or of a ticker.
 fn step_with_one(word: &str, n: u64) -> Option<Step<(), u64>>
     ensures found { IfSome result (λ step. IsWritten word.now (n ∷ []) (AsStep step)) }
     ensures read { (step : Step Unit ℕ) → IsWritten word.now (n ∷ []) (AsStep step) → result ≡ Some step }
 {
-    let k = n as usize;
     Some(match word {
         "wake" => Step::Wake(n),
         "pend" => Step::Pend(n),
@@ -80,6 +79,17 @@ fn step_with_one(word: &str, n: u64) -> Option<Step<(), u64>>
         "detach" => Step::Detach(n),
         "drophandle" => Step::DropHandle(n),
         "dropped" => Step::Dropped(n),
+        _ => return step_of_ticker(word, n as usize),
+    })
+}
+
+// The step of a word with the number of a ticker.
+fn step_of_ticker(word: &str, k: usize) -> Option<Step<(), u64>>
+    ensures found { IfSome result (λ step. IsWritten word.now (k ∷ []) (AsStep step)) }
+    ensures read { (step : Step Unit ℕ) → is_of_ticker step ≡ true → IsWritten word.now (k ∷ []) (AsStep step)
+        → result ≡ Some step }
+{
+    Some(match word {
         "register" => Step::Register(k),
         "poll" => Step::Poll(k),
         "sleep" => Step::Sleep(k),
