@@ -7,6 +7,7 @@ ghost use Rattle.std.specs.Fmt.{decimal};
 ghost use Rattle.executor_core.specs.declared.interleave.request.Step.{Step};
 ghost use Rattle.simulation.specs.Grammar.{numbers_of, line_of, is_of_ticker, spaced, listed, AreInRange, IsWord, IsWritten, IsPlain};
 ghost use Rattle.simulation.specs.declared.command.Arguments.{Arguments};
+ghost use Rattle.simulation.specs.declared.command.Arguments.TheVariants.{Two};
 ghost use Rattle.simulation.specs.declared.command.Command.TheVariants.{Step as AsStep};
 
 use executor_core::interleave::Step;
@@ -137,8 +138,18 @@ fn arguments_of(text: &str) -> Option<Arguments>
 {
     match text.split_once(' ') {
         None => Some(Arguments::One(number_of(text)?)),
-        Some((first, second)) => Some(Arguments::Two(number_of(first)?, number_of(second)?)),
+        Some((first, second)) => two_arguments(first, second),
     }
+}
+
+// The two numbers of which these are the texts.
+fn two_arguments(first: &str, second: &str) -> Option<Arguments>
+    ensures found { IfSome result (λ arguments.
+        32 ∷ first.now ++ 32 ∷ second.now ≡ spaced (listed arguments)) }
+    ensures read { (n m : ℕ) → n < 2 ^ 64 → m < 2 ^ 64 → first.now ≡ decimal n → second.now ≡ decimal m
+        → result ≡ Some (Two n m) }
+{
+    Some(Arguments::Two(number_of(first)?, number_of(second)?))
 }
 
 // The number of which this is the decimal form.

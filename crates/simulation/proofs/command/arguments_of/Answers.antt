@@ -11,22 +11,6 @@ returns-in_err-number_of-in-None-clause-read c = λ a small e.
     let was : c.number_of.result ≡ None = c.in_err-number_of-in-None.was in
     absurd cc
 
-pub returns-in_err-number_of-in-Some-clause-read :
-    goal.returns-in_err-number_of-in-Some-clause-read
-returns-in_err-number_of-in-Some-clause-read c = λ a small e.
-    let two = two_numbers c.args.text.now a (c.in-Some.first, c.in-Some.second) c.in-Some.ensures.cases small e in
-    let read : c.number_of-in-Some.result ≡ Some two.0 = c.number_of-in-Some.ensures.read two.0 two.2 two.4 in
-    let was : c.number_of-in-Some.result ≡ None = c.in_err-number_of-in-Some.was in
-    absurd cc
-
-pub returns-in_err-number_of-in-Some-2-clause-read :
-    goal.returns-in_err-number_of-in-Some-2-clause-read
-returns-in_err-number_of-in-Some-2-clause-read c = λ a small e.
-    let two = two_numbers c.args.text.now a (c.in-Some.first, c.in-Some.second) c.in-Some.ensures.cases small e in
-    let read : c.number_of-in-Some-2.result ≡ Some two.1 = c.number_of-in-Some-2.ensures.read two.1 two.3 two.5 in
-    let was : c.number_of-in-Some-2.result ≡ None = c.in_err-number_of-in-Some-2.was in
-    absurd cc
-
 pub returns-in_ok-number_of-in-None-clause-read : goal.returns-in_ok-number_of-in-None-clause-read
 returns-in_ok-number_of-in-None-clause-read c = λ a small e.
     let one = one_number c.args.text.now a c.in-None.ensures.cases small e in
@@ -35,13 +19,9 @@ returns-in_ok-number_of-in-None-clause-read c = λ a small e.
     let is : a ≡ One one.0 = one.3 in
     cc
 
-pub returns-in_ok-number_of-in-Some-2-clause-read :
-    goal.returns-in_ok-number_of-in-Some-2-clause-read
-returns-in_ok-number_of-in-Some-2-clause-read c = λ a small e.
+pub returns-in-Some-clause-read : goal.returns-in-Some-clause-read
+returns-in-Some-clause-read c = λ a small e.
     let two = two_numbers c.args.text.now a (c.in-Some.first, c.in-Some.second) c.in-Some.ensures.cases small e in
-    let first : c.number_of-in-Some.result ≡ Some two.0 = c.number_of-in-Some.ensures.read two.0 two.2 two.4 in
-    let second : c.number_of-in-Some-2.result ≡ Some two.1 = c.number_of-in-Some-2.ensures.read two.1 two.3 two.5 in
-    let first_was : c.number_of-in-Some.result ≡ Some c.in_ok-number_of-in-Some.field-0 = c.in_ok-number_of-in-Some.was in
-    let second_was : c.number_of-in-Some-2.result ≡ Some c.in_ok-number_of-in-Some-2.field-0 = c.in_ok-number_of-in-Some-2.was in
+    let read : c.two_arguments.result ≡ Some (Two two.0 two.1) = c.two_arguments.ensures.read two.0 two.1 two.2 two.3 two.4 two.5 in
     let is : a ≡ Two two.0 two.1 = two.6 in
     cc
