@@ -14,16 +14,19 @@ macro_rules! lock {
 
 pub(crate) use lock;
 
-// How often a lock is tried again before the thread sleeps, each time after twice as long a pause.
-const TRIES: u32 = 7;
+// How long a thread pauses before it tries a lock again for the first time, and how often it tries.
+const FIRST_PAUSE: u32 = 256;
+const TRIES: u32 = 6;
 
 /// Waits for a lock that was not free. A hold is short beside the sleep and the waking of a thread,
-/// so the lock is tried again for a while before the thread sleeps.
+/// so the lock is tried again for a while before the thread sleeps, each time after twice as long a
+/// pause. The pauses are long beside a hold: what a lock guards goes from one processor to another
+/// with it, so a thread that tried it all the time would keep the others from what they do.
 #[cold]
 #[inline(never)]
 pub(crate) fn wait_for<'a, T, R: Wait>(mutex: &'a Mutex<T>, rt: &R) -> MutexGuard<'a, T> {
     for tries in 0..TRIES {
-        for _ in 0..1u32 << tries {
+        for _ in 0..FIRST_PAUSE << tries {
             spin_loop();
         }
         if let Some(guard) = mutex.try_lock() {
