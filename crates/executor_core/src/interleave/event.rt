@@ -1,7 +1,9 @@
 //! What happened to the tasks of a world, and the log of it.
-ghost use Rattle.std.specs.Prelude.{◌≡◌, ◌<◌, [], ◌∷◌, ◌++◌, length, cond};
+ghost use Rattle.std.specs.Prelude.{◌≡◌, ◌<◌, ⊤, [], ◌∷◌, ◌++◌, length, cond};
 ghost use Rattle.std.specs.Vec.{vec_capacity};
 ghost use Rattle.executor_core.specs.World.Steps.{purpose_of};
+
+use std::alloc::AllocError;
 
 /// What a task was taken for.
 #[derive(Debug, Clone, Copy, PartialEq)]
@@ -26,7 +28,7 @@ impl Purpose {
 }
 
 /// What happened to the task of this number.
-#[derive(Debug, Clone, Copy, PartialEq)]
+#[derive(Debug, Copy, PartialEq)]
 pub enum Event<T> {
     /// It was spawned.
     Spawned(u64),
@@ -44,6 +46,16 @@ pub enum Event<T> {
     Dropped(u64),
     /// Its handle gave this output.
     Got(u64, T),
+}
+
+impl<T: Copy> Clone for Event<T> {
+    ghost is_clone = { λ x y. y ≡ x };
+
+    ghost is_infallible = { λ _. ⊤ };
+
+    fn clone(&self) -> Result<Event<T>, AllocError> {
+        Ok(*self)
+    }
 }
 
 // Logs the event, where it happened.

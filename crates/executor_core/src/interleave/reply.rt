@@ -1,11 +1,12 @@
 //! What a world answers to a step.
-ghost use Rattle.std.specs.Prelude.{◌≡◌, is_some};
+ghost use Rattle.std.specs.Prelude.{◌≡◌, ⊤, is_some};
 ghost use Rattle.executor_core.specs.World.Steps.{notice_reply, take_reply, return_reply, ready_reply, output_reply, end_reply, pick_reply, sleeper_reply, removed_reply};
 
 use crate::task::{EndReady, Wakeup};
+use std::alloc::AllocError;
 
 /// What a step answers.
-#[derive(Debug, Clone, Copy, PartialEq)]
+#[derive(Debug, Copy, PartialEq)]
 pub enum Reply<T> {
     /// The task of this number was spawned.
     Task(u64),
@@ -68,6 +69,16 @@ pub enum Reply<T> {
     NotNow,
     /// Refused: a growth of memory was.
     OutOfMemory,
+}
+
+impl<T: Copy> Clone for Reply<T> {
+    ghost is_clone = { λ x y. y ≡ x };
+
+    ghost is_infallible = { λ _. ⊤ };
+
+    fn clone(&self) -> Result<Reply<T>, AllocError> {
+        Ok(*self)
+    }
 }
 
 // Whether an awaiter came out. A world's wakers are units, and there is nothing more to wake.
