@@ -1,9 +1,11 @@
 //! Takes the lines of a test in turn.
-use crate::future::{Kind, TestFuture, WakerPlace};
+use crate::future::{Kind, WakerPlace};
 use crate::halt::Halt;
 use crate::line::{Answer, Line};
 use crate::record::{Moment, Record};
-use crate::task::{Entry, Handle, TaskFuture, TestExecutor, TestTicker, Ticker, spawned};
+use crate::task::{
+    Entry, Handle, LentHandle, TaskFuture, TestExecutor, TestTicker, Ticker, spawned,
+};
 use crate::waker::TestWaker;
 use async_executor::executor::Executor;
 use executor_core::task::{Future, Wake};
@@ -21,40 +23,28 @@ const MOST_TICKS: u64 = 1_000;
 enum Call<T, R: Wait + Clone + Drop + Send + Sync> {
     Tick(Arc<TestExecutor<R>>),
     Spawn(Arc<TestExecutor<R>>, TaskFuture<R>),
-    Poll(usize, Handle<T, R>, TestWaker),
+    Poll(LentHandle<T, R>),
     Detach(Handle<T, R>),
     Drop(Handle<T, R>),
 }
 
-// What a call gives back: its answer, and the task's handle and waker where it polled.
+// What a call gives back: its answer, and the handle that it polled.
 #[derive(Drop)]
 struct Return<T, R: Wait + Clone + Drop + Send + Sync> {
     answer: Answer,
-    polled: Option<(usize, Handle<T, R>, TestWaker)>,
+    polled: Option<LentHandle<T, R>>,
 }
 
 impl<T: TestTicker<R>, R: Wait + Clone + Drop + Send + Sync> Call<T, R> {
     fn make(self) -> Return<T, R> {
         let answer = match self {
-            Call::Tick(ex) => {
-                if ex.try_tick() {
-                    Answer::Ticked
-                } else {
-                    Answer::Idle
-                }
-            }
-            Call::Spawn(ex, future) => match ex.spawn(future) {
-                Ok(task) => {
-                    task.detach();
-                    Answer::Gone
-                }
-                Err(_) => Answer::Idle,
-            },
-            Call::Poll(task, mut handle, waker) => {
-                let (answer, _) = handle.poll(&waker);
+            Call::Tick(ex) => answer_of_tick(&ex),
+            Call::Spawn(ex, future) => answer_of_spawn(&ex, future),
+            Call::Poll(mut lent) => {
+                let answer = lent.poll();
                 return Return {
                     answer,
-                    polled: Some((task, handle, waker)),
+                    polled: Some(lent),
                 };
             }
             Call::Detach(handle) => {
@@ -70,6 +60,27 @@ impl<T: TestTicker<R>, R: Wait + Clone + Drop + Send + Sync> Call<T, R> {
             answer,
             polled: None,
         }
+    }
+}
+
+fn answer_of_tick<R: Wait + Clone + Drop + Send + Sync>(ex: &TestExecutor<R>) -> Answer {
+    if ex.try_tick() {
+        Answer::Ticked
+    } else {
+        Answer::Idle
+    }
+}
+
+fn answer_of_spawn<R: Wait + Clone + Drop + Send + Sync>(
+    ex: &TestExecutor<R>,
+    future: TaskFuture<R>,
+) -> Answer {
+    match ex.spawn(future) {
+        Ok(task) => {
+            task.detach();
+            Answer::Gone
+        }
+        Err(_) => Answer::Idle,
     }
 }
 
@@ -258,12 +269,13 @@ impl<'s, E: 's, T: TestTicker<R> + 's, R: Wait + Threads + Clone + Drop + Send +
     }
 
     fn poll_halts(&mut self, task: usize) -> Result<bool, Fail> {
-        let Some(entry) = self.entries.get_mut(task) else {
-            return Ok(false);
+        let lent = match self.entries.get_mut(task) {
+            Some(entry) => entry.lend(task),
+            None => None,
         };
-        match (entry.handle.take(), entry.waker.take()) {
-            (Some(handle), Some(waker)) => self.start(Call::Poll(task, handle, waker)),
-            _ => Ok(false),
+        match lent {
+            Some(lent) => self.start(Call::Poll(lent)),
+            None => Ok(false),
         }
     }
 
@@ -290,22 +302,27 @@ impl<'s, E: 's, T: TestTicker<R> + 's, R: Wait + Threads + Clone + Drop + Send +
 
     // Lets the other thread go on, and gives what its call answers, where it halted in time.
     fn returned(&mut self) -> Option<Answer> {
-        let Some(other) = self.other.take() else {
-            return None;
-        };
+        let other = self.other.take()?;
         self.halt.open();
-        let Return { answer, polled } = other.join(&self.rt);
-        if let Some((task, handle, waker)) = polled {
-            if let Some(entry) = self.entries.get_mut(task) {
-                entry.handle = Some(handle);
-                entry.waker = Some(waker);
-            }
-        }
+        let returned = other.join(&self.rt);
+        let answer = self.take_back(returned);
         if self.halt.was_passed() {
             Some(answer)
         } else {
             None
         }
+    }
+
+    // Puts the handle that was polled back, and gives the answer.
+    fn take_back(&mut self, returned: Return<T, R>) -> Answer {
+        let Return { answer, polled } = returned;
+        if let Some(lent) = polled {
+            match self.entries.get_mut(lent.task) {
+                Some(entry) => entry.put_back(lent),
+                None => drop(lent),
+            }
+        }
+        answer
     }
 
     fn wake_elsewhere(&mut self, task: usize) -> Result<bool, Fail> {
@@ -328,7 +345,7 @@ fn ready_future<R: Wait + Clone + Drop + Send + Sync>(
     alloc: Global,
 ) -> Result<TaskFuture<R>, AllocError> {
     let place = WakerPlace::new(alloc)?;
-    TestFuture::new(Kind::Ready(0), place, record)
+    TaskFuture::new(Kind::Ready(0), place, record)
 }
 
 fn spawn_detached<R: Wait + Clone + Drop + Send + Sync>(

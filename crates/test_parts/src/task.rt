@@ -13,8 +13,33 @@ use std::test::Fail;
 /// The wakers that futures are polled with.
 pub type FutureWaker<R> = TaskWaker<TestWaker, R>;
 
-/// The futures of a test.
-pub type TaskFuture<R> = TestFuture<FutureWaker<R>>;
+/// The futures of a test. They are a type of their own, with no bound but those of R, since what is
+/// generic over them takes long to be proved.
+#[derive(Drop)]
+pub struct TaskFuture<R: Wait + Clone + Drop + Send + Sync> {
+    inner: TestFuture<FutureWaker<R>>,
+}
+
+impl<R: Wait + Clone + Drop + Send + Sync> TaskFuture<R> {
+    /// A future of this kind, which leaves its waker at this place.
+    pub fn new(
+        kind: Kind,
+        place: WakerPlace<FutureWaker<R>>,
+        record: &Record,
+    ) -> Result<TaskFuture<R>, AllocError> {
+        Ok(TaskFuture {
+            inner: TestFuture::new(kind, place, record)?,
+        })
+    }
+}
+
+impl<R: Wait + Clone + Drop + Send + Sync> Future<FutureWaker<R>> for TaskFuture<R> {
+    type Output = Output;
+
+    fn poll(&mut self, w: &FutureWaker<R>) -> Poll<Output> {
+        self.inner.poll(w)
+    }
+}
 
 /// The executors of a test.
 pub type TestExecutor<R> = Executor<TaskFuture<R>, TestWaker, R>;
@@ -136,6 +161,21 @@ impl<T: TestTicker<R>, R: Wait + Clone + Drop + Send + Sync> Handle<T, R> {
     }
 }
 
+/// A handle that another thread polls, by the waker that it has, and the number of its task.
+#[derive(Drop)]
+pub struct LentHandle<T, R: Wait + Clone + Drop + Send + Sync> {
+    pub task: usize,
+    handle: Handle<T, R>,
+    waker: TestWaker,
+}
+
+impl<T: TestTicker<R>, R: Wait + Clone + Drop + Send + Sync> LentHandle<T, R> {
+    /// What a poll answers. An output is dropped.
+    pub fn poll(&mut self) -> Answer {
+        self.handle.poll(&self.waker).0
+    }
+}
+
 /// What a task, a tick or a run of a test is recorded by: the waker that it is polled by, the place
 /// where its future leaves its waker, and its records.
 #[derive(Drop)]
@@ -178,7 +218,7 @@ fn own_future(kind: Kind, alloc: Global, record: &Record) -> Result<OwnFuture, A
 #[derive(Drop)]
 pub struct Entry<T, R: Wait + Clone + Drop + Send + Sync> {
     pub handle: Option<Handle<T, R>>,
-    pub waker: Option<TestWaker>,
+    waker: Option<TestWaker>,
     first: Option<TestWaker>,
     output: Option<Output>,
     place: WakerPlace<FutureWaker<R>>,
@@ -213,7 +253,7 @@ impl<T: TestTicker<R>, R: Wait + Clone + Drop + Send + Sync> Entry<T, R> {
         halt: &Halt,
     ) -> Result<Entry<T, R>, Fail> {
         let parts = Parts::new(alloc, halt)?;
-        let future = TestFuture::new(kind, parts.place.share()?, &parts.record)?;
+        let future = TaskFuture::new(kind, parts.place.share()?, &parts.record)?;
         let task = spawned(ex, future)?;
         Ok(Entry::of(parts, Handle::Task(task)))
     }
@@ -279,6 +319,24 @@ impl<T: TestTicker<R>, R: Wait + Clone + Drop + Send + Sync> Entry<T, R> {
             self.output = output;
         }
         Some(answer)
+    }
+
+    /// Lends the handle of the task, which has this number, and the waker that it is polled by.
+    pub fn lend(&mut self, task: usize) -> Option<LentHandle<T, R>> {
+        let waker = self.waker.take()?;
+        let handle = self.handle.take()?;
+        Some(LentHandle {
+            task,
+            handle,
+            waker,
+        })
+    }
+
+    /// Takes back what was lent.
+    pub fn put_back(&mut self, lent: LentHandle<T, R>) {
+        let LentHandle { handle, waker, .. } = lent;
+        self.handle = Some(handle);
+        self.waker = Some(waker);
     }
 
     fn is_finished(&self) -> Option<bool> {

@@ -7,7 +7,7 @@ use std::sync::atomic::{AtomicU64, Ordering};
 use std::test::Fail;
 use std::thread;
 use std::thread::{Threads, yield_now};
-use test_parts::future::{Kind, TestFuture, WakerPlace};
+use test_parts::future::{Kind, WakerPlace};
 use test_parts::halt::{Halt, TURNS};
 use test_parts::record::{Moment, Record};
 use test_parts::task::{FutureWaker, TaskFuture, spawned};
@@ -49,7 +49,7 @@ impl<R: Wait + Clone + Drop + Send + Sync + AllocGlobal> Fixture<R> {
 
 impl<R: Wait + Clone + Drop + Send + Sync> Fixture<R> {
     fn future(&self, kind: Kind) -> Result<TaskFuture<R>, AllocError> {
-        TestFuture::new(kind, self.place.share()?, &self.record)
+        TaskFuture::new(kind, self.place.share()?, &self.record)
     }
 
     fn task(&self, kind: Kind) -> Option<TestTask<R>> {
