@@ -1,7 +1,7 @@
 //! The futures that the callers spawn, and the waker that they ask with.
 //!
-//! `Sum`, `Counted` and `Job` take the waker of a task alone, with which an executor polls: a caller
-//! is proved sooner where a future is one for no other waker.
+//! They take the waker of a task alone, with which an executor polls: a caller is proved sooner where
+//! a future is one for no other waker.
 use async_executor::{Future, OutOfMemory, Poll, TaskWaker, Wake};
 use std::alloc::{AllocError, Global};
 use std::sync::atomic::{AtomicU64, Ordering};
@@ -97,20 +97,20 @@ impl<W: Wake, R: Wait + Clone + Drop> Future<TaskWaker<W, R>> for Job {
 
 /// What a `Receiver` shares with its sender: the number that was sent, and the waker to be woken.
 #[derive(Drop)]
-pub struct Channel<V> {
+pub struct Channel<R: Wait + Clone + Drop> {
     number: Option<u64>,
-    waker: Option<V>,
+    waker: Option<TaskWaker<Nobody, R>>,
 }
 
 /// Gives the number that another party sends.
 #[derive(Drop)]
-pub struct Receiver<V> {
-    channel: Arc<Mutex<Channel<V>>>,
+pub struct Receiver<R: Wait + Clone + Drop> {
+    channel: Arc<Mutex<Channel<R>>>,
 }
 
-impl<V: Wake> Receiver<V> {
+impl<R: Wait + Clone + Drop> Receiver<R> {
     /// The receiver of a new channel, and the sender's share of it.
-    pub fn new(alloc: Global) -> Result<(Receiver<V>, Arc<Mutex<Channel<V>>>), AllocError> {
+    pub fn new(alloc: Global) -> Result<(Receiver<R>, Arc<Mutex<Channel<R>>>), AllocError> {
         let channel = Channel {
             number: None,
             waker: None,
@@ -124,12 +124,12 @@ impl<V: Wake> Receiver<V> {
     }
 }
 
-impl<V: Wake> Future<V> for Receiver<V> {
+impl<R: Wait + Clone + Drop> Future<TaskWaker<Nobody, R>> for Receiver<R> {
     type Output = u64;
 
     /// A copy of the waker stays in the channel until the number is sent. Where it cannot be left
     /// there, another poll is asked for.
-    fn poll(&mut self, w: &V) -> Poll<u64> {
+    fn poll(&mut self, w: &TaskWaker<Nobody, R>) -> Poll<u64> {
         let (Ok(waker), Some(mut channel)) = (w.copy(), self.channel.try_lock()) else {
             w.wake();
             return Poll::Pending;
@@ -146,7 +146,7 @@ impl<V: Wake> Future<V> for Receiver<V> {
 
 /// Sends the number to the receiver, and has it polled again. The waker is woken after the lock is
 /// given up.
-pub fn send<V: Wake>(rt: &impl Wait, sender: &Mutex<Channel<V>>, number: u64) {
+pub fn send<R: Wait + Clone + Drop>(rt: &R, sender: &Mutex<Channel<R>>, number: u64) {
     let mut channel = sender.lock(rt);
     channel.number = Some(number);
     let waker = channel.waker.take();

@@ -6,15 +6,16 @@ mod futures;
 mod parking;
 mod pooling;
 
-use async_executor::{Cancelled, Executor, Future, OutOfMemory, Poll, TaskWaker, Wake};
+use async_executor::{Cancelled, Executor, Future, OutOfMemory, Poll, Task, TaskWaker, Wake};
 use calling::{asks_again, gives_back};
 use executor_core::interleave::{Reply, Step, World};
-use futures::{Job, Nobody, Receiver, Sum, send};
+use futures::{Channel, Job, Nobody, Receiver, Sum, send};
 use parking::parks;
 use pooling::pools;
 use std::alloc::Global;
+use std::fmt::Debug;
 use std::io;
-use std::sync::Wait;
+use std::sync::{Mutex, Wait};
 use std::thread::{self, Threads};
 
 /// Runs a task until nothing is scheduled, and asks its handle for the output.
@@ -24,10 +25,37 @@ where
     F::Output: Send,
     R: Wait + Clone + Drop + Send + Sync,
 {
-    let executor = Executor::new(rt.clone().ok()?, alloc).ok()?;
+    let executor = executor(rt, alloc)?;
     let mut task = executor.spawn(future).ok()?;
     run_all(rt, &executor);
     output_of(task.poll(&Nobody))
+}
+
+// An executor that has no task yet.
+pub(crate) fn executor<F, W, R>(rt: &R, alloc: Global) -> Option<Executor<F, W, R>>
+where
+    F: Future<TaskWaker<W, R>> + Send,
+    F::Output: Send,
+    W: Wake + Send,
+    R: Wait + Clone + Drop + Send + Sync,
+{
+    Executor::new(rt.clone().ok()?, alloc).ok()
+}
+
+// The handles of two tasks, where both could be spawned.
+pub(crate) fn two_tasks<F, W, R>(
+    executor: &Executor<F, W, R>,
+    one: F,
+    two: F,
+) -> Option<(Task<F, W, R>, Task<F, W, R>)>
+where
+    F: Future<TaskWaker<W, R>> + Send,
+    F::Output: Send,
+    W: Wake + Send,
+    R: Wait + Clone + Drop + Send + Sync,
+{
+    let one = executor.spawn(one).ok();
+    one.zip(executor.spawn(two).ok())
 }
 
 // Runs tasks until nothing is scheduled.
@@ -46,11 +74,32 @@ where
 }
 
 // The output, where a poll of a handle gave one.
-pub(crate) fn output_of<T: Drop>(answer: Poll<Result<T, Cancelled>>) -> Option<T> {
+fn output_of<T: Drop>(answer: Poll<Result<T, Cancelled>>) -> Option<T> {
     match answer {
         Poll::Ready(Ok(output)) => Some(output),
         Poll::Ready(Err(_)) | Poll::Pending => None,
     }
+}
+
+// The outputs of two tasks, where both have ended.
+pub(crate) fn two_outputs<F, W, R>(
+    tasks: Option<(Task<F, W, R>, Task<F, W, R>)>,
+    w: &W,
+) -> Option<(F::Output, F::Output)>
+where
+    F: Future<TaskWaker<W, R>> + Send,
+    F::Output: Send,
+    W: Wake + Send,
+    R: Wait + Clone + Drop + Send + Sync,
+{
+    let (mut one, mut two) = tasks?;
+    output_of(one.poll(w)).zip(output_of(two.poll(w)))
+}
+
+// The sum of two outputs.
+pub(crate) fn added(outputs: Option<(u64, u64)>) -> Option<u64> {
+    let (first, second) = outputs?;
+    first.checked_add(second)
 }
 
 /// Lets a task run on without a handle. The executor is empty once its future was dropped.
@@ -106,13 +155,22 @@ fn lets_go<R: Wait + Clone + Drop + Send + Sync>(
     Some(cancel.poll(&Nobody))
 }
 
+// Spawns a task whose handle nobody keeps.
+fn leaves<R: Wait + Clone + Drop + Send + Sync>(
+    executor: &Executor<Sum, Nobody, R>,
+    sum: Sum,
+) -> Option<()> {
+    executor.spawn(sum).ok()?.detach();
+    Some(())
+}
+
 /// Runs one task by a tick. While none is scheduled the tick sleeps, and a spawn wakes it.
 fn sleeps<R: Wait + Clone + Drop + Send + Sync>(
     executor: &Executor<Sum, Nobody, R>,
 ) -> Option<(Poll<()>, Poll<()>)> {
     let mut tick = executor.tick().ok()?;
     let asleep = tick.poll(&Nobody);
-    executor.spawn(Sum::of(1, 2)).ok()?.detach();
+    leaves(executor, Sum::of(1, 2))?;
     let woken = tick.poll(&Nobody);
     // The first poll of the task asked for another one.
     executor.try_tick();
@@ -121,11 +179,10 @@ fn sleeps<R: Wait + Clone + Drop + Send + Sync>(
 
 /// Runs futures of two kinds on one executor.
 fn mixes<R: Wait + Clone + Drop + Send + Sync>(rt: &R, alloc: Global) -> Option<(u64, u64)> {
-    let executor = Executor::new(rt.clone().ok()?, alloc).ok()?;
-    let mut add = executor.spawn(Job::Add(Sum::of(1, 2))).ok()?;
-    let mut give = executor.spawn(Job::Give(7)).ok()?;
+    let executor = executor(rt, alloc)?;
+    let tasks = two_tasks(&executor, Job::Add(Sum::of(1, 2)), Job::Give(7));
     run_all(rt, &executor);
-    output_of(add.poll(&Nobody)).zip(output_of(give.poll(&Nobody)))
+    two_outputs(tasks, &Nobody)
 }
 
 /// Runs a future on the heap, of which only the address is moved at each poll.
@@ -136,24 +193,21 @@ fn boxes<R: Wait + Clone + Drop + Send + Sync>(rt: &R, alloc: Global) -> Option<
 /// Runs a task that waits for a number, which another party sends through the waker that it left.
 fn receives<R: Wait + Clone + Drop + Send + Sync>(rt: &R, alloc: Global) -> Option<u64> {
     let (receiver, sender) = Receiver::new(alloc).ok()?;
-    awaits(rt, alloc, receiver, || send(rt, &sender, 5))
+    awaits(rt, &executor(rt, alloc)?, receiver, &sender)
 }
 
-// Runs a task that waits for what another party does: nothing is scheduled until it has done it.
-fn awaits<F, R, P>(rt: &R, alloc: Global, future: F, other: P) -> Option<F::Output>
-where
-    F: Future<TaskWaker<Nobody, R>> + Send,
-    F::Output: Send,
-    R: Wait + Clone + Drop + Send + Sync,
-    P: FnOnce(),
-    requires { P.IsAlwaysCallable other }
-{
-    let executor = Executor::new(rt.clone().ok()?, alloc).ok()?;
-    let mut task = executor.spawn(future).ok()?;
-    run_all(rt, &executor);
+// Runs a task that waits for its number: nothing is scheduled until it is sent.
+fn awaits<R: Wait + Clone + Drop + Send + Sync>(
+    rt: &R,
+    executor: &Executor<Receiver<R>, Nobody, R>,
+    receiver: Receiver<R>,
+    sender: &Mutex<Channel<R>>,
+) -> Option<u64> {
+    let mut task = executor.spawn(receiver).ok()?;
+    run_all(rt, executor);
     let is_early = task.is_finished();
-    other();
-    run_all(rt, &executor);
+    send(rt, sender, 5);
+    run_all(rt, executor);
     if is_early {
         None
     } else {
@@ -166,8 +220,8 @@ fn shares<R: Wait + Threads + Clone + Drop + Send + Sync>(
     rt: &R,
     executor: &Executor<Sum, Nobody, R>,
 ) -> Option<bool> {
-    executor.spawn(Sum::of(1, 2)).ok()?.detach();
-    executor.spawn(Sum::of(3, 4)).ok()?.detach();
+    leaves(executor, Sum::of(1, 2))?;
+    leaves(executor, Sum::of(3, 4))?;
     thread::join(rt, || run_all(rt, executor), || run_all(rt, executor));
     Some(executor.is_empty())
 }
@@ -182,16 +236,22 @@ fn interleaves(alloc: Global) -> Option<bool> {
     Some(matches!(world.step(Step::Pend(0)), Reply::Queued(0)))
 }
 
+// Prints the answer of a caller below its name. It is printed here alone, since a call of this
+// function is proved sooner than the parts of a line.
+fn print(rt: &impl Print, caller: &str, answer: &impl Debug) -> io::Result<()> {
+    println!(rt; "{caller}: {answer:?}")
+}
+
 // The callers that share one executor.
 fn call_each<R: Wait + Threads + Clone + Drop + Send + Sync + Print>(
     rt: &R,
     executor: &Executor<Sum, Nobody, R>,
 ) -> io::Result<()> {
-    println!(rt; "detaches: {}", detaches(executor))?;
-    println!(rt; "cancels: {:?}", cancels(executor))?;
-    println!(rt; "drops: {}", drops(executor))?;
-    println!(rt; "falls_back: {:?}", falls_back(rt, executor))?;
-    println!(rt; "lets_go: {:?}", lets_go(rt, executor))?;
+    print(rt, "detaches", &detaches(executor))?;
+    print(rt, "cancels", &cancels(executor))?;
+    print(rt, "drops", &drops(executor))?;
+    print(rt, "falls_back", &falls_back(rt, executor))?;
+    print(rt, "lets_go", &lets_go(rt, executor))?;
     call_last(rt, executor)
 }
 
@@ -200,10 +260,10 @@ fn call_last<R: Wait + Threads + Clone + Drop + Send + Sync + Print>(
     rt: &R,
     executor: &Executor<Sum, Nobody, R>,
 ) -> io::Result<()> {
-    println!(rt; "sleeps: {:?}", sleeps(executor))?;
-    println!(rt; "shares: {:?}", shares(rt, executor))?;
+    print(rt, "sleeps", &sleeps(executor))?;
+    print(rt, "shares", &shares(rt, executor))?;
     match asks(rt, executor) {
-        Some(answers) => println!(rt; "asks_again: {answers:?}"),
+        Some(answers) => print(rt, "asks_again", &answers),
         None => Ok(()),
     }
 }
@@ -223,17 +283,17 @@ fn call_alone<R: Wait + Threads + Clone + Drop + Send + Sync + Print>(
     rt: &R,
     alloc: Global,
 ) -> io::Result<()> {
-    println!(rt; "mixes: {:?}", mixes(rt, alloc))?;
-    println!(rt; "boxes: {:?}", boxes(rt, alloc))?;
-    println!(rt; "receives: {:?}", receives(rt, alloc))?;
-    println!(rt; "parks: {:?}", parks(rt, alloc))?;
-    println!(rt; "pools: {:?}", pools(rt, alloc))?;
-    println!(rt; "interleaves: {:?}", interleaves(alloc))
+    print(rt, "mixes", &mixes(rt, alloc))?;
+    print(rt, "boxes", &boxes(rt, alloc))?;
+    print(rt, "receives", &receives(rt, alloc))?;
+    print(rt, "parks", &parks(rt, alloc))?;
+    print(rt, "pools", &pools(rt, alloc))?;
+    print(rt, "interleaves", &interleaves(alloc))
 }
 
 fn main(rt: HostRuntime) -> io::Result<()> {
     let alloc = rt.alloc();
-    println!(rt; "runs: {:?}", runs(&rt, alloc, Sum::of(1, 2)))?;
+    print(&rt, "runs", &runs(&rt, alloc, Sum::of(1, 2)))?;
     match Executor::new(rt.clone()?, alloc) {
         Ok(executor) => call_each(&rt, &executor)?,
         Err(OutOfMemory) => println!(rt; "{OutOfMemory}")?,

@@ -1,6 +1,6 @@
 //! Threads that run the tasks of one executor, and park while none is scheduled.
 use crate::futures::{Counted, Sum};
-use crate::output_of;
+use crate::{added, executor, two_outputs, two_tasks};
 use async_executor::{Executor, Future, OutOfMemory, Poll, Task, Wake};
 use std::alloc::{AllocError, Global};
 use std::sync::atomic::{AtomicU64, Ordering};
@@ -62,9 +62,8 @@ impl<R: Wait + Clone + Drop + Send + Sync> Crew<R> {
     fn new(rt: &R, alloc: Global) -> Option<Crew<R>> {
         let wakers = three_wakers(alloc)?;
         let left = Arc::new(alloc, AtomicU64::new(0)).ok()?;
-        let executor = Executor::new(rt.clone().ok()?, alloc).ok()?;
         Some(Crew {
-            executor,
+            executor: executor(rt, alloc)?,
             left,
             wakers,
         })
@@ -107,7 +106,7 @@ impl<R: Wait + Clone + Drop + Send + Sync> Crew<R> {
     }
 }
 
-fn three_wakers(alloc: Global) -> Option<[ThreadWaker; 3]> {
+pub fn three_wakers(alloc: Global) -> Option<[ThreadWaker; 3]> {
     let first = ThreadWaker::new(alloc).ok()?;
     let second = ThreadWaker::new(alloc).ok()?;
     let third = ThreadWaker::new(alloc).ok()?;
@@ -120,23 +119,15 @@ fn drives<R: Wait + Threads + Clone + Drop + Send + Sync>(
     crew: &Crew<R>,
     one: Counted,
     two: Counted,
-) -> (Option<CrewTask<R>>, Option<CrewTask<R>>) {
+) -> Option<(CrewTask<R>, CrewTask<R>)> {
     let [mine, second, third] = &crew.wakers;
     thread::scope(thread::scope_env(), rt, |scope| {
         let _ = scope.spawn(move || crew.work(rt, second));
         let _ = scope.spawn(move || crew.work(rt, third));
-        let tasks = (crew.executor.spawn(one).ok(), crew.executor.spawn(two).ok());
+        let tasks = two_tasks(&crew.executor, one, two);
         crew.work(rt, mine);
         tasks
     })
-}
-
-// The output of a task that has ended.
-fn output<R: Wait + Clone + Drop + Send + Sync>(
-    task: Option<CrewTask<R>>,
-    mine: &ThreadWaker,
-) -> Option<u64> {
-    output_of(task?.poll(mine))
 }
 
 /// Runs tasks on three threads, each by ticks of its own, and adds their outputs. A thread that
@@ -144,8 +135,7 @@ fn output<R: Wait + Clone + Drop + Send + Sync>(
 pub fn parks<R: Wait + Threads + Clone + Drop + Send + Sync>(rt: &R, alloc: Global) -> Option<u64> {
     let crew = Crew::new(rt, alloc)?;
     let (one, two) = crew.future(Sum::of(1, 2)).zip(crew.future(Sum::of(3, 4)))?;
-    let (add, more) = drives(rt, &crew, one, two);
+    let tasks = drives(rt, &crew, one, two);
     let [mine, _, _] = &crew.wakers;
-    let (first, second) = (output(add, mine), output(more, mine));
-    first?.checked_add(second?)
+    added(two_outputs(tasks, mine))
 }

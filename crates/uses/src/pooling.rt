@@ -1,26 +1,25 @@
 //! A pool of threads that run the tasks of one executor, each by a run, until they are told to stop.
 use crate::futures::Sum;
-use crate::parking::{ThreadWaker, block_on};
+use crate::parking::{ThreadWaker, block_on, three_wakers};
+use crate::{added, executor, two_tasks};
 use async_executor::{Executor, Future, Poll, Run, Wake};
 use std::alloc::Global;
 use std::sync::Wait;
 use std::sync::atomic::{AtomicBool, Ordering};
 use std::thread::{self, Threads};
 
-/// Tells the threads of a pool to stop.
+/// Tells the threads of a pool to stop. The last thread is the one that tells the others.
 #[derive(Drop)]
 struct Stop {
     is_told: AtomicBool,
-    threads: [ThreadWaker; 2],
+    threads: [ThreadWaker; 3],
 }
 
 impl Stop {
     fn new(alloc: Global) -> Option<Stop> {
-        let first = ThreadWaker::new(alloc).ok()?;
-        let second = ThreadWaker::new(alloc).ok()?;
         Some(Stop {
+            threads: three_wakers(alloc)?,
             is_told: AtomicBool::new(false),
-            threads: [first, second],
         })
     }
 
@@ -58,9 +57,9 @@ fn two_runs<'a, R: Wait + Clone + Drop + Send + Sync>(
     executor: &'a Pool<R>,
     stop: &'a Stop,
 ) -> Option<(Worker<'a, R>, Worker<'a, R>)> {
-    let one = executor.run(Stopped { stop }).ok()?;
-    let two = executor.run(Stopped { stop }).ok()?;
-    Some((one, two))
+    let one = executor.run(Stopped { stop }).ok();
+    let two = executor.run(Stopped { stop }).ok();
+    one.zip(two)
 }
 
 // Awaits two tasks, and adds their outputs.
@@ -69,11 +68,22 @@ fn sum<R: Wait + Clone + Drop + Send + Sync>(
     executor: &Pool<R>,
     mine: &ThreadWaker,
 ) -> Option<u64> {
-    let mut add = executor.spawn(Sum::of(1, 2)).ok()?;
-    let mut more = executor.spawn(Sum::of(3, 4)).ok()?;
-    let first = block_on(rt, mine, &mut add);
-    let second = block_on(rt, mine, &mut more);
-    first.ok()?.checked_add(second.ok()?)
+    let (mut add, mut more) = two_tasks(executor, Sum::of(1, 2), Sum::of(3, 4))?;
+    let first = block_on(rt, mine, &mut add).ok();
+    let second = block_on(rt, mine, &mut more).ok();
+    added(first.zip(second))
+}
+
+// The sum, after which the threads stop.
+fn total<R: Wait + Clone + Drop + Send + Sync>(
+    rt: &R,
+    executor: &Pool<R>,
+    stop: &Stop,
+    mine: &ThreadWaker,
+) -> Option<u64> {
+    let total = sum(rt, executor, mine);
+    stop.tell();
+    total
 }
 
 // Drives each run on a thread of its own until the sum is there.
@@ -82,27 +92,25 @@ fn drives<R: Wait + Threads + Clone + Drop + Send + Sync>(
     executor: &Pool<R>,
     stop: &Stop,
     runs: (Worker<'_, R>, Worker<'_, R>),
-    mine: &ThreadWaker,
 ) -> Option<u64> {
-    let [first, second] = &stop.threads;
+    let [first, second, mine] = &stop.threads;
     let (mut one, mut two) = runs;
+    let (one, two) = (&mut one, &mut two);
     thread::scope(thread::scope_env(), rt, |scope| {
-        let is_first = scope.spawn(move || block_on(rt, first, &mut one)).is_ok();
-        let is_second = scope.spawn(move || block_on(rt, second, &mut two)).is_ok();
-        if !is_first && !is_second {
-            return None;
+        let is_first = scope.spawn(move || block_on(rt, first, one)).is_ok();
+        let is_second = scope.spawn(move || block_on(rt, second, two)).is_ok();
+        if is_first || is_second {
+            total(rt, executor, stop, mine)
+        } else {
+            None
         }
-        let total = sum(rt, executor, mine);
-        stop.tell();
-        total
     })
 }
 
 /// Runs tasks on two threads, and adds their outputs on a third, which parks until they are there.
 pub fn pools<R: Wait + Threads + Clone + Drop + Send + Sync>(rt: &R, alloc: Global) -> Option<u64> {
-    let mine = ThreadWaker::new(alloc).ok()?;
     let stop = Stop::new(alloc)?;
-    let executor = Executor::new(rt.clone().ok()?, alloc).ok()?;
+    let executor = executor(rt, alloc)?;
     let runs = two_runs(&executor, &stop)?;
-    drives(rt, &executor, &stop, runs, &mine)
+    drives(rt, &executor, &stop, runs)
 }
