@@ -16,6 +16,7 @@ pub(crate) use lock;
 
 // How long a thread pauses before it tries a lock again for the first time, and how often it tries.
 const FIRST_PAUSE: u32 = 256;
+
 const TRIES: u32 = 6;
 
 /// Waits for a lock that was not free. A hold is short beside the sleep and the waking of a thread,
