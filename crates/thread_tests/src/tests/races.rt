@@ -94,28 +94,11 @@ impl<R: Wait + Clone + Drop + Send + Sync> Fixture<R> {
             let Some(mut task) = self.task(Kind::Yields(1)) else {
                 return;
             };
-            if self.awaited(&mut task) == Some(2) {
+            if awaited(&mut task, &self.waker) == Some(2) {
                 self.good.fetch_add(1, Ordering::SeqCst);
             }
         }
         self.done.fetch_add(1, Ordering::SeqCst);
-    }
-
-    // What the task gives in the end.
-    fn awaited(&self, task: &mut TestTask<R>) -> Option<u64> {
-        for _ in 0..TURNS {
-            match task.poll(&self.waker) {
-                Poll::Pending => yield_now(),
-                Poll::Ready(Ok(output)) => return Some(output.number),
-                Poll::Ready(Err(_)) => return None,
-            }
-        }
-        None
-    }
-
-    // The same, after which its handle is dropped.
-    fn awaited_last(&self, mut task: TestTask<R>) -> Option<u64> {
-        self.awaited(&mut task)
     }
 
     // Spawns and gives up tasks, and runs tasks, until all of them are over.
@@ -154,7 +137,7 @@ impl<R: Wait + Clone + Drop + Send + Sync> Fixture<R> {
     }
 
     // Lets finished tasks go, whose outputs halt in their drop.
-    fn lets_go(&self, mut tasks: Vec<TestTask<R>>) {
+    fn lets_go(&self, tasks: &mut Vec<TestTask<R>>) {
         for i in 0..OUTPUTS {
             if let Some(task) = tasks.pop() {
                 give_up(task, i % 2 == 0);
@@ -172,6 +155,29 @@ fn with_task<R: AllocGlobal + Wait + Clone + Drop + Send + Sync>(
     let future = all.future(Kind::Ready(7))?;
     let task = spawned(&all.ex, future)?;
     Ok((all, task))
+}
+
+// What the task gives in the end.
+fn awaited<R: Wait + Clone + Drop + Send + Sync>(
+    task: &mut TestTask<R>,
+    waker: &TestWaker,
+) -> Option<u64> {
+    for _ in 0..TURNS {
+        match task.poll(waker) {
+            Poll::Pending => yield_now(),
+            Poll::Ready(Ok(output)) => return Some(output.number),
+            Poll::Ready(Err(_)) => return None,
+        }
+    }
+    None
+}
+
+// The same, after which its handle is dropped.
+fn awaited_last<R: Wait + Clone + Drop + Send + Sync>(
+    mut task: TestTask<R>,
+    waker: &TestWaker,
+) -> Option<u64> {
+    awaited(&mut task, waker)
 }
 
 // Detaches the task, or drops its handle.
@@ -194,7 +200,7 @@ fn run_by_one<R: AllocGlobal + Wait + Threads + Clone + Drop + Send + Sync>(
         || shared.ticks_to_end(handle),
         || shared.ticks_to_end(handle),
     );
-    Ok((one != two, all.awaited(&mut task)))
+    Ok((one != two, awaited(&mut task, &all.waker)))
 }
 
 #[test]
@@ -203,54 +209,97 @@ fn one_of_two_threads_runs_the_task(rt: HostRuntime) -> Result<(), Fail> {
     Ok(())
 }
 
+// Whether this executor runs a task on another thread.
+fn ticks_elsewhere<R: Wait + Threads + Clone + Drop + Send + Sync + 'static>(
+    rt: &R,
+    all: Fixture<R>,
+) -> Result<bool, Fail> {
+    Ok(thread::spawn(rt, move || all.ex.try_tick())?.join(rt))
+}
+
 // What the task of this handle gives on another thread.
 fn awaited_elsewhere<R: AllocGlobal + Wait + Threads + Clone + Drop + Send + Sync + 'static>(
     rt: &R,
     task: TestTask<R>,
 ) -> Result<Option<u64>, Fail> {
-    let all = Fixture::new(rt)?;
-    Ok(thread::spawn(rt, move || all.awaited_last(task))?.join(rt))
+    let waker = TestWaker::new(&Record::new(rt.alloc())?)?;
+    Ok(thread::spawn(rt, move || awaited_last(task, &waker))?.join(rt))
+}
+
+// Whether a task is run where its executor is sent, and what it gives where its handle is sent.
+fn sent<R: AllocGlobal + Wait + Threads + Clone + Drop + Send + Sync + 'static>(
+    rt: &R,
+) -> Result<(bool, Option<u64>), Fail> {
+    let (all, task) = with_task(rt)?;
+    Ok((ticks_elsewhere(rt, all)?, awaited_elsewhere(rt, task)?))
 }
 
 #[test]
 fn an_executor_and_a_handle_are_sent(rt: HostRuntime) -> Result<(), Fail> {
-    let (all, task) = with_task(&rt)?;
-    let ticked = thread::spawn(&rt, move || all.ex.try_tick())?.join(&rt);
-    assert_eq!(rt; (ticked, awaited_elsewhere(&rt, task)?), (true, Some(7)));
+    assert_eq!(rt; sent(&rt)?, (true, Some(7)));
     Ok(())
+}
+
+// Has two threads await tasks, and two run them.
+fn await_beside<'x, R: Wait + Threads + Clone + Drop + Send + Sync>(
+    rt: &'x R,
+    all: &'x Fixture<R>,
+) {
+    thread::scope(thread::scope_env(), rt, |scope| {
+        for _ in 0..2u8 {
+            let _ = scope.spawn(move || all.ticks_until(2));
+            let _ = scope.spawn(move || all.awaits_each(20_000));
+        }
+    });
+}
+
+// How many threads that await tasks are done beside those that run them, how many outputs they got,
+// and whether no task is left.
+fn awaited_beside<R: AllocGlobal + Wait + Threads + Clone + Drop + Send + Sync>(
+    rt: &R,
+) -> Result<(u64, u64, bool), Fail> {
+    let all = Fixture::new(rt)?;
+    await_beside(rt, &all);
+    let done = all.done.load(Ordering::SeqCst);
+    let good = all.good.load(Ordering::SeqCst);
+    Ok((done, good, all.ex.is_empty()))
 }
 
 #[test]
 fn no_output_is_lost_between_threads(rt: HostRuntime) -> Result<(), Fail> {
-    let all = Fixture::new(&rt)?;
-    let shared = &all;
-    thread::scope(thread::scope_env(), &rt, |scope| {
-        for _ in 0..2u8 {
-            let _ = scope.spawn(move || shared.ticks_until(2));
-            let _ = scope.spawn(move || shared.awaits_each(20_000));
+    assert_eq!(rt; awaited_beside(&rt)?, (2, 40_000, true));
+    Ok(())
+}
+
+// Has each of four threads spawn tasks, and run tasks until all are over.
+fn spawn_on_four<'x, R: Wait + Threads + Clone + Drop + Send + Sync>(
+    rt: &'x R,
+    all: &'x Fixture<R>,
+) {
+    thread::scope(thread::scope_env(), rt, |scope| {
+        for _ in 0..4u8 {
+            let _ = scope.spawn(move || all.spawns_and_ticks(10_000, 40_000));
         }
     });
-    let done = all.done.load(Ordering::SeqCst);
-    let good = all.good.load(Ordering::SeqCst);
-    assert_eq!(rt; (done, good, all.ex.is_empty()), (2, 40_000, true));
-    Ok(())
+}
+
+// The record of the tasks of four threads, whether none is left, and whether one is scheduled.
+fn run_by_four<R: AllocGlobal + Wait + Threads + Clone + Drop + Send + Sync>(
+    rt: &R,
+) -> Result<(Record, (bool, bool)), Fail> {
+    let all = Fixture::new(rt)?;
+    spawn_on_four(rt, &all);
+    Ok((all.record.share()?, (all.ex.is_empty(), all.ex.try_tick())))
 }
 
 #[test]
 fn each_task_of_four_threads_ends_once(rt: HostRuntime) -> Result<(), Fail> {
-    let all = Fixture::new(&rt)?;
-    let shared = &all;
-    thread::scope(thread::scope_env(), &rt, |scope| {
-        for _ in 0..4u8 {
-            let _ = scope.spawn(move || shared.spawns_and_ticks(10_000, 40_000));
-        }
-    });
     // Each future was dropped, each that was polled gave an output that was dropped, and no task is
     // left, nor scheduled.
-    let polls = all.record.times(Moment::FuturePoll);
-    let outputs = all.record.times(Moment::OutputDrop);
-    let drops = all.record.times(Moment::FutureDrop);
-    let left = (all.ex.is_empty(), all.ex.try_tick());
+    let (record, left) = run_by_four(&rt)?;
+    let polls = record.times(Moment::FuturePoll);
+    let outputs = record.times(Moment::OutputDrop);
+    let drops = record.times(Moment::FutureDrop);
     assert_eq!(rt; (drops, outputs, left), (40_000, polls, (true, false)));
     Ok(())
 }
@@ -260,12 +309,12 @@ fn let_go_beside<R: AllocGlobal + Wait + Threads + Clone + Drop + Send + Sync>(
     rt: &R,
 ) -> Result<(u64, bool), Fail> {
     let all = Fixture::new(rt)?;
-    let tasks = all.ended_tasks(OUTPUTS, rt.alloc())?;
+    let mut tasks = all.ended_tasks(OUTPUTS, rt.alloc())?;
     all.record.halt_at(Moment::OutputDrop);
-    let shared = &all;
+    let (shared, handles) = (&all, &mut tasks);
     thread::join(
         rt,
-        move || shared.lets_go(tasks),
+        move || shared.lets_go(handles),
         move || shared.spawns_beside(),
     );
     Ok((all.record.times(Moment::OutputDrop), all.halt.was_passed()))

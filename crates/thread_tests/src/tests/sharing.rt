@@ -1,5 +1,5 @@
 //! Runs on several threads, which share the tasks of one executor.
-use async_executor::executor::{Executor, TaskWaker};
+use async_executor::executor::Executor;
 use executor_core::task::{Future, Poll, Wake};
 use std::alloc::{AllocError, Global};
 use std::sync::atomic::{AtomicU64, Ordering};
@@ -15,7 +15,7 @@ use test_parts::line::Line::{
 };
 use test_parts::player::play;
 use test_parts::record::{AtDrop, Moment, Record};
-use test_parts::task::spawned;
+use test_parts::task::{FutureWaker, spawned};
 use test_parts::waker::TestWaker;
 
 // A run takes half of the tasks, rounded up, to its own queue, where `try_tick` does not look.
@@ -44,22 +44,22 @@ const TASKS: usize = 10_000;
 
 // Wakes itself and its neighbour at its first polls, and is ready at the last one.
 #[derive(Drop)]
-struct Neighbour<V> {
+struct Neighbour<R: Wait + Clone + Drop + Send + Sync> {
     polls_left: u64,
-    own: WakerPlace<V>,
-    other: WakerPlace<V>,
+    own: WakerPlace<FutureWaker<R>>,
+    other: WakerPlace<FutureWaker<R>>,
     ended: Arc<AtomicU64>,
     parts: AtDrop,
 }
 
-impl<V: Drop> Neighbour<V> {
+impl<R: Wait + Clone + Drop + Send + Sync> Neighbour<R> {
     // Leaves its waker at one place, and finds that of its neighbour at the other.
     fn new(
-        own: WakerPlace<V>,
-        other: &WakerPlace<V>,
+        own: WakerPlace<FutureWaker<R>>,
+        other: &WakerPlace<FutureWaker<R>>,
         ended: &Arc<AtomicU64>,
         record: &Record,
-    ) -> Result<Neighbour<V>, AllocError> {
+    ) -> Result<Neighbour<R>, AllocError> {
         Ok(Neighbour {
             polls_left: 2,
             own,
@@ -70,10 +70,10 @@ impl<V: Drop> Neighbour<V> {
     }
 }
 
-impl<V: Wake> Future<V> for Neighbour<V> {
+impl<R: Wait + Clone + Drop + Send + Sync> Future<FutureWaker<R>> for Neighbour<R> {
     type Output = ();
 
-    fn poll(&mut self, w: &V) -> Poll<()> {
+    fn poll(&mut self, w: &FutureWaker<R>) -> Poll<()> {
         self.parts.record().meet(Moment::FuturePoll);
         if self.polls_left == 0 {
             self.ended.fetch_add(1, Ordering::SeqCst);
@@ -94,7 +94,7 @@ impl<V: Wake> Future<V> for Neighbour<V> {
 // The tasks of one executor, the record of each, and how many have ended.
 #[derive(Drop)]
 struct Neighbours<R: Wait + Clone + Drop + Send + Sync> {
-    ex: Executor<Neighbour<TaskWaker<TestWaker, R>>, TestWaker, R>,
+    ex: Executor<Neighbour<R>, TestWaker, R>,
     waker: TestWaker,
     records: Vec<Record>,
     ended: Arc<AtomicU64>,
