@@ -1,9 +1,10 @@
 -- Lists by index: a read after a write or a push.
 use Rattle.std.proofs.Common.{◌≡◌, ◌≢◌, ℕ, zero, suc, ◌+◌, ◌<◌, ◌≤◌, ◌||◌, Bool, true, false, cond, List, [], ◌∷◌, ◌++◌, length, Some, None, refl, sym, ap, ◌∙◌, arith}
 use Rattle.std.proofs.lemmas.Bool.{or_left, or_right, false≢true}
+use Rattle.std.proofs.lemmas.Option.{slice_get_read, slice_get_past}
 use Rattle.std.proofs.lemmas.List.Sums.{sum_by-cons}
 use Rattle.std.specs.List.{list_any}
-use Rattle.std.specs.Prelude.{slice_get, slice_set, sum_by, count_by}
+use Rattle.std.specs.Prelude.{slice_get, slice_set, sum_by, count_by, get_or}
 
 module _ {X : Type 0} where
   pub get-set_same : (xs : List X) (i : ℕ) (v w : X) → slice_get xs i ≡ Some w → slice_get (slice_set xs i v) i ≡ Some v
@@ -41,6 +42,13 @@ module _ {X : Type 0} where
   get_within [] i h = absurd (omega arith)
   get_within (y ∷ ys) zero h = (y, refl)
   get_within (y ∷ ys) (suc i) h = get_within ys i (omega arith)
+
+  -- a read of these items, which are seen as those
+  pub read_some : {xs ys : List X} (i : ℕ) (x : X) → xs ≡ ys → i < length xs → x ≡ get_or xs i x → slice_get ys i ≡ Some x
+  read_some {xs} i x same within is = ap (λ l. slice_get l i) (sym same) ∙ slice_get_read xs (length xs) i x refl within is
+
+  pub read_none : {xs ys : List X} (i : ℕ) → xs ≡ ys → length xs ≤ i → slice_get ys i ≡ None
+  read_none {xs} i same past = ap (λ l. slice_get l i) (sym same) ∙ slice_get_past xs i past
 
   pub length-slice_set : (xs : List X) (n : ℕ) (v : X) → length (slice_set xs n v) ≡ length xs
   length-slice_set [] n v = refl
