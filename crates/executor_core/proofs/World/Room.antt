@@ -20,6 +20,10 @@ module _ {T : Type 0} {w : Execution T} {room : ℕ} (has : HasRoom w room) wher
   pub pick_fits : w.picks < 4294967295
   pick_fits = let h1 = has.within in let h2 = has.bounded in let h3 = has.few_unspent in omega arith
 
+  -- the notices that are out can be counted
+  pub notices_fit : {v : Execution T} → w ≡ v → (n : ℕ) → n ≤ notices_out v → Fits w32 n
+  notices_fit view n most = let h1 = has.within in let h2 = has.bounded in let h3 = has.few_unspent in let h4 = ap notices_out view in omega arith
+
   module _ {v : Execution T} (view : w ≡ v) (far : v.accepted ≢ v.limit) where
     is_below : w.accepted + 1 ≤ w.limit
     is_below = let h = has.within in let other : w.accepted ≢ w.limit = rw (← view) at far in omega arith
