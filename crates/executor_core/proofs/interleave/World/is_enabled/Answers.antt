@@ -1,4 +1,6 @@
-use Rattle.std.proofs.Common.{◌∙◌, ap, is_some}
+use Rattle.std.proofs.Common.{◌&&◌, not, ◌∙◌, sym, ap, is_some, refl, nat_lt}
+use Rattle.std.proofs.lemmas.Bool.{lt-ltb}
+use Rattle.executor_core.specs.World.Tickers.{is_new_run}
 use Rattle.executor_core.proofs.World.Agreement.{spawned_known}
 use Rattle.executor_core.proofs.interleave.World.is_enabled.Goals as goal
 
@@ -7,3 +9,51 @@ returns-in-Wake g c = rw c.in-Wake.is (c.is_some.ensures ∙ ap is_some c.find_i
 
 pub returns-in-Ready : goal.returns-in-Ready
 returns-in-Ready g c = rw c.in-Ready.is c.may_end-in-Ready.ensures
+
+pub returns-in-Pend : goal.returns-in-Pend
+returns-in-Pend g c = rw c.in-Pend.is c.may_end.ensures
+
+pub returns-in-PollHandle : goal.returns-in-PollHandle
+returns-in-PollHandle g c = rw c.in-PollHandle.is c.has_handle.ensures
+
+pub returns-in-Cancel : goal.returns-in-Cancel
+returns-in-Cancel g c = rw c.in-Cancel.is c.has_handle-in-Cancel.ensures
+
+pub returns-in-Detach : goal.returns-in-Detach
+returns-in-Detach g c = rw c.in-Detach.is c.has_handle-in-Detach.ensures
+
+pub returns-in-DropHandle : goal.returns-in-DropHandle
+returns-in-DropHandle g c = rw c.in-DropHandle.is c.has_handle-in-DropHandle.ensures
+
+pub returns-in-Dropped : goal.returns-in-Dropped
+returns-in-Dropped g c = rw c.in-Dropped.is c.may_drop.ensures
+
+pub returns-in-Exchange : goal.returns-in-Exchange
+returns-in-Exchange g c = rw c.in-Exchange.is (ap (λ w. nat_lt 0 w.notices) c.self.view_is)
+
+pub returns-in-Tick : goal.returns-in-Tick
+returns-in-Tick g c = rw c.in-Tick.is refl
+
+pub returns-in-Run : goal.returns-in-Run
+returns-in-Run g c = rw c.in-Run.is refl
+
+pub returns-in-Register : goal.returns-in-Register
+returns-in-Register g c = rw c.in-Register.is (c.is_new_run.ensures ∙ ap (is_new_run c.args.self.now.locals) c.ticker.ensures)
+
+pub returns-in-Poll : goal.returns-in-Poll
+returns-in-Poll g c = rw c.in-Poll.is c.may_poll.ensures
+
+pub returns-in-Store : goal.returns-in-Store
+returns-in-Store g c = rw c.in-Store.is c.is_held_by.ensures
+
+pub returns-in-Fair : goal.returns-in-Fair
+returns-in-Fair g c = rw c.in-Fair.is c.rests_registered.ensures
+
+pub returns-in-Unregister : goal.returns-in-Unregister
+returns-in-Unregister g c = rw c.in-Unregister.is c.rests_registered-in-Unregister.ensures
+
+pub returns-in-Drop : goal.returns-in-Drop
+returns-in-Drop g c = rw c.in-Drop.is c.may_drop_ticker.ensures
+
+pub returns-then-self-gt0 : goal.returns-then-self-gt0
+returns-then-self-gt0 g c = rw c.in-Notify.is (c.is_free.ensures ∙ ap (λ b. b && not (is_some c.args.self.now.holder)) (sym (lt-ltb _ _ c.if-self-gt0.true) ∙ ap (λ w. nat_lt 0 w.picks) c.self.view_is))
