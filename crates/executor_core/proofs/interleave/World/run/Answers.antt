@@ -1,4 +1,4 @@
-use Rattle.std.proofs.Common.{◌≤◌, ◌+◌, sym, ap, ◌∙◌, subst, length, ◌++◌}
+use Rattle.std.proofs.Common.{◌≤◌, ◌+◌, refl, sym, ap, ◌∙◌, subst, length, ◌++◌, arith}
 use Rattle.executor_core.specs.World.Steps.{StepTo}
 use Rattle.executor_core.proofs.World.Order.{lone_order}
 use Rattle.executor_core.proofs.World.Runs.{fold_on, snoc_rest}
@@ -16,3 +16,6 @@ loop-step-preserved g c =
 
 pub returns-clause-order : goal.returns-clause-order
 returns-clause-order g c = lone_order _ _ _ _
+
+pub loop-step-init : goal.loop-step-init
+loop-step-init g c = (rw c.in_ok-replies.ensures.items refl, c.into_iter-step-iterator.ensures.into_iter_gives.0, ap length c.in_ok-replies.ensures.items, omega (arith, c.in_ok-replies.ensures.capacity, c.len.ensures))

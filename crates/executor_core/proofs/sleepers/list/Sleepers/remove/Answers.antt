@@ -61,3 +61,12 @@ returns-clause-answer g c =
     let found : lookup (λ k. k == c.args.id) c.self.inside.unnotified.items ≡ Some c.in-Some.waker = sym c.remove_waker.ensures.answer ∙ c.in-Some.is in
     change_is c.change-2.ensures.change (returns-clause-list g c)
     (removed_of_found c.self.invariant c.self.inside.is_open c.args.id c.in-Some.waker found ∙ ap (λ s. removed_of s c.args.id) c.self.view_is)
+
+pub returns-then-eq-clause-law : goal.returns-then-eq-clause-law
+returns-then-eq-clause-law g c = c.change.ensures.law
+
+pub returns-in_default-clause-law : goal.returns-in_default-clause-law
+returns-in_default-clause-law g c = c.change-in_default.ensures.law
+
+pub returns-clause-law : goal.returns-clause-law
+returns-clause-law g c = c.change-2.ensures.law

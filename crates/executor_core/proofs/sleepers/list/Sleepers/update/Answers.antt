@@ -36,3 +36,6 @@ returns-clause-answer g c =
 
 pub returns-clause-law : goal.returns-clause-law
 returns-clause-law g c = lawful c.self.inside.is_open (invariant_of-self-2 g c)
+
+pub returns-then-eq-clause-law : goal.returns-then-eq-clause-law
+returns-then-eq-clause-law g c = c.change.ensures.law
