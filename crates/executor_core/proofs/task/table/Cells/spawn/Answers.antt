@@ -1,4 +1,4 @@
-use Rattle.std.proofs.Common.{◌≡◌, sym, ap, ◌∙◌, ◌≤◌, ◌+◌, ◌++◌, ◌∷◌, [], arith, get_or, Some, None}
+use Rattle.std.proofs.Common.{◌≡◌, refl, sym, ap, ◌∙◌, ◌≤◌, ◌+◌, ◌++◌, ◌∷◌, [], arith, get_or, Some, None}
 use Rattle.std.proofs.lemmas.Grind.{common_steps}
 use Rattle.executor_core.specs.Cells.Calls.{after_spawn}
 use Rattle.executor_core.specs.Cells.View.{table_of}
@@ -39,3 +39,33 @@ returns-clause-free g c =
     let same = ap (λ s. s.slots) c.reserve.ensures.rest_kept in
     let free = spawn_free c.self.invariant c.self.inside.queues c.insert_reserved-slot.result (ap (λ l. get_or l c.insert_reserved-slot.result None) (sym same) ∙ c.insert_reserved-slot.ensures.was_vacant) in
     rw (← c.self.view_is) free
+
+pub returns-then-self-clause-cause : goal.returns-then-self-clause-cause
+returns-then-self-clause-cause g c = (refl, sym (ap (λ t. t.next) c.self.view_is) ∙ c.if-self.true)
+
+pub invariant_of-self : goal.invariant_of-self
+invariant_of-self g c = regrown c.self.invariant c.reserve.new.self.slots (ap (λ s. s.slots) c.reserve.ensures.rest_kept)
+
+pub returns-then-is_err-clause-refused : goal.returns-then-is_err-clause-refused
+returns-then-is_err-clause-refused g c = ap (λ s. table_of c.self.inside.next s.slots c.self.inside.queues) c.reserve.ensures.rest_kept ∙ c.self.view_is
+
+pub returns-then-is_err-clause-cause : goal.returns-then-is_err-clause-cause
+returns-then-is_err-clause-cause g c = (refl, λ last. c.if-self.false (ap (λ t. t.next) c.self.view_is ∙ last))
+
+pub reserve_beside-requires-clause-within : goal.reserve_beside-requires-clause-within
+reserve_beside-requires-clause-within g c = c.self.invariant.room
+
+pub returns-then-is_err-2-clause-refused : goal.returns-then-is_err-2-clause-refused
+returns-then-is_err-2-clause-refused g c =
+    ap (table_of c.self.inside.next c.reserve.new.self.slots) c.reserve_beside.ensures.same
+    ∙ ap (λ s. table_of c.self.inside.next s.slots c.self.inside.queues) c.reserve.ensures.rest_kept
+    ∙ c.self.view_is
+
+pub returns-then-is_err-2-clause-cause : goal.returns-then-is_err-2-clause-cause
+returns-then-is_err-2-clause-cause g c = (refl, λ last. c.if-self.false (ap (λ t. t.next) c.self.view_is ∙ last))
+
+pub returns-clause-id : goal.returns-clause-id
+returns-clause-id g c = ap (λ t. t.next) c.self.view_is
+
+pub returns-clause-exhausted : goal.returns-clause-exhausted
+returns-clause-exhausted g c last = absurd (c.if-self.false (ap (λ t. t.next) c.self.view_is ∙ last))
