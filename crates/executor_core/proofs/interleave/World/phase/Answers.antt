@@ -1,5 +1,4 @@
 use Rattle.std.proofs.Common.{◌∙◌, sym, ap, option_map}
-use Rattle.std.specs.Prelude.{slice_get}
 use Rattle.executor_core.specs.declared.interleave.ticker.Ticker.{Ticker}
 use Rattle.executor_core.proofs.ListLemmas.{read_some, read_none}
 use Rattle.executor_core.proofs.interleave.World.phase.Goals as goal
