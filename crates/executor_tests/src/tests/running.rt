@@ -1,4 +1,5 @@
-//! Runs: the turn of a run, its own future, what its drop leaves behind, and whom it wakes.
+//! Runs: the turn of a run, its own future, the words of its searches, what its drop leaves behind,
+//! and whom it wakes.
 use std::test::Fail;
 use test_parts::future::Kind::{LeavesWaker, Never, Ready, Yields};
 use test_parts::line::Answer::{Output, Pending};
