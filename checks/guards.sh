@@ -14,7 +14,8 @@
 # of some functions of it. RT names the command rt. Its last line counts the guards.
 # Runs beside the gate.
 # There the libraries below a crate are those that the gate built: GATE names the folder in which it
-# runs, and the file GATE_END is there once it has ended. Else `rt lib` builds them.
+# runs and GATE_LOG what it printed, and the file GATE_END is there once it has ended. Else `rt lib`
+# builds them.
 set -eu
 . "$(dirname "$0")/edits"
 checks=$top/checks
@@ -62,13 +63,14 @@ applied() {
     fi
 }
 
-# Where the library of a crate is built.
+# Where the library of a crate is built, once it is.
 place_of() {
     if [ -z "${GATE:-}" ]; then
         (cd "$top/crates/$1" && "$rt" lib) > "$room/library" 2>&1 || cat "$room/library" >&2
         echo "$top"
     else
-        while [ ! -f "$GATE_END" ] && [ -d "${GATE_END%/*}" ]; do
+        while [ -d "${GATE_END%/*}" ] && [ ! -f "$GATE_END" ] &&
+            ! grep -qsx "rt: $1 proved" "${GATE_LOG:-}"; do
             sleep 1
         done
         echo "$GATE"

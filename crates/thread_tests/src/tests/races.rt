@@ -327,4 +327,4 @@ fn an_output_of_a_handle_that_goes_is_not_left_to_a_spawn(rt: HostRuntime) -> Re
 }
 
 // How many outputs are let go.
-const OUTPUTS: u64 = 2_000;
+const OUTPUTS: u64 = 200;
