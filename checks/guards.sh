@@ -1,15 +1,12 @@
 #!/bin/sh
 # Guards: wrong bodies that the prover has to refuse, each by a goal of the function that it
 # changes. A function is proved over the contracts alone of those that it calls, so wrong bodies of
-# different functions of a crate are tried in one check, which may refuse no other function.
+# different functions of a crate are tried in one check, and nothing else is proved there.
 #
 # A guard is a file of checks/guards with the lines 'crate: NAME', 'function: PATH' as a check
-# prints it below the crate, 'file: PATH', 'old: TEXT' and 'new: TEXT'. The Nth guard of a function
-# is tried in the Nth round, in which a function without an Nth guard stays as its last guard made
-# it: so a round has to prove anew only what it changes. One with a line 'alone: yes' has a round of
-# its own, over right bodies, before the others: it changes a type or its view, which other
-# functions read. The first round of a crate stands on what is kept of it, or else proves it from
-# nothing, and each further one on the round before.
+# prints it below the crate, 'file: PATH', 'old: TEXT' and 'new: TEXT'. It changes the body of that
+# function alone. One with a line 'alone: yes' may change more, as a type or its view, and is tried
+# in a check of its own. checks/guards.py lays out those of one check, a round.
 # Usage: checks/guards.sh [CRATE [FUNCTION..]], anywhere: all guards, or those of a crate, or those
 # of some functions of it. RT names the command rt. Its last line counts the guards.
 # Runs beside the gate.
@@ -29,38 +26,6 @@ asked() {
             grep -qFx "$(field "$guard" function)" || continue
         echo "$guard"
     done
-}
-
-# The rounds of a crate, as lines 'ROUND FUNCTION GUARD'. Those of one guard come first.
-rounds() {
-    while read -r guard; do
-        [ "$(field "$guard" crate)" != "$1" ] ||
-            echo "$(field "$guard" function) $guard $(field "$guard" alone)"
-    done < "$copy/asked" | sort | awk '
-        $3 == "yes" { print ++alone, $1, $2; next }
-        { lines[++all] = ++count[$1] " " $1 " " $2 }
-        END {
-            for (n = 1; n <= all; n++) {
-                split(lines[n], words, " ")
-                print alone + words[1], words[2], words[3]
-            }
-        }' | sort -n
-}
-
-# The guards that are applied in a round, as lines 'ROUND FUNCTION GUARD': the last one of each
-# function up to it, or the round's own where that is alone.
-applied() {
-    alone=$(awk '$1 == '"$2"' { print $3 }' "$copy/$1.rounds" | head -n 1)
-    if [ "$(field "$alone" alone)" = yes ]; then
-        awk '$1 == '"$2" "$copy/$1.rounds"
-    else
-        while read -r round function guard; do
-            [ "$round" -gt "$2" ] || [ "$(field "$guard" alone)" = yes ] ||
-                echo "$round $function $guard"
-        done < "$copy/$1.rounds" | awk '
-            { last[$2] = $0 }
-            END { for (name in last) print last[name] }' | LC_ALL=C sort -k 2
-    fi
 }
 
 # Where the library of a crate is built, once it is.
@@ -92,33 +57,30 @@ words() {
         printf '%s\n' --extern "$library=$folder/$library.rlib"
     done
     printf '%s\n' --antt-project "$kit/rattle/logic/antt-project.json" \
-        --logic-built "$kit/logic_built" --incremental out/incremental
+        --logic-built "$kit/logic_built"
 }
 
-# Tries the guards of a round of this crate.
+# Lays out guards of this crate, those that the file left lists, in the room, and tries them. What
+# was tried, as lines 'FUNCTION GUARD', is taken from that file.
 try_round() {
-    rm -rf "$room/crates/$1/src"
-    cp -Rp "$top/crates/$1/src" "$room/crates/$1/src"
-    applied "$1" "$2" > "$room/applied"
-    while read -r _ _ guard; do
-        add_edit "$guard" "$room"
-    done < "$room/applied"
-    grep "^$2 " "$copy/$1.rounds" > "$room/round"
-    (cd "$room/crates/$1" &&
-        awk '{ print "--only"; print $2 }' "$room/round" | cat "$room/words" - |
-        xargs -d '\n' "$kit/bin/rattle" check) > "$room/log" 2>&1 || :
-    (cd "$room/crates/$1" && awk -v crate="$1" -f "$checks/refused.awk" "$room/log") > "$room/found"
-    while read -r _ function guard; do
-        judge "$function" "$(basename "$guard")"
-    done < "$room/round"
-    if ! grep -qx read "$room/found"; then
-        cat "$room/log"
+    rm -rf "$room/crates/$1"
+    mkdir -p "$room/crates/$1"
+    (cd "$top/crates/$1" && tar cf - --exclude=./out .) | (cd "$room/crates/$1" && tar xf -)
+    if ! xargs python3 -B "$checks/guards.py" "$room" "$1" < "$room/left" > "$room/round"; then
+        fail "guards of $1 that cannot be tried, so that none of it is:" "$room/round"
+        : > "$room/left"
         return
     fi
-    awk 'NR == FNR { changed[$2 ":"]; next }
-        !/^(read|waiting )/ && !($2 in changed)' "$room/applied" "$room/found" > "$room/others"
-    [ ! -s "$room/others" ] ||
-        fail "$1: what no guard of this round changes is refused too:" "$room/others"
+    (cd "$room/crates/$1" &&
+        awk '{ print "--only"; print $1 }' "$room/round" | cat "$room/words" - |
+        xargs -d '\n' "$kit/bin/rattle" check) > "$room/log" 2>&1 || :
+    (cd "$room/crates/$1" && awk -v crate="$1" -f "$checks/refused.awk" "$room/log") > "$room/found"
+    while read -r function guard; do
+        judge "$function" "$(basename "$guard")"
+    done < "$room/round"
+    grep -qx read "$room/found" || cat "$room/log"
+    cut -d' ' -f2 "$room/round" | grep -vxF -f - "$room/left" > "$room/rest" || :
+    mv "$room/rest" "$room/left"
 }
 
 # Says whether a function is refused as its guard asks.
@@ -135,48 +97,28 @@ judge() {
     fi
 }
 
-# Tries the rounds of the crates that are not taken yet, in a copy of the repository with what is
-# kept of those crates. Leaves the counts there.
+# Tries the guards of the crates that are not taken yet, and leaves the counts there.
 try_crates() {
     room=$1
     mkdir "$room"
-    (cd "$top" && tar cf - --exclude=./.git --exclude='./crates/*/out' .) |
-        (cd "$room" && tar xf -)
     while read -r _ crate; do
         mkdir "$copy/$crate.taken" 2> /dev/null || continue
-        mkdir "$room/crates/$crate/out"
-        [ ! -d "$top/crates/$crate/out/incremental" ] ||
-            cp -Rp "$top/crates/$crate/out/incremental" "$room/crates/$crate/out/incremental"
         words "$crate" > "$room/words"
-        for round in $(cut -d' ' -f1 "$copy/$crate.rounds" | uniq); do
+        mv "$copy/$crate.asked" "$room/left"
+        while [ -s "$room/left" ]; do
             start=$(date +%s)
-            guards=$(grep -c "^$round " "$copy/$crate.rounds")
-            try_round "$crate" "$round"
-            echo "$crate, round $round: $guards guards, $(($(date +%s) - start)) s"
+            try_round "$crate"
+            echo "$crate: $(grep -c . "$room/round") guards in $(($(date +%s) - start)) s"
         done
-        rm -rf "$room/crates/$crate/out"
     done < "$copy/crates"
     echo "$passed $failed" > "$room/counts"
 }
 
-asked "$@" > "$copy/asked"
-while read -r guard; do
-    case $(field "$guard" file) in
-        src/*) ;;
-        *) fail "$(basename "$guard"): it changes no file of src/" ;;
-    esac
-    times=$(count_old "$guard" "$top")
-    [ "$times" = 1 ] ||
-        fail "$(basename "$guard"): its old text stands $times times in its file, and not once"
-done < "$copy/asked"
-if [ "$failed" != 0 ]; then
-    count || exit
-fi
-
-for crate in $(while read -r guard; do field "$guard" crate; done < "$copy/asked" | sort -u); do
-    rounds "$crate" > "$copy/$crate.rounds"
-    echo "$(wc -l < "$copy/$crate.rounds") $crate"
-done | sort -rn > "$copy/crates"
+for guard in $(asked "$@"); do
+    echo "$guard" >> "$copy/$(field "$guard" crate).asked"
+done
+(cd "$copy" && grep -c . ./*.asked /dev/null) | sed -n 's/^\.\/\(.*\)\.asked:\(.*\)/\2 \1/p' |
+    sort -rn > "$copy/crates"
 # Two crates at a time, that with the most guards first.
 for lane in one two; do
     try_crates "$copy/$lane" &

@@ -6,7 +6,7 @@
 set -eu
 . "$(dirname "$0")/edits"
 mkdir -p "$copy/checks/guards" "$copy/crates/sums/src" "$copy/crates/sums/proofs/thrice"
-cp "$top/checks/edits" "$top/checks/guards.sh" "$top/checks/refused.awk" "$copy/checks"
+(cd "$top/checks" && cp edits edits.py guards.py guards.sh refused.awk "$copy/checks")
 echo 'sums:' > "$copy/crates.txt"
 cat > "$copy/crates/sums/src/lib.rt" <<'END'
 //! Sums of small numbers.
@@ -85,35 +85,50 @@ ends() {
 guard by_search twice '    x + x\n' '    x + 1\n'
 guard by_an_answer thrice 'double + x\n' 'double + 1\n'
 guard by_search_too twice '    x + x\n' '    x + 2\n'
+guard by_an_answer_too thrice 'double + x\n' 'double + 2\n'
 guard of_a_constant limit 'u64 = 100' 'u64 = 101' 'alone: yes'
 try_guards
 says 'a goal that no search proves' 'by_search.edit: twice is refused, as it must be: returns$'
-says 'the second guard of a function' 'by_search_too.edit: twice is refused, as it must be: returns$'
+says 'the second guard of a function' 'by_search_too.edit: twice_2 is refused, as it must be: returns$'
 says 'a goal that its answer does not prove' 'by_an_answer.edit: thrice is refused, as it must be: returns$'
+says 'and the second' 'by_an_answer_too.edit: thrice_2 is refused, as it must be: returns$'
 says 'a round of its own' 'of_a_constant.edit: limit is refused, as it must be: returns$'
-ends 'right guards pass' '4 passed, 0 failed' 0
+ends 'right guards pass' '5 passed, 0 failed' 0
 
-rm "$copy/checks/guards/by_an_answer.edit" "$copy/checks/guards/by_search_too.edit"
+rm "$copy"/checks/guards/*
 guard of_nothing four 'twice(2)' 'twice(1 + 1)'
+guard by_an_answer thrice 'double + x\n' 'double + 1\n'
+guard by_an_answer_of_nothing thrice 'double + x\n' 'x + double\n'
 guard of_a_name thrice 'double = twice(x);\n    double + x' 'other = twice(x);\n    other + 1'
 guard of_another four '    x + x\n' '    x + 2\n' 'alone: yes'
 try_guards sums four thrice
-says 'a body that is right' 'of_nothing.edit: four is not refused$'
-says 'an answer that names what is there no more' 'of_a_name.edit: thrice is not refused by a goal of its own:$'
-says 'a goal of a function that is called' 'of_another.edit: four is not refused by a goal of its own:$'
-says 'a function that no guard changes' 'sums: what no guard of this round changes is refused too:$'
-ends 'wrong guards fail' '0 passed, 4 failed' 1
+says 'a body that is right' 'of_nothing.edit: four is not refused by a goal of its own:$'
+says 'a second body that is right' 'by_an_answer_of_nothing.edit: thrice_2 is not refused by a goal of its own:$'
+says 'an answer that names what is there no more' 'of_a_name.edit: thrice_3 is not refused by a goal of its own:$'
+says 'a body of another function' 'of_another.edit: four is not refused by a goal of its own:$'
+ends 'wrong guards fail' '1 passed, 4 failed' 1
 
+rm "$copy"/checks/guards/*
 guard unread twice '    x + x\n' '    x + y\n'
-rm "$copy/checks/guards/by_search.edit"
 try_guards sums twice
 says 'a text that cannot be read' 'unread.edit: twice was not tried, since the round cannot be read:$'
 
+# Tries the guards where one of them cannot be tried, which has to say why.
+cannot_be_tried() {
+    guard right four 'twice(2)' 'twice(3)'
+    try_guards
+    says "$1" "$2"
+    ends "$1, and no guard is tried" '0 passed, 1 failed' 1
+    rm "$copy"/checks/guards/*
+}
+rm "$copy"/checks/guards/*
 guard unfound twice 'y + y' 'y + 1'
+cannot_be_tried 'an old text that is not there' 'unfound.edit: its old text stands 0 times in its file, and not once$'
 guard of_a_proof thrice 'omega' 'grind'
 sed -i 's/^file: .*/file: proofs\/thrice\/Answers.antt/' "$copy/checks/guards/of_a_proof.edit"
-try_guards
-says 'an old text that is not there' 'unfound.edit: its old text stands 0 times in its file, and not once$'
-says 'an edit of a proof' 'of_a_proof.edit: it changes no file of src/$'
-ends 'no guard is tried then' '0 passed, 2 failed' 1
+cannot_be_tried 'an edit of a proof' 'of_a_proof.edit: it changes no file of src/$'
+guard of_more_than_a_body limit 'u64 = 100' 'u64 = 101'
+cannot_be_tried 'an edit of a constant' 'of_more_than_a_body.edit: it changes more than bodies of functions$'
+guard of_another_body four '    x + x\n' '    x + 2\n'
+cannot_be_tried 'an edit of another function' 'of_another_body.edit: it changes another function than four$'
 count

@@ -60,25 +60,9 @@ try_lines() {
     pass "$name: $(grep -c '//~ ' "$1") lines refused, as they must be"
 }
 
-# Prints for each line of a file, which is in rt fmt's layout, the number of the function that it is
-# a part of, and whether of its head or its body; or 'no function'.
-functions() {
-    awk '
-        !inside && /^ *(pub(\([a-z]+\))? )?fn / {
-            inside = 1
-            part = "head"
-            first = NR
-            match($0, /^ */)
-            indent = substr($0, 1, RLENGTH)
-            count++
-        }
-        { print inside ? count " " part : "no function" }
-        inside && part == "head" {
-            if (/;$/ || NR == first && /\{.*\}$/) inside = 0
-            else if ($0 ~ "^" indent "([^ ].*)?[{]$") part = "body"
-        }
-        $0 == indent "}" { inside = 0 }' "$1"
-}
+# Prints for each line of a file the number of the function that it is a part of, and whether of its
+# head or its body; or 'no function'.
+functions() { python3 -B "$top/checks/edits.py" functions "$1"; }
 
 # Prints where an edit changes the copy, as FILE:NUMBER of the function, and whether it is tried
 # beside others or alone.
@@ -86,7 +70,7 @@ place_of() {
     file=$(field "$1" file)
     add_edit "$1" "$copy" || return 1
     functions "$top/crates/$(field "$1" crate)/$file" |
-        sed -n "$(old_lines "$1" "$top")p" | sort -u > "$copy/parts"
+        sed -n "$(python3 -B "$top/checks/edits.py" lines "$1" "$top")p" | sort -u > "$copy/parts"
     echo "$file:$(cut -d' ' -f1 "$copy/parts" | sort -u | paste -sd-)" \
         "$(grep -qv body "$copy/parts" && echo alone || echo beside)"
 }

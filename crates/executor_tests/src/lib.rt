@@ -1,6 +1,5 @@
-//! Tests of the executors that cross crates.
+//! Tests of the executors on one thread.
 #![tactic(auto)]
 
-pub mod crossing;
 #[cfg(test)]
 mod tests;

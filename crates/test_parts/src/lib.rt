@@ -1,7 +1,9 @@
 //! What the tests of the executors share: a future and a waker that count what becomes of them and
-//! halt where they are told to, and a player that takes the lines of a test in turn.
+//! halt where they are told to, and a player that takes the lines of a test in turn. Beside them
+//! stands what may cross threads, which is tested in that it compiles.
 #![tactic(auto)]
 
+pub mod crossing;
 pub mod future;
 pub mod halt;
 pub mod line;
