@@ -5,7 +5,7 @@ use std::sync::atomic::{AtomicU64, Ordering};
 use std::thread::yield_now;
 
 /// How often one looks for the other.
-pub const TURNS: u32 = 10_000_000;
+pub const TURNS: u32 = 2_000_000;
 
 #[derive(Drop)]
 struct Counts {
