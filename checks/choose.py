@@ -1,17 +1,22 @@
 """Puts wrong bodies beside the right ones of a copy, so that one build has many of them.
 
 Each function that an edit changes gets the body that the edit makes of its own, and takes it where
-the number of the edit is chosen. Of the tests of a suite those stay that an edit names, and each edit
-has a copy of its test, of the edit's name, which chooses that number first. With the line 'alone:
-yes' an edit changes more than bodies: of those given beside others only the tests are kept.
-Usage: choose.py beside COPY SUITE EDIT.., or choose.py alone COPY SUITE EDIT, which applies it as it
-is. COPY is a copy of the repository, and EDIT a file. With status 1 it says why one cannot be applied.
+the number of the edit is chosen. The crates of tests become one, the suite. Of their tests those stay
+that an edit names, and each edit has a copy of its test, of the edit's name, which chooses that
+number first. With the line 'alone: yes' an edit changes more than bodies: of those given beside
+others only the tests are kept.
+Usage: choose.py beside COPY EDIT.., or choose.py alone COPY EDIT, which applies it as it is. COPY is
+a copy of the repository, and EDIT a file. With status 1 it says why one cannot be applied.
 """
 import os
 import re
+import shutil
 import sys
 
 from edits import Edit, Unapplied, functions_of, read, write
+
+# The crate of all the tests.
+SUITE = "suite"
 
 # The crate below all others, and what it gets: the functions of chosen.c.
 LOWEST = "executor_core"
@@ -44,6 +49,20 @@ def add_bodies(copy, edits):
         write(path, made + text[end:])
 
 
+def join_tests(copy, edits):
+    """Makes the suite of the crates that have a module which an edit names."""
+    modules = {edit.test.split("::")[0] for _, edit in edits}
+    listed, tests, uses = read(f"{copy}/crates.txt"), "", []
+    for crate in os.listdir(f"{copy}/crates"):
+        folder = f"{copy}/crates/{crate}/src"
+        if any(os.path.exists(f"{folder}/tests/{module}.rt") for module in modules):
+            shutil.copytree(folder, f"{copy}/crates/{SUITE}/src", dirs_exist_ok=True)
+            tests += "".join(re.findall(r"^mod \w+;\n", read(f"{folder}/tests.rt"), re.M))
+            uses += re.search(rf"^{crate}\b.*:(.*)$", listed, re.M)[1].split()
+    write(f"{copy}/crates/{SUITE}/src/tests.rt", tests)
+    write(f"{copy}/crates.txt", f"{listed}{SUITE}: {' '.join(sorted(set(uses)))}\n")
+
+
 def keep_tests(folder, edits):
     """Has the modules below a folder keep the tests that an edit names, each with its copies."""
     for place, _, files in os.walk(folder):
@@ -70,7 +89,7 @@ def copies_of(test, function, path, edits):
     return "".join(copies)
 
 
-def main(way, copy, suite, *paths):
+def main(way, copy, *paths):
     edits = [(number, Edit(path)) for number, path in enumerate(paths, 1)]
     try:
         if way == "alone":
@@ -79,7 +98,8 @@ def main(way, copy, suite, *paths):
             add_bodies(copy, [(number, edit) for number, edit in edits if not edit.is_alone])
     except Unapplied as why:
         sys.exit(str(why))
-    keep_tests(f"{copy}/crates/{suite}/src/tests", edits)
+    join_tests(copy, edits)
+    keep_tests(f"{copy}/crates/{SUITE}/src/tests", edits)
     lowest = f"{copy}/crates/{LOWEST}/src"
     write(f"{lowest}/choice.rt", CHOICE)
     write(f"{lowest}/lib.rt", read(f"{lowest}/lib.rt") + "\npub mod choice;\n")
