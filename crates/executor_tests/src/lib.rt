@@ -1,4 +1,4 @@
-//! Tests of the executors on one thread.
+//! Tests of the executors, on one thread and on several.
 #![tactic(auto)]
 
 #[cfg(test)]

@@ -1,7 +1,0 @@
-mod locks;
-mod races;
-mod run_locks;
-mod sharing;
-mod stack;
-mod threads;
-mod ticks;
