@@ -1,5 +1,5 @@
-//! Tests of `executor_core` from above: worked runs, whose answers come from outside, and each
-//! public call once on its happy path.
+//! Tests of `executor_core` and of `simulation` from above: worked runs, whose answers come from
+//! outside, and each public call of the core once on its happy path.
 #![tactic(auto)]
 
 #[cfg(test)]

@@ -11,6 +11,7 @@ mod run_locks;
 mod running;
 mod sharing;
 mod stack;
+mod support;
 mod threads;
 mod ticking;
 mod ticks;

@@ -2,6 +2,7 @@
 #![tactic(auto)]
 
 mod calling;
+mod crossing;
 mod futures;
 mod parking;
 mod pooling;

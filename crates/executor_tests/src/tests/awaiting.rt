@@ -1,12 +1,12 @@
 //! Runs beside a future that awaits a task of the executor.
+use super::support::future::Ready;
+use super::support::record::{Moment, Record};
+use super::support::task::spawned;
+use super::support::waker::TestWaker;
 use async_executor::executor::{Cancelled, Executor};
 use executor_core::task::{Future, Poll};
 use std::sync::Wait;
 use std::test::Fail;
-use test_parts::future::Ready;
-use test_parts::record::{Moment, Record};
-use test_parts::task::spawned;
-use test_parts::waker::TestWaker;
 
 // Gives twice what a task gives.
 #[derive(Drop)]

@@ -1,7 +1,7 @@
 //! Outputs that borrow.
+use super::support::future::Ready;
+use super::support::task::output_of;
 use std::test::Fail;
-use test_parts::future::Ready;
-use test_parts::task::output_of;
 
 #[test]
 fn a_borrow_is_given(rt: HostRuntime) -> Result<(), Fail> {

@@ -1,12 +1,12 @@
 //! What becomes of tasks that are cancelled.
-use std::test::Fail;
-use test_parts::future::Kind::{LeavesWaker, Never, Ready};
-use test_parts::line::Answer::{Cancelled, Output, Pending};
-use test_parts::line::Line::{
+use super::support::future::Kind::{LeavesWaker, Never, Ready};
+use super::support::line::Answer::{Cancelled, Output, Pending};
+use super::support::line::Line::{
     Cancel, Count, Detach, DropHandle, Empty, Fallible, Finished, Poll, Spawn, Tick,
 };
-use test_parts::player::play;
-use test_parts::record::Moment::{FutureDrop, FuturePoll, WakerWake};
+use super::support::player::play;
+use super::support::record::Moment::{FutureDrop, FuturePoll, WakerWake};
+use std::test::Fail;
 
 #[test]
 fn a_cancel_after_the_end_gives_the_output(rt: HostRuntime) -> Result<(), Fail> {

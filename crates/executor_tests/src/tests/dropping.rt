@@ -1,12 +1,12 @@
 //! When futures and outputs are dropped, whatever ends first.
-use std::test::Fail;
-use test_parts::future::Kind::{KeepsWaker, Never, Ready};
-use test_parts::line::Answer::Output;
-use test_parts::line::Line::{
+use super::support::future::Kind::{KeepsWaker, Never, Ready};
+use super::support::line::Answer::Output;
+use super::support::line::Line::{
     Count, Detach, DropExecutor, DropHandle, DropOutput, Empty, Poll, Spawn, Tick,
 };
-use test_parts::player::play;
-use test_parts::record::Moment::{FutureDrop, FuturePoll, OutputDrop};
+use super::support::player::play;
+use super::support::record::Moment::{FutureDrop, FuturePoll, OutputDrop};
+use std::test::Fail;
 
 #[test]
 fn an_output_outlives_the_executor(rt: HostRuntime) -> Result<(), Fail> {

@@ -1,16 +1,16 @@
 //! No lock is held while something of the caller's runs: it halts, and another thread uses the same
 //! executor.
-use std::test::Fail;
-use test_parts::future::Kind::{Never, Ready, Yields};
-use test_parts::line::Answer::{Gone, Output, Pending, Ticked};
-use test_parts::line::Line::{
+use super::support::future::Kind::{Never, Ready, Yields};
+use super::support::line::Answer::{Gone, Output, Pending, Ticked};
+use super::support::line::Line::{
     AnotherWaker, Cancel, Count, Detach, DetachHalts, DropHalts, DropHandle, HaltAt, HaltsAgain,
     MakeTick, Poll, PollHalts, Refuse, Returns, Spawn, SpawnHalts, Tick, TickHalts, Used,
 };
-use test_parts::player::play;
-use test_parts::record::Moment::{
+use super::support::player::play;
+use super::support::record::Moment::{
     FutureDrop, FuturePoll, OutputDrop, WakerCopy, WakerDrop, WakerWake,
 };
+use std::test::Fail;
 
 #[test]
 fn while_a_future_is_polled(rt: HostRuntime) -> Result<(), Fail> {

@@ -1,14 +1,14 @@
 //! Several executors, beside one another or within.
+use super::support::future::{Ready, Until};
+use super::support::record::{Moment, Record};
+use super::support::task::spawned;
+use super::support::waker::TestWaker;
 use async_executor::executor::{Cancelled, Executor, Run, Task, TaskWaker};
 use executor_core::task::{Future, Poll, Wake};
 use std::alloc::{AllocError, Global};
 use std::sync::atomic::AtomicU64;
 use std::sync::{Arc, Wait};
 use std::test::Fail;
-use test_parts::future::{Ready, Until};
-use test_parts::record::{Moment, Record};
-use test_parts::task::spawned;
-use test_parts::waker::TestWaker;
 
 // The answers of a handle's first and last poll.
 type Polls<T> = (Poll<Result<T, Cancelled>>, Poll<Result<T, Cancelled>>);

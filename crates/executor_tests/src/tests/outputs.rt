@@ -1,12 +1,12 @@
 //! What handles give.
-use std::test::Fail;
-use test_parts::future::Kind::{Never, Ready, Yields};
-use test_parts::line::Answer::{Cancelled, Output, Pending};
-use test_parts::line::Line::{
+use super::support::future::Kind::{Never, Ready, Yields};
+use super::support::line::Answer::{Cancelled, Output, Pending};
+use super::support::line::Line::{
     AnotherWaker, Cancel, Count, Detach, Empty, Finished, OtherWoken, Poll, Refuse, Spawn, Tick,
 };
-use test_parts::player::play;
-use test_parts::record::Moment::{OutputDrop, WakerWake};
+use super::support::player::play;
+use super::support::record::Moment::{OutputDrop, WakerWake};
+use std::test::Fail;
 
 #[test]
 fn one_task_gives_its_output(rt: HostRuntime) -> Result<(), Fail> {

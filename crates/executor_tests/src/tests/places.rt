@@ -1,10 +1,11 @@
 //! The places of ticks among the sleepers: none stays behind. A place takes memory, so a table that
 //! keeps those of ticks which are gone grows.
+use super::support::future::Ready;
+use super::support::task::spawned;
 use async_executor::{Executor, Future, OutOfMemory, Poll, Wake};
 use std::fs;
 use std::sync::Wait;
 use std::test::Fail;
-use test_parts::future::Ready;
 
 // A waker that takes much room in its place, and wakes nobody.
 #[derive(Drop)]
@@ -29,6 +30,35 @@ fn pages(rt: &HostRuntime) -> Result<u64, Fail> {
     }
 }
 
+// Whether a tick goes to sleep, which is dropped then.
+fn ends_asleep<R: Wait + Clone + Drop + Send + Sync>(
+    ex: &Executor<Ready<u64>, Wide, R>,
+    waker: &Wide,
+) -> Result<bool, Fail> {
+    let mut tick = ex.tick()?;
+    Ok(tick.poll(waker) == Poll::Pending)
+}
+
+// The same of one that a spawn notifies before it is dropped.
+fn ends_notified<R: Wait + Clone + Drop + Send + Sync>(
+    ex: &Executor<Ready<u64>, Wide, R>,
+    waker: &Wide,
+) -> Result<bool, Fail> {
+    let mut tick = ex.tick()?;
+    let slept = tick.poll(waker) == Poll::Pending;
+    spawned(ex, Ready::new(7))?.detach();
+    Ok(slept)
+}
+
+// Whether a tick runs a task at its first poll.
+fn ends_with_task<R: Wait + Clone + Drop + Send + Sync>(
+    ex: &Executor<Ready<u64>, Wide, R>,
+    waker: &Wide,
+) -> Result<bool, Fail> {
+    let mut tick = ex.tick()?;
+    Ok(tick.poll(waker) == Poll::Ready(()))
+}
+
 // Makes ticks that end in each way: before the first poll, asleep, notified, and with a task. Says
 // whether each poll answers as it should.
 fn ticks_end<R: Wait + Clone + Drop + Send + Sync>(
@@ -36,18 +66,7 @@ fn ticks_end<R: Wait + Clone + Drop + Send + Sync>(
     waker: &Wide,
 ) -> Result<bool, Fail> {
     drop(ex.tick()?);
-    let mut asleep = ex.tick()?;
-    let slept = asleep.poll(waker) == Poll::Pending;
-    drop(asleep);
-    let mut notified = ex.tick()?;
-    let slept_too = notified.poll(waker) == Poll::Pending;
-    let Ok(task) = ex.spawn(Ready::new(7)) else {
-        return Ok(false);
-    };
-    task.detach();
-    drop(notified);
-    let mut ended = ex.tick()?;
-    Ok(slept && slept_too && ended.poll(waker) == Poll::Ready(()))
+    Ok(ends_asleep(ex, waker)? && ends_notified(ex, waker)? && ends_with_task(ex, waker)?)
 }
 
 #[test]

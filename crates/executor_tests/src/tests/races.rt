@@ -1,4 +1,9 @@
 //! Executors that several threads use with no order between them.
+use super::support::future::{Kind, WakerPlace};
+use super::support::halt::{Halt, TURNS};
+use super::support::record::{Moment, Record};
+use super::support::task::{FutureWaker, TaskFuture, spawned};
+use super::support::waker::TestWaker;
 use async_executor::executor::{Executor, Task};
 use executor_core::task::{Future, Poll};
 use std::alloc::{AllocError, Global};
@@ -7,11 +12,6 @@ use std::sync::atomic::{AtomicU64, Ordering};
 use std::test::Fail;
 use std::thread;
 use std::thread::{Threads, yield_now};
-use test_parts::future::{Kind, WakerPlace};
-use test_parts::halt::{Halt, TURNS};
-use test_parts::record::{Moment, Record};
-use test_parts::task::{FutureWaker, TaskFuture, spawned};
-use test_parts::waker::TestWaker;
 
 type TestTask<R> = Task<TaskFuture<R>, TestWaker, R>;
 

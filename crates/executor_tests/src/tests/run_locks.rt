@@ -1,16 +1,16 @@
 //! No lock is held while a run runs something of the caller's: it halts, and another thread uses the
 //! same executor.
-use std::test::Fail;
-use test_parts::future::Kind::{Never, Ready, Yields};
-use test_parts::line::Answer::{Gone, Output, Pending};
-use test_parts::line::Line::{
+use super::support::future::Kind::{Never, Ready, Yields};
+use super::support::line::Answer::{Gone, Output, Pending};
+use super::support::line::Line::{
     AnotherWaker, Cancel, Count, Detach, DropHalts, DropHandle, Empty, HaltAt, HaltsAgain, MakeRun,
     MakeTick, Poll, PollHalts, Returns, Spawn, SpawnHalts, SpawnMany, Ticks, Used,
 };
-use test_parts::player::play;
-use test_parts::record::Moment::{
+use super::support::player::play;
+use super::support::record::Moment::{
     FutureDrop, FuturePoll, OutputDrop, WakerCopy, WakerDrop, WakerWake,
 };
+use std::test::Fail;
 
 #[test]
 fn while_the_own_future_is_polled(rt: HostRuntime) -> Result<(), Fail> {

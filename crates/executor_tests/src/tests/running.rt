@@ -1,14 +1,14 @@
 //! Runs: the turn of a run, its own future, the words of its searches, what its drop leaves behind,
 //! and whom it wakes.
-use std::test::Fail;
-use test_parts::future::Kind::{LeavesWaker, Never, Ready, Yields};
-use test_parts::line::Answer::{Output, Pending};
-use test_parts::line::Line::{
+use super::support::future::Kind::{LeavesWaker, Never, Ready, Yields};
+use super::support::line::Answer::{Output, Pending};
+use super::support::line::Line::{
     AnotherWaker, Cancel, Count, DropHandle, Empty, Finished, MakeRun, MakeTick, ManyRan,
     OtherWoken, Poll, Refuse, Spawn, SpawnMany, Ticks, Wake,
 };
-use test_parts::player::play;
-use test_parts::record::Moment::{FutureDrop, FuturePoll, OutputDrop, WakerCopy, WakerWake};
+use super::support::player::play;
+use super::support::record::Moment::{FutureDrop, FuturePoll, OutputDrop, WakerCopy, WakerWake};
+use std::test::Fail;
 
 #[test]
 fn a_run_yields_after_200_tasks(rt: HostRuntime) -> Result<(), Fail> {

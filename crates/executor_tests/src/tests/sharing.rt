@@ -1,4 +1,15 @@
 //! Runs on several threads, which share the tasks of one executor.
+use super::support::future::Kind::{Never, Ready};
+use super::support::future::{Until, WakerPlace};
+use super::support::halt::TURNS;
+use super::support::line::Answer::Pending;
+use super::support::line::Line::{
+    Count, HaltAt, MakeRun, Poll as PollBy, PollHalts, Returns, Spawn, Tick,
+};
+use super::support::player::play;
+use super::support::record::{AtDrop, Moment, Record};
+use super::support::task::{FutureWaker, spawned};
+use super::support::waker::TestWaker;
 use async_executor::executor::Executor;
 use executor_core::task::{Future, Poll, Wake};
 use std::alloc::{AllocError, Global};
@@ -6,17 +17,6 @@ use std::sync::atomic::{AtomicU64, Ordering};
 use std::sync::{Arc, Wait};
 use std::test::Fail;
 use std::thread::{self, Threads, yield_now};
-use test_parts::future::Kind::{Never, Ready};
-use test_parts::future::{Until, WakerPlace};
-use test_parts::halt::TURNS;
-use test_parts::line::Answer::Pending;
-use test_parts::line::Line::{
-    Count, HaltAt, MakeRun, Poll as PollBy, PollHalts, Returns, Spawn, Tick,
-};
-use test_parts::player::play;
-use test_parts::record::{AtDrop, Moment, Record};
-use test_parts::task::{FutureWaker, spawned};
-use test_parts::waker::TestWaker;
 
 // A run takes half of the tasks, rounded up, to its own queue, where `try_tick` does not look.
 #[test]

@@ -1,8 +1,8 @@
 //! Futures that are larger than a stack has room for.
+use super::support::task::output_of;
 use executor_core::task::{Future, Poll};
 use std::test::Fail;
 use std::thread::Builder;
-use test_parts::task::output_of;
 
 const FUTURE_BYTES: usize = 256 * 1024;
 

@@ -1,14 +1,14 @@
 //! What becomes of a task, and in which order, where it is cancelled or let go while another thread
 //! polls or drops its future.
-use std::test::Fail;
-use test_parts::future::Kind::{Never, Ready, WakesAndReady, Yields};
-use test_parts::line::Answer::{Cancelled, Pending, Ticked};
-use test_parts::line::Line::{
+use super::support::future::Kind::{Never, Ready, WakesAndReady, Yields};
+use super::support::line::Answer::{Cancelled, Pending, Ticked};
+use super::support::line::Line::{
     Cancel, Count, Detach, DropHandle, Empty, HaltAt, HaltsAgain, Poll, Returns, Spawn, Tick,
     TickHalts,
 };
-use test_parts::player::play;
-use test_parts::record::Moment::{FutureDrop, FuturePoll, OutputDrop, WakerWake};
+use super::support::player::play;
+use super::support::record::Moment::{FutureDrop, FuturePoll, OutputDrop, WakerWake};
+use std::test::Fail;
 
 #[test]
 fn a_task_that_is_cancelled_in_its_poll_gives_nothing(rt: HostRuntime) -> Result<(), Fail> {

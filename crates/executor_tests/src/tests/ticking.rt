@@ -1,13 +1,13 @@
 //! Ticks that sleep, are woken, and are dropped.
-use std::test::Fail;
-use test_parts::future::Kind::{LeavesWaker, Ready, Yields};
-use test_parts::line::Answer::{Output, Pending, Ticked};
-use test_parts::line::Line::{
+use super::support::future::Kind::{LeavesWaker, Ready, Yields};
+use super::support::line::Answer::{Output, Pending, Ticked};
+use super::support::line::Line::{
     AnotherWaker, Cancel, Count, DropHandle, Empty, Finished, MakeTick, OtherWoken, Poll, Refuse,
     Spawn, Tick, Wake,
 };
-use test_parts::player::play;
-use test_parts::record::Moment::{FutureDrop, FuturePoll, WakerCopy, WakerDrop, WakerWake};
+use super::support::player::play;
+use super::support::record::Moment::{FutureDrop, FuturePoll, WakerCopy, WakerDrop, WakerWake};
+use std::test::Fail;
 
 #[test]
 fn a_tick_runs_one_task(rt: HostRuntime) -> Result<(), Fail> {

@@ -1,4 +1,13 @@
 //! Ticks and runs that sleep, on several threads.
+use super::support::future::{Kind, Until};
+use super::support::halt::TURNS;
+use super::support::line::Answer;
+use super::support::line::Line::{
+    Count, HaltAt, MakeTick, Poll as PollBy, PollHalts, Returns, Spawn, TickHalts,
+};
+use super::support::player::play;
+use super::support::record::Moment::{FuturePoll, WakerWake};
+use super::support::task::spawned;
 use async_executor::executor::{Executor, Task};
 use executor_core::task::{Future, OutOfMemory, Poll, Wake};
 use std::alloc::{AllocError, Global};
@@ -8,15 +17,6 @@ use std::test::Fail;
 use std::thread;
 use std::thread::{Parker, Threads, yield_now};
 use std::time::Duration;
-use test_parts::future::{Kind, Until};
-use test_parts::halt::TURNS;
-use test_parts::line::Answer;
-use test_parts::line::Line::{
-    Count, HaltAt, MakeTick, Poll as PollBy, PollHalts, Returns, Spawn, TickHalts,
-};
-use test_parts::player::play;
-use test_parts::record::Moment::{FuturePoll, WakerWake};
-use test_parts::task::spawned;
 
 // The news of a task is spent before the task is polled, and so wakes nobody who goes to sleep while
 // it is polled.

@@ -1,12 +1,12 @@
 //! What a task's waker does, and what it no longer does.
-use std::test::Fail;
-use test_parts::future::Kind::LeavesWaker;
-use test_parts::line::Answer::{Output, Pending};
-use test_parts::line::Line::{
+use super::support::future::Kind::LeavesWaker;
+use super::support::line::Answer::{Output, Pending};
+use super::support::line::Line::{
     Count, Detach, DropExecutor, DropHandle, Poll, Spawn, Tick, Wake, WakeCopy, WakeElsewhere,
 };
-use test_parts::player::play;
-use test_parts::record::Moment::{FutureDrop, FuturePoll, WakerWake};
+use super::support::player::play;
+use super::support::record::Moment::{FutureDrop, FuturePoll, WakerWake};
+use std::test::Fail;
 
 #[test]
 fn an_idle_task_is_scheduled_once(rt: HostRuntime) -> Result<(), Fail> {

@@ -1,5 +1,5 @@
 //! Futures that are written by hand.
-use crate::record::{AtDrop, Moment, Record};
+use super::record::{AtDrop, Moment, Record};
 use executor_core::task::{Future, Poll, Wake};
 use std::alloc::{AllocError, Global};
 use std::sync::atomic::{AtomicU64, Ordering};

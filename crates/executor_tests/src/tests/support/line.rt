@@ -1,6 +1,6 @@
 //! The lines that a test is made of.
-use crate::future::Kind;
-use crate::record::Moment;
+use super::future::Kind;
+use super::record::Moment;
 
 /// What a call answers.
 #[derive(Clone, Copy, PartialEq, Eq, Debug)]

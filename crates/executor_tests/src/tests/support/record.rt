@@ -1,5 +1,5 @@
 //! What became of the parts of a task.
-use crate::halt::Halt;
+use super::halt::Halt;
 use std::alloc::{AllocError, Global};
 use std::sync::Arc;
 use std::sync::atomic::{AtomicBool, AtomicU64, Ordering};

@@ -1,5 +1,5 @@
 //! A waker for those who poll handles.
-use crate::record::{AtDrop, Moment, Record};
+use super::record::{AtDrop, Moment, Record};
 use executor_core::task::{OutOfMemory, Wake};
 use std::alloc::AllocError;
 

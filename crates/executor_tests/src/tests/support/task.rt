@@ -1,9 +1,9 @@
 //! One task, tick or run of a test.
-use crate::future::{Kind, Output, TestFuture, WakerPlace};
-use crate::halt::Halt;
-use crate::line::{Answer, Line};
-use crate::record::{Moment, Record};
-use crate::waker::TestWaker;
+use super::future::{Kind, Output, TestFuture, WakerPlace};
+use super::halt::Halt;
+use super::line::{Answer, Line};
+use super::record::{Moment, Record};
+use super::waker::TestWaker;
 use async_executor::executor::{Cancel, Executor, FallibleTask, Run, Task, TaskWaker, Tick};
 use executor_core::task::{Future, Poll, Wake};
 use std::alloc::{AllocError, Global};

@@ -1,12 +1,12 @@
 //! Takes the lines of a test in turn.
-use crate::future::{Kind, WakerPlace};
-use crate::halt::Halt;
-use crate::line::{Answer, Line};
-use crate::record::{Moment, Record};
-use crate::task::{
+use super::future::{Kind, WakerPlace};
+use super::halt::Halt;
+use super::line::{Answer, Line};
+use super::record::{Moment, Record};
+use super::task::{
     Entry, Handle, LentHandle, TaskFuture, TestExecutor, TestTicker, Ticker, spawned,
 };
-use crate::waker::TestWaker;
+use super::waker::TestWaker;
 use async_executor::executor::Executor;
 use executor_core::task::{Future, Wake};
 use std::alloc::{AllocError, Global};
@@ -228,12 +228,17 @@ impl<'s, E: 's, T: TestTicker<R> + 's, R: Wait + Threads + Clone + Drop + Send +
         };
         let ex = Arc::try_clone(ex)?;
         let waker = TestWaker::new(&self.many)?;
+        Ok(self.spawns_asleep(&ex, &waker)? && self.gives_up_last())
+    }
+
+    // Spawns a task that does not end while a tick of this executor sleeps.
+    fn spawns_asleep(&mut self, ex: &TestExecutor<R>, waker: &TestWaker) -> Result<bool, Fail> {
         let mut tick = ex.tick()?;
-        tick.poll(&waker);
+        tick.poll(waker);
         ex.is_empty();
         let was_spawned = self.spawn(Kind::Never);
         drop(tick);
-        Ok(was_spawned? && self.gives_up_last())
+        was_spawned
     }
 
     // Gives up the task that was spawned last, which has not ended, and has a tick drop its future.

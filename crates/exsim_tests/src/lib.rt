@@ -1,5 +1,0 @@
-//! Tests of `simulation` from above: whole runs, whose replies come from outside.
-#![tactic(auto)]
-
-#[cfg(test)]
-mod tests;
