@@ -1,4 +1,5 @@
-//! Short callers, one for each thing that an executor and its handles do. `main` runs them all.
+//! Short callers, one for each thing that an executor and its handles do. `main` runs them all, but
+//! for `crossing`, which only has to compile.
 #![tactic(auto)]
 
 mod calling;

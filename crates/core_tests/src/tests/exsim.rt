@@ -101,6 +101,13 @@ fn expect_run(rt: &impl Abort, alloc: Global, input: Source<'_>, output: &str, s
     assert_eq!(rt; ended, (status, true), "of {text:?}");
 }
 
+// That the run over each of these inputs writes the text beside it and ends at its end.
+fn expect_runs(rt: &impl Abort, alloc: Global, runs: &[(&str, &str)]) {
+    for &(input, output) in runs {
+        expect_run(rt, alloc, whole(input.as_bytes()), output, 0);
+    }
+}
+
 // These texts, each so many times.
 fn joined(alloc: Global, texts: &[(&[u8], usize)]) -> Result<Vec<u8>, Fail> {
     let mut all = Vec::new(alloc);

@@ -30,7 +30,7 @@ fn pages(rt: &HostRuntime) -> Result<u64, Fail> {
     }
 }
 
-// Whether a tick goes to sleep, which is dropped then.
+// Whether a tick goes to sleep. It is dropped asleep.
 fn ends_asleep<R: Wait + Clone + Drop + Send + Sync>(
     ex: &Executor<Ready<u64>, Wide, R>,
     waker: &Wide,

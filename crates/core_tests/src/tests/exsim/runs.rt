@@ -1,5 +1,5 @@
 //! The lines of runs.
-use super::{Turn, expect_run, expect_turns, whole};
+use super::{Turn, expect_runs, expect_turns};
 use std::test::Fail;
 
 // What is read, and what is written.
@@ -61,9 +61,7 @@ const RUNS: [(&str, &str); 5] = [
 
 #[test]
 fn runs_search_steal_and_end(rt: HostRuntime) {
-    for &(input, output) in &RUNS {
-        expect_run(&rt, rt.alloc(), whole(input.as_bytes()), output, 0);
-    }
+    expect_runs(&rt, rt.alloc(), &RUNS);
 }
 
 // The lines of a run.
