@@ -1,5 +1,5 @@
 -- What a run makes of the decisions of its ticks.
-use Rattle.std.proofs.Common.{◌≡◌, ℕ, ◌+◌, ◌%◌, ◌^◌, ◌<◌, Bool, true, false, cond, inl, inr, Option, None, refl, sym, ap, subst, ◌∙◌, arith}
+use Rattle.std.proofs.Common.{◌≡◌, ℕ, ◌+◌, ◌<◌, Bool, true, false, cond, inl, inr, Option, None, refl, sym, ap, subst, ◌∙◌, arith}
 use Rattle.std.proofs.lemmas.Bool.{cases_Bool, eqb-true, eq-eqb, ltb-true, lt-ltb, cond-true, cond-false, cond_both, ne_eqb, false≢true}
 use Rattle.std.specs.Prelude.{nat_lt, ◌==◌}
 use Rattle.executor_core.specs.declared.interleave.ticker.Phase.TheVariants as phase
@@ -11,35 +11,35 @@ use Rattle.async_executor.specs.Ticks.Courses.{Course, Waiting, Seeking, Departi
 use Rattle.async_executor.specs.Ticks.Steps as ticks_steps
 use Rattle.async_executor.specs.Ticks.Tickers as ticks_seen
 use Rattle.async_executor.specs.Runs.{AskTick, AskFair, AskNothing, is_fit, asked, asked_in, answers, store_asked, IsAsked, IsFitNext}
-use Rattle.async_executor.specs.Runs.Decisions.{turn, ask, run_rest, run_ended, searching, dropping, after_task, run_found, found, working, passing_on, leaving, resumed}
+use Rattle.async_executor.specs.Runs.Decisions.{turn, ask, run_rest, run_ended, searching, dropping, after_task, found, working, passing_on, leaving, resumed}
 use Rattle.async_executor.specs.Runs.Steps.{left_awake, ran, worked, passed_on, ticked, leads}
 use Rattle.async_executor.specs.Runs.Tickers.{runner_in, run_at, ticker_in, ticker_of, ticker_after}
 use Rattle.async_executor.specs.Runs.Turns.{under_way, runs_in, TurnFrom}
-use Rattle.async_executor.specs.declared.runner.machine.Aim.{Aim}
-use Rattle.async_executor.specs.declared.runner.machine.Aim.TheVariants.{Work, PassOn, Leave}
-use Rattle.async_executor.specs.declared.runner.machine.Runner.{Runner}
-use Rattle.async_executor.specs.declared.runner.machine.RunAction.TheVariants as asks
-use Rattle.async_executor.specs.declared.runner.machine.RunMachine.{RunMachine}
-use Rattle.async_executor.specs.declared.runner.machine.RunNext.{RunNext}
-use Rattle.async_executor.specs.declared.runner.machine.RunReply.{RunReply}
-use Rattle.async_executor.specs.declared.runner.machine.RunReply.TheVariants.{Tick}
-use Rattle.async_executor.specs.declared.runner.machine.Stage.{Stage}
-use Rattle.async_executor.specs.declared.runner.machine.Stage.TheVariants as stage
-use Rattle.async_executor.specs.declared.runner.machine.State as run
-use Rattle.async_executor.specs.declared.runner.machine.State.TheVariants.{Ticking}
-use Rattle.async_executor.specs.declared.ticker.machine.LeavingState.TheVariants.{Removing, StoringRemoved, Exchanging, Notifying, Waking, Running}
-use Rattle.async_executor.specs.declared.ticker.machine.State.{State}
-use Rattle.async_executor.specs.declared.ticker.machine.State.TheVariants.{Resting, Searching, Inserting, Updating, Storing, Leaving}
-use Rattle.async_executor.specs.declared.ticker.machine.TickAction.{TickAction}
-use Rattle.async_executor.specs.declared.ticker.machine.TickAction.TheVariants.{Search, Insert, Update, Store, Remove, StoreRemoved, Exchange, Notify, Wake, Run}
-use Rattle.async_executor.specs.declared.ticker.machine.TickEnd.{TickEnd}
-use Rattle.async_executor.specs.declared.ticker.machine.TickEnd.TheVariants.{Park, Yield, Return}
-use Rattle.async_executor.specs.declared.ticker.machine.TickMachine.{TickMachine}
-use Rattle.async_executor.specs.declared.ticker.machine.TickRest.{TickRest}
-use Rattle.async_executor.specs.declared.ticker.machine.TickNext.{TickNext}
-use Rattle.async_executor.specs.declared.ticker.machine.TickNext.TheVariants.{Act, Rest}
-use Rattle.async_executor.specs.declared.ticker.machine.TickReply.{TickReply}
-use Rattle.async_executor.specs.declared.ticker.machine.TickReply.TheVariants.{Begin, Dropped, Found, Empty, NoWaker, NoPlace, Inserted, Asleep, WasNotified, Unknown, Stored, RemovedIt, StoredRemoved, Exchanged, Notified, Woken, Ran}
+use Rattle.async_executor.specs.declared.machine.run.Aim.{Aim}
+use Rattle.async_executor.specs.declared.machine.run.Aim.TheVariants.{Work, PassOn, Leave}
+use Rattle.async_executor.specs.declared.machine.run.Runner.{Runner}
+use Rattle.async_executor.specs.declared.machine.run.RunAction.TheVariants as asks
+use Rattle.async_executor.specs.declared.machine.run.RunMachine.{RunMachine}
+use Rattle.async_executor.specs.declared.machine.run.RunNext.{RunNext}
+use Rattle.async_executor.specs.declared.machine.run.RunReply.{RunReply}
+use Rattle.async_executor.specs.declared.machine.run.RunReply.TheVariants.{Tick}
+use Rattle.async_executor.specs.declared.machine.run.Stage.{Stage}
+use Rattle.async_executor.specs.declared.machine.run.Stage.TheVariants as stage
+use Rattle.async_executor.specs.declared.machine.run.State as run
+use Rattle.async_executor.specs.declared.machine.run.State.TheVariants.{Ticking}
+use Rattle.async_executor.specs.declared.machine.tick.LeavingState.TheVariants.{Removing, StoringRemoved, Exchanging, Notifying, Waking, Running}
+use Rattle.async_executor.specs.declared.machine.tick.State.{State}
+use Rattle.async_executor.specs.declared.machine.tick.State.TheVariants.{Resting, Searching, Inserting, Updating, Storing, Leaving}
+use Rattle.async_executor.specs.declared.machine.tick.TickAction.{TickAction}
+use Rattle.async_executor.specs.declared.machine.tick.TickAction.TheVariants.{Search, Insert, Update, Store, Remove, StoreRemoved, Exchange, Notify, Wake, Run}
+use Rattle.async_executor.specs.declared.machine.tick.TickEnd.{TickEnd}
+use Rattle.async_executor.specs.declared.machine.tick.TickEnd.TheVariants.{Park, Yield, Return}
+use Rattle.async_executor.specs.declared.machine.tick.TickMachine.{TickMachine}
+use Rattle.async_executor.specs.declared.machine.tick.TickRest.{TickRest}
+use Rattle.async_executor.specs.declared.machine.tick.TickNext.{TickNext}
+use Rattle.async_executor.specs.declared.machine.tick.TickNext.TheVariants.{Act, Rest}
+use Rattle.async_executor.specs.declared.machine.tick.TickReply.{TickReply}
+use Rattle.async_executor.specs.declared.machine.tick.TickReply.TheVariants.{Begin, Dropped, Found, Empty, NoWaker, NoPlace, Inserted, Asleep, WasNotified, Unknown, Stored, RemovedIt, StoredRemoved, Exchanged, Notified, Woken, Ran}
 
 -- the course of a tick that does what it acts for
 pub works : (c : Course) → is_fit Work c ≡ true → c ≡ Seeking
@@ -87,10 +87,6 @@ resting_count count here within none =
     let short : count + here ≡ turn → ⊥ = (λ full. omega arith) in
     same ∙ sym (cond-false (count + here == turn) _ _ (ne_eqb _ _ short))
 
--- a runner that found one task more
-abbrev counted : Runner → Runner
-counted runner = record runner { ticks = (runner.ticks + 1) % 2 ^ 64 }
-
 module _ {W : Type 0} where
   -- a machine that is fit answers to what its tick waits for
   pub gate : (fit : Bool) (asked : Asked) (reply : TickReply W) → answers (cond fit (AskTick asked) AskNothing) (Tick reply) ≡ true → (fit ≡ true) × (ticks.answers asked reply ≡ true)
@@ -98,8 +94,8 @@ module _ {W : Type 0} where
   gate false asked reply answered = absurd (cc)
 
   -- what holds of each of the answers of a decision holds of it
-  found_both : (P : RunNext W → Type 0) (runner : Runner) (machine : TickMachine) (taken : Taken (Unit {0})) → P (ask runner (run.TheVariants.Sharing machine taken) asks.Fair) → P (ask runner (Ticking Work machine) (asks.Tick (Run taken))) → P (run_found runner machine taken)
-  found_both P runner machine taken shared runs = cond_both _ _ _ P (λ _. shared) (λ _. runs)
+  found_both : (P : RunNext W → Type 0) (runner : Runner) (machine : TickMachine) (taken : Taken (Unit {0})) → P (ask (record runner { found = runner.found + 1 }) (Ticking Work machine) (asks.Tick (Run taken))) → P (ask (record runner { found = 0 }) (run.TheVariants.Sharing machine taken) asks.Fair) → P (found runner machine taken)
+  found_both P runner machine taken runs shared = cond_both _ _ _ P (λ _. runs) (λ _. shared)
 
   after_both : (P : RunNext W → Type 0) (runner : Runner) → (nat_lt (runner.count + 1) turn ≡ true → P (searching (record runner { count = runner.count + 1 }) 0)) → (nat_lt (runner.count + 1) turn ≡ false → P (run_rest (record runner { count = 0 }) (stage.Joined 0) Yield)) → P (after_task runner)
   after_both P runner more full = cond_both _ _ _ P more full
@@ -115,9 +111,9 @@ module _ {W : Type 0} where
   -- what a run asks for is what its machine waits for
   pub working_asked : (runner : Runner) (next : TickNext W) → ticks.IsAsked next → IsFitNext Work next → IsAsked (working runner next)
   working_asked runner (Act machine (Run taken)) is fit =
-      found_both IsAsked (counted runner) machine taken
-      (cond-true (is_fit Work (course machine)) _ _ fit ∙ ap AskFair is)
+      found_both IsAsked runner machine taken
       (ticking_asked Work machine _ fit is)
+      (cond-true (is_fit Work (course machine)) _ _ fit ∙ ap AskFair is)
   working_asked runner (Act machine (Search again)) is fit = ticking_asked Work machine _ fit is
   working_asked runner (Act machine Insert) is fit = ticking_asked Work machine _ fit is
   working_asked runner (Act machine (Update number)) is fit = ticking_asked Work machine _ fit is
@@ -132,7 +128,7 @@ module _ {W : Type 0} where
   working_asked runner (Rest rest Yield) is fit = refl
 
   pub working_store : (runner : Runner) (next : TickNext W) → store_asked (working runner next) ≡ ticks.store_asked next
-  working_store runner (Act machine (Run taken)) = found_both (λ n. store_asked n ≡ None) (counted runner) machine taken refl refl
+  working_store runner (Act machine (Run taken)) = found_both (λ n. store_asked n ≡ None) runner machine taken refl refl
   working_store runner (Act machine (Search again)) = refl
   working_store runner (Act machine Insert) = refl
   working_store runner (Act machine (Update number)) = refl
@@ -246,7 +242,7 @@ module _ {W : Type 0} where
 
   -- an action that a run asks for is seen as that of its tick
   pub working_seen : (runner : Runner) (machine : TickMachine) (action : TickAction W) → ticker_after (working runner (Act machine action)) ≡ ticks_seen.ticker_after (runner_in runner) (Act machine action)
-  working_seen runner machine (Run taken) = found_both (λ n. ticker_after n ≡ ticks_seen.ticker_of (runner_in runner) false machine) (counted runner) machine taken refl refl
+  working_seen runner machine (Run taken) = found_both (λ n. ticker_after n ≡ ticks_seen.ticker_of (runner_in runner) false machine) runner machine taken refl refl
   working_seen runner machine (Search again) = refl
   working_seen runner machine Insert = refl
   working_seen runner machine (Update number) = refl
@@ -287,7 +283,7 @@ drops_in_turn W runner here number within none =
 pub found_in_turn : (W : Type 0) (runner : Runner) (here : ℕ) (machine : TickMachine) (taken : Taken (Unit {0})) → runner.count < turn → here ≡ 0 → ticks.asked machine ≡ AskRun → TurnFrom {W = W} (runner.count + here) (found runner machine taken)
 found_in_turn W runner here machine taken within none is =
     let runs : under_way (ticks.asked machine) ≡ 1 = ap under_way is in
-    found_both (TurnFrom (runner.count + here)) (counted runner) machine taken (within, omega arith) (within, omega arith)
+    found_both (TurnFrom (runner.count + here)) runner machine taken (within, omega arith) (within, omega arith)
 
 last_of_turn : (runner : Runner) (here : ℕ) → runner.count < turn → here ≡ 1 → nat_lt (runner.count + 1) turn ≡ false → runner.count + here ≡ turn
 last_of_turn runner here within one full = let bound : (runner.count + 1 < turn → ⊥) = (λ more. false≢true (sym full ∙ lt-ltb _ _ more)) in omega arith

@@ -9,22 +9,22 @@ use Rattle.executor_core.specs.declared.task.id.TaskId.{TaskId}
 use Rattle.async_executor.specs.Ticks.{Asked, is_return}
 use Rattle.async_executor.specs.Ticks as ticks
 use Rattle.async_executor.specs.Ticks.Courses.{Course, Waiting, Seeking, Departing, course}
-use Rattle.async_executor.specs.declared.runner.machine.Aim.{Aim}
-use Rattle.async_executor.specs.declared.runner.machine.Aim.TheVariants.{Work, PassOn, Leave}
-use Rattle.async_executor.specs.declared.runner.machine.State.{State}
-use Rattle.async_executor.specs.declared.runner.machine.State.TheVariants.{Starting, Resting, Registering, PollingOwn, Ticking, Sharing, Unregistering, Releasing}
-use Rattle.async_executor.specs.declared.runner.machine.Stage.{Stage}
-use Rattle.async_executor.specs.declared.runner.machine.Stage.TheVariants as stage
-use Rattle.async_executor.specs.declared.runner.machine.RunAction.{RunAction}
-use Rattle.async_executor.specs.declared.runner.machine.RunAction.TheVariants as asks
-use Rattle.async_executor.specs.declared.runner.machine.RunMachine.{RunMachine}
-use Rattle.async_executor.specs.declared.runner.machine.RunNext.{RunNext}
-use Rattle.async_executor.specs.declared.runner.machine.RunNext.TheVariants.{Act, Rest}
-use Rattle.async_executor.specs.declared.runner.machine.RunReply.{RunReply}
-use Rattle.async_executor.specs.declared.runner.machine.RunReply.TheVariants.{Begin, Dropped, Registered, NotRegistered, OwnPending, OwnReady, Tick, Moved, Unregistered, Released}
-use Rattle.async_executor.specs.declared.runner.machine.RunRest.{RunRest}
-use Rattle.async_executor.specs.declared.ticker.machine.TickNext.{TickNext}
-use Rattle.async_executor.specs.declared.ticker.machine.TickNext.TheVariants as tick
+use Rattle.async_executor.specs.declared.machine.run.Aim.{Aim}
+use Rattle.async_executor.specs.declared.machine.run.Aim.TheVariants.{Work, PassOn, Leave}
+use Rattle.async_executor.specs.declared.machine.run.State.{State}
+use Rattle.async_executor.specs.declared.machine.run.State.TheVariants.{Starting, Resting, Registering, PollingOwn, Ticking, Sharing, Unregistering, Releasing}
+use Rattle.async_executor.specs.declared.machine.run.Stage.{Stage}
+use Rattle.async_executor.specs.declared.machine.run.Stage.TheVariants as stage
+use Rattle.async_executor.specs.declared.machine.run.RunAction.{RunAction}
+use Rattle.async_executor.specs.declared.machine.run.RunAction.TheVariants as asks
+use Rattle.async_executor.specs.declared.machine.run.RunMachine.{RunMachine}
+use Rattle.async_executor.specs.declared.machine.run.RunNext.{RunNext}
+use Rattle.async_executor.specs.declared.machine.run.RunNext.TheVariants.{Act, Rest}
+use Rattle.async_executor.specs.declared.machine.run.RunReply.{RunReply}
+use Rattle.async_executor.specs.declared.machine.run.RunReply.TheVariants.{Begin, Dropped, Registered, NotRegistered, OwnPending, OwnReady, Tick, Moved, Unregistered, Released}
+use Rattle.async_executor.specs.declared.machine.run.RunRest.{RunRest}
+use Rattle.async_executor.specs.declared.machine.tick.TickNext.{TickNext}
+use Rattle.async_executor.specs.declared.machine.tick.TickNext.TheVariants as tick
 
 -- what is asked: to begin or to be dropped, one of the actions, or what is asked of a tick
 pub data RunAsked : Type 0 where

@@ -5,6 +5,7 @@
 ghost use Rattle.std.specs.Prelude.{◌≡◌, false, IfOk, IfErr};
 ghost use Rattle.executor_core.specs.SpawnError.{refused_future};
 ghost use Rattle.async_executor.specs.RunError.{run_future};
+ghost use Rattle.async_executor.specs.Runs.{has_ended};
 
 mod handles;
 mod tickers;
@@ -128,7 +129,8 @@ where
     ///
     /// Example: `uses::pools`.
     pub fn run<G: Future<W>>(&self, future: G) -> Result<Run<'_, F, W, R, G>, RunError<G>>
-        ensures { IfErr result (λ e. run_future e ≡ future) }
+        ensures ok { IfOk result (λ run. has_ended run.inner.rest ≡ false) }
+        ensures refused { IfErr result (λ e. run_future e ≡ future) }
     {
         match self.inner.run(future) {
             Ok(inner) => Ok(Run { inner }),

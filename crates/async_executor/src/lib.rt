@@ -15,7 +15,9 @@
 
 pub mod executor;
 pub(crate) mod home;
+pub(crate) mod limits;
 pub(crate) mod lock;
+pub(crate) mod machine;
 pub(crate) mod poller;
 pub mod runner;
 pub(crate) mod scheduler;

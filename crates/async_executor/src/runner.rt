@@ -20,11 +20,10 @@
 //! runner. Once in 64 tasks it takes its part of the shared queue before it runs the task, so that
 //! tasks there are not left behind its own. After 200 tasks it lets others of its thread go on.
 
-mod machine;
 mod run;
 mod words;
 
-pub use machine::{RunAction, RunMachine, RunNext, RunReply, RunRest};
+pub use crate::machine::{RunAction, RunMachine, RunNext, RunReply, RunRest};
 pub use run::RunError;
 pub(crate) use run::RunIn;
 pub use words::Words;

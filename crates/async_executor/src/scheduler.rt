@@ -8,9 +8,11 @@
 ghost use Rattle.std.specs.Prelude.{◌≡◌, true, false, IfOk, IfErr};
 ghost use Rattle.executor_core.specs.SpawnError.{refused_future};
 ghost use Rattle.async_executor.specs.RunError.{run_future};
+ghost use Rattle.async_executor.specs.Runs.{has_ended};
 ghost use Rattle.async_executor.specs.Store.{IsHeldRight, IsLeftRight};
 
 use crate::home::{Home, OutIn, OutputIn};
+use crate::limits::LOCAL_PLACES;
 use crate::poller::TaskPoller;
 use crate::runner::{RunError, RunIn};
 use crate::state::{State, announce};
@@ -22,9 +24,6 @@ use executor_core::task::{
     EndPending, Future, Held, OutOfMemory, Ran, SpawnError, Taken, TaskId, run_taken,
 };
 use std::alloc::Global;
-
-// How many tasks the queue of a runner has room for.
-const LOCAL_PLACES: usize = 512;
 
 /// A share of an executor, which spawns tasks and runs them.
 #[derive(Drop)]
@@ -81,7 +80,8 @@ impl<H: Home> ExecutorIn<H> {
     /// A future that runs tasks beside this one. The queue of its runner is made here, and a
     /// sleeper's and a runner's place are reserved. What was made before a refusal is given back.
     pub(crate) fn run<G: Future<H::Waker>>(&self, future: G) -> Result<RunIn<'_, H, G>, RunError<G>>
-        ensures { IfErr result (λ e. run_future e ≡ future) }
+        ensures ok { IfOk result (λ run. has_ended run.rest ≡ false) }
+        ensures refused { IfErr result (λ e. run_future e ≡ future) }
     {
         let state = self.state();
         let Ok(ring) = Ring::new(state.alloc(), LOCAL_PLACES) else {

@@ -8,7 +8,7 @@ ghost use Rattle.executor_core.specs.SpawnError.{refused_future};
 ghost use Rattle.async_executor.specs.Store.{IsHeldRight, IsLeftRight, IsEndRight, kept_at, is_vacant, future_in, output_in, inserted, with_place, HasRoom};
 
 use crate::state::State;
-use crate::waker::TaskWaker;
+use crate::waker::{LentWake, TaskWaker};
 use executor_core::queue::RunnerKey;
 use executor_core::task::{
     Again, Cells, EndPending, EndReady, Held, Notice, OutOfMemory, PollHandle, Ran, SpawnError,
@@ -262,13 +262,15 @@ impl<F: Drop, W: Wake, R: Wait + Clone + Drop, T: Drop> Store<F, Arc<State<W, R>
     {
         match ran {
             Ran::Pending(held, ()) => {
-                let Some(is_woken) = self.put_back(id, out) else {
-                    return Err(LeftOver::Refused(held));
-                };
-                if is_woken {
-                    if let Some(notice) = cells.wake(id) {
+                let (is_kept, wake) = self.put_back(id, out);
+                // Before the task is ended: one that was woken meanwhile is queued again by its end.
+                if let Some(wake) = wake {
+                    if let Some(notice) = wake.make(cells) {
                         return Err(LeftOver::Woken(held, notice));
                     }
+                }
+                if !is_kept {
+                    return Err(LeftOver::Refused(held));
                 }
                 match cells.end_pending(held, ()) {
                     EndPending::Back(notice) => Ok(notice),
@@ -287,19 +289,19 @@ impl<F: Drop, W: Wake, R: Wait + Clone + Drop, T: Drop> Store<F, Arc<State<W, R>
         }
     }
 
-    // Puts a future that was out back, where it has a place, and says whether the waker that it was
-    // lent was woken.
+    // Puts a future that was out back, and says whether it has its place. The wake of the waker that
+    // it was lent comes out.
     #[inline(always)]
-    fn put_back(&mut self, id: TaskId, out: &mut Out<F, W, R>) -> Option<bool> {
+    fn put_back(&mut self, id: TaskId, out: &mut Out<F, W, R>) -> (bool, Option<LentWake>) {
         let Some((future, waker)) = out.take() else {
-            return Some(false);
+            return (true, None);
         };
-        let (state, is_woken) = waker.into_parts();
+        let (state, wake) = waker.into_parts();
         match self.keep_future(id, future, state) {
-            None => Some(is_woken),
+            None => (true, Some(wake)),
             Some((future, state)) => {
                 *out = Some((future, TaskWaker::lent(state, id)));
-                None
+                (false, Some(wake))
             }
         }
     }

@@ -24,8 +24,7 @@
 //! number was notified, the notice that comes of the removal is spent on the flag, and another
 //! sleeper may be woken in its place.
 
-mod machine;
 mod tick;
 
-pub use machine::{TickAction, TickEnd, TickMachine, TickNext, TickReply, TickRest};
-pub(crate) use tick::{TickIn, insert, remove, update};
+pub use crate::machine::{TickAction, TickEnd, TickMachine, TickNext, TickReply, TickRest};
+pub(crate) use tick::{Slept, TickIn, announce_found, leave, sleep};

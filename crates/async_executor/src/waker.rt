@@ -3,11 +3,12 @@
 //! A poll is lent a waker, which cannot be kept: what is kept is a copy. A copy that is woken
 //! schedules its task at once. The lent one is only marked, which takes no lock; the task is woken
 //! when its poll has ended, in the change that ends it.
-ghost use Rattle.std.specs.Prelude.{◌≡◌, true, false, is_some};
+ghost use Rattle.std.specs.Prelude.{◌≡◌, true, false, is_some, cond};
+ghost use Rattle.executor_core.specs.Cells.Calls.{after_wake};
 
 use crate::lock::lock;
 use crate::state::{State, announce};
-use executor_core::task::{OutOfMemory, TaskId, Wake};
+use executor_core::task::{Cells, Notice, OutOfMemory, TaskId, Wake};
 use std::sync::atomic::{AtomicBool, Ordering};
 use std::sync::{Arc, Wait};
 
@@ -37,16 +38,40 @@ impl<W: Wake, R: Wait + Clone + Drop> TaskWaker<W, R> {
         TaskWaker { state, id, mark }
     }
 
-    /// The share of the state that the waker was made of, and whether it is lent and was woken.
-    pub(crate) fn into_parts(self) -> (Arc<State<W, R>>, bool)
+    /// The share of the state that the waker was made of, and the wake that it owes its task if it is
+    /// lent.
+    pub(crate) fn into_parts(self) -> (Arc<State<W, R>>, LentWake)
         ensures state { result.0 ≡ self.state }
-        ensures copy { is_some self.mark ≡ false → result.1 ≡ false }
+        ensures id { result.1.id ≡ self.id }
+        ensures copy { is_some self.mark ≡ false → result.1.is_woken ≡ false }
     {
-        let TaskWaker { state, id: _, mark } = self;
-        match mark {
-            Some(mark) => (state, mark.into_inner()),
-            None => (state, false),
+        let TaskWaker { state, id, mark } = self;
+        let is_woken = match mark {
+            Some(mark) => mark.into_inner(),
+            None => false,
+        };
+        (state, LentWake { id, is_woken })
+    }
+}
+
+/// Whether the waker that a poll was lent was woken: then its task is still to be woken. It can be
+/// neither copied nor dropped.
+pub(crate) struct LentWake {
+    id: TaskId,
+    is_woken: bool,
+}
+
+impl LentWake {
+    /// Wakes the task, if the waker was woken.
+    #[inline(always)]
+    pub(crate) fn make<W>(self, cells: &mut Cells<(), (), W>) -> Option<Notice>
+        ensures { cells.new ≡ cond self.is_woken (after_wake cells.old self.id) cells.old }
+    {
+        let LentWake { id, is_woken } = self;
+        if is_woken {
+            return cells.wake(id);
         }
+        None
     }
 }
 

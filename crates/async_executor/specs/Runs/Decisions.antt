@@ -1,29 +1,29 @@
 -- The table of decisions of a run: by what its machine waits for and the reply, what it asks for next and keeps.
-use Rattle.std.specs.Prelude.{◌≡◌, ℕ, ◌+◌, ◌%◌, ◌^◌, ◌==◌, nat_lt, Some, None, cond}
+use Rattle.std.specs.Prelude.{◌≡◌, ℕ, ◌+◌, ◌==◌, nat_lt, Some, None, cond}
 use Rattle.executor_core.specs.declared.task.values.Taken.{Taken}
 use Rattle.async_executor.specs.Ticks.Decisions as ticks
-use Rattle.async_executor.specs.declared.runner.machine.Aim.{Aim}
-use Rattle.async_executor.specs.declared.runner.machine.Aim.TheVariants.{Work, PassOn, Leave}
-use Rattle.async_executor.specs.declared.runner.machine.Runner.{Runner}
-use Rattle.async_executor.specs.declared.runner.machine.Stage.{Stage}
-use Rattle.async_executor.specs.declared.runner.machine.Stage.TheVariants as stage
-use Rattle.async_executor.specs.declared.runner.machine.State.{State}
-use Rattle.async_executor.specs.declared.runner.machine.State.TheVariants.{Starting, Resting, Registering, PollingOwn, Ticking, Sharing, Unregistering, Releasing}
-use Rattle.async_executor.specs.declared.runner.machine.RunAction.{RunAction}
-use Rattle.async_executor.specs.declared.runner.machine.RunAction.TheVariants as asks
-use Rattle.async_executor.specs.declared.runner.machine.RunMachine.{RunMachine}
-use Rattle.async_executor.specs.declared.runner.machine.RunNext.{RunNext}
-use Rattle.async_executor.specs.declared.runner.machine.RunNext.TheVariants.{Act, Rest}
-use Rattle.async_executor.specs.declared.runner.machine.RunReply.{RunReply}
-use Rattle.async_executor.specs.declared.runner.machine.RunReply.TheVariants.{Begin, Dropped, Registered, NotRegistered, OwnPending, OwnReady, Tick, Moved, Unregistered, Released}
-use Rattle.async_executor.specs.declared.ticker.machine.LeavingState.TheVariants.{Removing, Exchanging}
-use Rattle.async_executor.specs.declared.ticker.machine.State.TheVariants as tick
-use Rattle.async_executor.specs.declared.ticker.machine.TickAction.TheVariants.{Search, Remove, Exchange, Run}
-use Rattle.async_executor.specs.declared.ticker.machine.TickEnd.{TickEnd}
-use Rattle.async_executor.specs.declared.ticker.machine.TickEnd.TheVariants.{Yield, Return}
-use Rattle.async_executor.specs.declared.ticker.machine.TickMachine.{TickMachine}
-use Rattle.async_executor.specs.declared.ticker.machine.TickNext.{TickNext}
-use Rattle.async_executor.specs.declared.ticker.machine.TickNext.TheVariants as decided
+use Rattle.async_executor.specs.declared.machine.run.Aim.{Aim}
+use Rattle.async_executor.specs.declared.machine.run.Aim.TheVariants.{Work, PassOn, Leave}
+use Rattle.async_executor.specs.declared.machine.run.Runner.{Runner}
+use Rattle.async_executor.specs.declared.machine.run.Stage.{Stage}
+use Rattle.async_executor.specs.declared.machine.run.Stage.TheVariants as stage
+use Rattle.async_executor.specs.declared.machine.run.State.{State}
+use Rattle.async_executor.specs.declared.machine.run.State.TheVariants.{Starting, Resting, Registering, PollingOwn, Ticking, Sharing, Unregistering, Releasing}
+use Rattle.async_executor.specs.declared.machine.run.RunAction.{RunAction}
+use Rattle.async_executor.specs.declared.machine.run.RunAction.TheVariants as asks
+use Rattle.async_executor.specs.declared.machine.run.RunMachine.{RunMachine}
+use Rattle.async_executor.specs.declared.machine.run.RunNext.{RunNext}
+use Rattle.async_executor.specs.declared.machine.run.RunNext.TheVariants.{Act, Rest}
+use Rattle.async_executor.specs.declared.machine.run.RunReply.{RunReply}
+use Rattle.async_executor.specs.declared.machine.run.RunReply.TheVariants.{Begin, Dropped, Registered, NotRegistered, OwnPending, OwnReady, Tick, Moved, Unregistered, Released}
+use Rattle.async_executor.specs.declared.machine.tick.LeavingState.TheVariants.{Removing, Exchanging}
+use Rattle.async_executor.specs.declared.machine.tick.State.TheVariants as tick
+use Rattle.async_executor.specs.declared.machine.tick.TickAction.TheVariants.{Search, Remove, Exchange, Run}
+use Rattle.async_executor.specs.declared.machine.tick.TickEnd.{TickEnd}
+use Rattle.async_executor.specs.declared.machine.tick.TickEnd.TheVariants.{Yield, Return}
+use Rattle.async_executor.specs.declared.machine.tick.TickMachine.{TickMachine}
+use Rattle.async_executor.specs.declared.machine.tick.TickNext.{TickNext}
+use Rattle.async_executor.specs.declared.machine.tick.TickNext.TheVariants as decided
 
 -- the tasks of a turn, and those from one fair part to the next
 abbrev pub turn : ℕ
@@ -61,14 +61,10 @@ module _ {W : Type 0} where
   after_task runner =
       cond (nat_lt (runner.count + 1) turn) (searching (record runner { count = runner.count + 1 }) 0) (run_rest (record runner { count = 0 }) (stage.Joined 0) Yield)
 
-  -- the task that was found last: now and then it takes its fair part first
-  abbrev pub run_found : Runner → TickMachine → Taken (Unit {0}) → RunNext W
-  run_found runner machine taken =
-      cond (runner.ticks % fair == 0) (ask runner (Sharing machine taken) asks.Fair) (ask runner (Ticking Work machine) (asks.Tick (Run taken)))
-
-  -- one task more was found
+  -- one task more was found: with the last one of so many it takes its fair part first, and counts anew
   abbrev pub found : Runner → TickMachine → Taken (Unit {0}) → RunNext W
-  found runner machine taken = run_found (record runner { ticks = (runner.ticks + 1) % 2 ^ 64 }) machine taken
+  found runner machine taken =
+      cond (nat_lt (runner.found + 1) fair) (ask (record runner { found = runner.found + 1 }) (Ticking Work machine) (asks.Tick (Run taken))) (ask (record runner { found = 0 }) (Sharing machine taken) asks.Fair)
 
   -- what comes of the decision of a tick that acts for the run
   abbrev pub working : Runner → TickNext W → RunNext W

@@ -5,14 +5,14 @@ use Rattle.executor_core.specs.declared.interleave.ticker.Ticker.{Ticker}
 use Rattle.async_executor.specs.Runs.Decisions.{turn}
 use Rattle.async_executor.specs.Ticks.Courses.{Seeking, Departing, ends}
 use Rattle.async_executor.specs.Ticks.Steps as ticks
-use Rattle.async_executor.specs.declared.runner.machine.Aim.TheVariants.{Work, PassOn, Leave}
-use Rattle.async_executor.specs.declared.runner.machine.State.TheVariants.{Ticking}
-use Rattle.async_executor.specs.declared.runner.machine.RunMachine.{RunMachine}
-use Rattle.async_executor.specs.declared.runner.machine.State.{State}
-use Rattle.async_executor.specs.declared.runner.machine.RunReply.{RunReply}
-use Rattle.async_executor.specs.declared.runner.machine.RunReply.TheVariants.{Begin, Dropped, Registered, NotRegistered, OwnPending, OwnReady, Tick, Moved, Unregistered, Released}
-use Rattle.async_executor.specs.declared.ticker.machine.TickReply.{TickReply}
-use Rattle.async_executor.specs.declared.ticker.machine.State as tick
+use Rattle.async_executor.specs.declared.machine.run.Aim.TheVariants.{Work, PassOn, Leave}
+use Rattle.async_executor.specs.declared.machine.run.State.TheVariants.{Ticking}
+use Rattle.async_executor.specs.declared.machine.run.RunMachine.{RunMachine}
+use Rattle.async_executor.specs.declared.machine.run.State.{State}
+use Rattle.async_executor.specs.declared.machine.run.RunReply.{RunReply}
+use Rattle.async_executor.specs.declared.machine.run.RunReply.TheVariants.{Begin, Dropped, Registered, NotRegistered, OwnPending, OwnReady, Tick, Moved, Unregistered, Released}
+use Rattle.async_executor.specs.declared.machine.tick.TickReply.{TickReply}
+use Rattle.async_executor.specs.declared.machine.tick.State as tick
 
 -- drop of one that is awake: it ends, and another one has still to remove its number
 abbrev pub left_awake : Ticker → Ticker

@@ -4,18 +4,18 @@ use Rattle.executor_core.specs.declared.interleave.ticker.Phase.{Phase}
 use Rattle.executor_core.specs.declared.interleave.ticker.Phase.TheVariants as phase
 use Rattle.executor_core.specs.declared.interleave.ticker.Ticker.{Ticker}
 use Rattle.async_executor.specs.Ticks.Tickers as ticks
-use Rattle.async_executor.specs.declared.runner.machine.Aim.TheVariants.{Work, PassOn, Leave}
-use Rattle.async_executor.specs.declared.runner.machine.Runner.{Runner}
-use Rattle.async_executor.specs.declared.runner.machine.Stage.{Stage}
-use Rattle.async_executor.specs.declared.runner.machine.Stage.TheVariants as stage
-use Rattle.async_executor.specs.declared.runner.machine.State.{State}
-use Rattle.async_executor.specs.declared.runner.machine.State.TheVariants.{Starting, Resting, Registering, PollingOwn, Ticking, Sharing, Unregistering, Releasing}
-use Rattle.async_executor.specs.declared.runner.machine.RunAction.{RunAction}
-use Rattle.async_executor.specs.declared.runner.machine.RunAction.TheVariants as asks
-use Rattle.async_executor.specs.declared.runner.machine.RunMachine.{RunMachine}
-use Rattle.async_executor.specs.declared.runner.machine.RunNext.{RunNext}
-use Rattle.async_executor.specs.declared.runner.machine.RunNext.TheVariants.{Act, Rest}
-use Rattle.async_executor.specs.declared.runner.machine.RunRest.{RunRest}
+use Rattle.async_executor.specs.declared.machine.run.Aim.TheVariants.{Work, PassOn, Leave}
+use Rattle.async_executor.specs.declared.machine.run.Runner.{Runner}
+use Rattle.async_executor.specs.declared.machine.run.Stage.{Stage}
+use Rattle.async_executor.specs.declared.machine.run.Stage.TheVariants as stage
+use Rattle.async_executor.specs.declared.machine.run.State.{State}
+use Rattle.async_executor.specs.declared.machine.run.State.TheVariants.{Starting, Resting, Registering, PollingOwn, Ticking, Sharing, Unregistering, Releasing}
+use Rattle.async_executor.specs.declared.machine.run.RunAction.{RunAction}
+use Rattle.async_executor.specs.declared.machine.run.RunAction.TheVariants as asks
+use Rattle.async_executor.specs.declared.machine.run.RunMachine.{RunMachine}
+use Rattle.async_executor.specs.declared.machine.run.RunNext.{RunNext}
+use Rattle.async_executor.specs.declared.machine.run.RunNext.TheVariants.{Act, Rest}
+use Rattle.async_executor.specs.declared.machine.run.RunRest.{RunRest}
 
 -- the number of its runner
 abbrev pub runner_in : Runner → Option ℕ

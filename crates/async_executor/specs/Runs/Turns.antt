@@ -3,14 +3,14 @@ use Rattle.std.specs.Prelude.{◌≡◌, ◌<◌, ℕ, ◌+◌, ◌==◌, cond}
 use Rattle.async_executor.specs.Runs.Decisions.{turn}
 use Rattle.async_executor.specs.Ticks.{Asked, AskRun}
 use Rattle.async_executor.specs.Ticks as ticks
-use Rattle.async_executor.specs.declared.runner.machine.State.{State}
-use Rattle.async_executor.specs.declared.runner.machine.State.TheVariants.{Ticking}
-use Rattle.async_executor.specs.declared.runner.machine.RunAction.{RunAction}
-use Rattle.async_executor.specs.declared.runner.machine.RunAction.TheVariants as asks
-use Rattle.async_executor.specs.declared.runner.machine.RunMachine.{RunMachine}
-use Rattle.async_executor.specs.declared.runner.machine.RunNext.{RunNext}
-use Rattle.async_executor.specs.declared.runner.machine.RunNext.TheVariants.{Act, Rest}
-use Rattle.async_executor.specs.declared.ticker.machine.TickAction.TheVariants.{Run}
+use Rattle.async_executor.specs.declared.machine.run.State.{State}
+use Rattle.async_executor.specs.declared.machine.run.State.TheVariants.{Ticking}
+use Rattle.async_executor.specs.declared.machine.run.RunAction.{RunAction}
+use Rattle.async_executor.specs.declared.machine.run.RunAction.TheVariants as asks
+use Rattle.async_executor.specs.declared.machine.run.RunMachine.{RunMachine}
+use Rattle.async_executor.specs.declared.machine.run.RunNext.{RunNext}
+use Rattle.async_executor.specs.declared.machine.run.RunNext.TheVariants.{Act, Rest}
+use Rattle.async_executor.specs.declared.machine.tick.TickAction.TheVariants.{Run}
 
 -- a task that is being run
 abbrev pub under_way : Asked → ℕ

@@ -1,14 +1,14 @@
 -- What a tick is after: a task, or its own end.
 use Rattle.std.specs.Prelude.{◌≡◌, Bool, true, false, Some, None}
 use Rattle.async_executor.specs.Ticks.{is_return}
-use Rattle.async_executor.specs.declared.ticker.machine.State.{State}
-use Rattle.async_executor.specs.declared.ticker.machine.State.TheVariants.{Resting, Searching, Inserting, Updating, Storing, Leaving}
-use Rattle.async_executor.specs.declared.ticker.machine.LeavingState.TheVariants.{Removing, StoringRemoved, Exchanging, Notifying, Waking, Running}
-use Rattle.async_executor.specs.declared.ticker.machine.TickMachine.{TickMachine}
-use Rattle.async_executor.specs.declared.ticker.machine.TickNext.{TickNext}
-use Rattle.async_executor.specs.declared.ticker.machine.TickNext.TheVariants.{Act, Rest}
-use Rattle.async_executor.specs.declared.ticker.machine.TickReply.{TickReply}
-use Rattle.async_executor.specs.declared.ticker.machine.TickReply.TheVariants.{Begin, Dropped, StoredRemoved, Exchanged, Notified, Woken, Ran}
+use Rattle.async_executor.specs.declared.machine.tick.State.{State}
+use Rattle.async_executor.specs.declared.machine.tick.State.TheVariants.{Resting, Searching, Inserting, Updating, Storing, Leaving}
+use Rattle.async_executor.specs.declared.machine.tick.LeavingState.TheVariants.{Removing, StoringRemoved, Exchanging, Notifying, Waking, Running}
+use Rattle.async_executor.specs.declared.machine.tick.TickMachine.{TickMachine}
+use Rattle.async_executor.specs.declared.machine.tick.TickNext.{TickNext}
+use Rattle.async_executor.specs.declared.machine.tick.TickNext.TheVariants.{Act, Rest}
+use Rattle.async_executor.specs.declared.machine.tick.TickReply.{TickReply}
+use Rattle.async_executor.specs.declared.machine.tick.TickReply.TheVariants.{Begin, Dropped, StoredRemoved, Exchanged, Notified, Woken, Ran}
 
 -- it waits for a poll or its drop, seeks a task or has one to run, or was dropped
 pub data Course : Type 0 where

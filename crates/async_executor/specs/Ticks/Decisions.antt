@@ -2,19 +2,25 @@
 use Rattle.std.specs.Prelude.{◌≡◌, ℕ, ◌==◌, true, false, Option, Some, None, cond}
 use Rattle.executor_core.specs.declared.task.values.Notice.{Notice}
 use Rattle.executor_core.specs.declared.task.values.Taken.{Taken}
-use Rattle.async_executor.specs.declared.ticker.machine.LeavingState.{LeavingState}
-use Rattle.async_executor.specs.declared.ticker.machine.State.{State}
-use Rattle.async_executor.specs.declared.ticker.machine.State.TheVariants.{Resting, Searching, Inserting, Updating, Storing, Leaving}
-use Rattle.async_executor.specs.declared.ticker.machine.LeavingState.TheVariants.{Removing, StoringRemoved, Exchanging, Notifying, Waking, Running}
-use Rattle.async_executor.specs.declared.ticker.machine.TickAction.{TickAction}
-use Rattle.async_executor.specs.declared.ticker.machine.TickAction.TheVariants.{Search, Insert, Update, Store, Remove, StoreRemoved, Exchange, Notify, Wake, Run}
-use Rattle.async_executor.specs.declared.ticker.machine.TickEnd.{TickEnd}
-use Rattle.async_executor.specs.declared.ticker.machine.TickEnd.TheVariants.{Park, Yield, Return}
-use Rattle.async_executor.specs.declared.ticker.machine.TickMachine.{TickMachine}
-use Rattle.async_executor.specs.declared.ticker.machine.TickNext.{TickNext}
-use Rattle.async_executor.specs.declared.ticker.machine.TickNext.TheVariants.{Act, Rest}
-use Rattle.async_executor.specs.declared.ticker.machine.TickReply.{TickReply}
-use Rattle.async_executor.specs.declared.ticker.machine.TickReply.TheVariants.{Begin, Dropped, Found, Empty, NoWaker, NoPlace, Inserted, Asleep, WasNotified, Unknown, Stored, RemovedIt, StoredRemoved, Exchanged, Notified, Woken, Ran}
+use Rattle.async_executor.specs.declared.machine.tick.LeavingState.{LeavingState}
+use Rattle.async_executor.specs.declared.machine.tick.State.{State}
+use Rattle.async_executor.specs.declared.machine.tick.State.TheVariants.{Resting, Searching, Inserting, Updating, Storing, Leaving}
+use Rattle.async_executor.specs.declared.machine.tick.LeavingState.TheVariants.{Removing, StoringRemoved, Exchanging, Notifying, Waking, Running}
+use Rattle.async_executor.specs.declared.machine.steps.Found.{Found}
+use Rattle.async_executor.specs.declared.machine.steps.Found.TheVariants as found
+use Rattle.async_executor.specs.declared.machine.steps.GoingToSleep.{GoingToSleep}
+use Rattle.async_executor.specs.declared.machine.steps.GoingToSleep.TheVariants as going
+use Rattle.async_executor.specs.declared.machine.tick.Alone.{Alone}
+use Rattle.async_executor.specs.declared.machine.tick.TickAction.{TickAction}
+use Rattle.async_executor.specs.declared.machine.tick.TickAction.TheVariants.{Search, Insert, Update, Store, Remove, StoreRemoved, Exchange, Notify, Wake, Run}
+use Rattle.async_executor.specs.declared.machine.tick.TickEnd.{TickEnd}
+use Rattle.async_executor.specs.declared.machine.tick.TickEnd.TheVariants.{Park, Yield, Return}
+use Rattle.async_executor.specs.declared.machine.tick.TickMachine.{TickMachine}
+use Rattle.async_executor.specs.declared.machine.tick.TickNext.{TickNext}
+use Rattle.async_executor.specs.declared.machine.tick.TickNext.TheVariants.{Act, Rest}
+use Rattle.async_executor.specs.declared.machine.tick.TickReply.{TickReply}
+use Rattle.async_executor.specs.declared.machine.tick.TickReply.TheVariants as reply
+use Rattle.async_executor.specs.declared.machine.tick.TickReply.TheVariants.{Begin, Dropped, Empty, NoWaker, NoPlace, Inserted, Asleep, WasNotified, Unknown, Stored, RemovedIt, StoredRemoved, Exchanged, Notified, Woken, Ran}
 
 module _ {W : Type 0} where
   abbrev pub act : State → TickAction W → TickNext W
@@ -40,6 +46,15 @@ module _ {W : Type 0} where
   after_found number taken notice =
       cond (number == 0) (leave_by (Exchanging (Some taken)) (Exchange notice)) (leave_by (Removing number (Some (taken, notice))) (Remove number))
 
+  -- what the steps of a tick ask of its machine
+  abbrev pub found_next : Found Alone → TickNext W
+  found_next (found.Awake announcing notice) = leave_by (Exchanging (Some announcing.taken)) (Exchange notice)
+  found_next (found.Asleep removing) = leave_by (Removing removing.number (Some (removing.taken, removing.notice))) (Remove removing.number)
+
+  abbrev pub sleep_next : GoingToSleep Alone → TickNext W
+  sleep_next (going.Insert inserting) = act Inserting Insert
+  sleep_next (going.Update updating) = act (Updating updating.number) (Update updating.number)
+
   -- the notices of the task and of the removal become one, and that is spent
   abbrev pub after_removal : Option (Taken (Unit {0}) × Notice) → Option Notice → TickNext W
   after_removal (Some (taken, kept)) notice = leave_by (Exchanging (Some taken)) (Exchange kept)
@@ -51,7 +66,7 @@ module _ {W : Type 0} where
   DecidesIn (Resting number) Begin next = next ≡ act (Searching number) (Search None)
   DecidesIn (Resting number) Dropped next = next ≡ cond (number == 0) returned (leave_by (Removing number None) (Remove number))
   DecidesIn (Resting number) _ next = Unit {0}
-  DecidesIn (Searching number) (Found taken notice) next = next ≡ after_found number taken notice
+  DecidesIn (Searching number) (reply.Found taken notice) next = next ≡ after_found number taken notice
   DecidesIn (Searching number) Empty next = next ≡ cond (number == 0) (act Inserting Insert) (act (Updating number) (Update number))
   DecidesIn (Searching number) _ next = Unit {0}
   DecidesIn Inserting NoWaker next = next ≡ rest 0 Yield

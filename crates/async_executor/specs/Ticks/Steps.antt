@@ -2,11 +2,11 @@
 use Rattle.std.specs.Prelude.{Bool, true, false, cond, is_some}
 use Rattle.executor_core.specs.World.Tickers.{is_awake, is_run, polled, searched, slept, rested, woke, dropped, ended, stored, left}
 use Rattle.executor_core.specs.declared.interleave.ticker.Ticker.{Ticker}
-use Rattle.async_executor.specs.declared.ticker.machine.State.{State}
-use Rattle.async_executor.specs.declared.ticker.machine.State.TheVariants.{Leaving}
-use Rattle.async_executor.specs.declared.ticker.machine.LeavingState.TheVariants.{Removing}
-use Rattle.async_executor.specs.declared.ticker.machine.TickReply.{TickReply}
-use Rattle.async_executor.specs.declared.ticker.machine.TickReply.TheVariants.{Begin, Dropped, Found, Empty, NoWaker, NoPlace, Inserted, Asleep, WasNotified, Unknown, Stored, RemovedIt, StoredRemoved, Exchanged, Notified, Woken, Ran}
+use Rattle.async_executor.specs.declared.machine.tick.State.{State}
+use Rattle.async_executor.specs.declared.machine.tick.State.TheVariants.{Leaving}
+use Rattle.async_executor.specs.declared.machine.tick.LeavingState.TheVariants.{Removing}
+use Rattle.async_executor.specs.declared.machine.tick.TickReply.{TickReply}
+use Rattle.async_executor.specs.declared.machine.tick.TickReply.TheVariants.{Begin, Dropped, Found, Empty, NoWaker, NoPlace, Inserted, Asleep, WasNotified, Unknown, Stored, RemovedIt, StoredRemoved, Exchanged, Notified, Woken, Ran}
 
 -- its number is removed since it has a task, or else since it is dropped
 abbrev pub has_task : State → Bool

@@ -5,15 +5,15 @@ use Rattle.executor_core.specs.declared.interleave.ticker.ListChange.TheVariants
 use Rattle.executor_core.specs.declared.interleave.ticker.Phase.{Phase}
 use Rattle.executor_core.specs.declared.interleave.ticker.Phase.TheVariants as phase
 use Rattle.executor_core.specs.declared.interleave.ticker.Ticker.{Ticker}
-use Rattle.async_executor.specs.declared.ticker.machine.State.{State}
-use Rattle.async_executor.specs.declared.ticker.machine.State.TheVariants.{Resting, Searching, Inserting, Updating, Storing, Leaving}
-use Rattle.async_executor.specs.declared.ticker.machine.LeavingState.TheVariants.{Removing, StoringRemoved, Exchanging, Notifying, Waking, Running}
-use Rattle.async_executor.specs.declared.ticker.machine.TickAction.{TickAction}
-use Rattle.async_executor.specs.declared.ticker.machine.TickAction.TheVariants.{StoreRemoved}
-use Rattle.async_executor.specs.declared.ticker.machine.TickMachine.{TickMachine}
-use Rattle.async_executor.specs.declared.ticker.machine.TickNext.{TickNext}
-use Rattle.async_executor.specs.declared.ticker.machine.TickNext.TheVariants.{Act, Rest}
-use Rattle.async_executor.specs.declared.ticker.machine.TickRest.{TickRest}
+use Rattle.async_executor.specs.declared.machine.tick.State.{State}
+use Rattle.async_executor.specs.declared.machine.tick.State.TheVariants.{Resting, Searching, Inserting, Updating, Storing, Leaving}
+use Rattle.async_executor.specs.declared.machine.tick.LeavingState.TheVariants.{Removing, StoringRemoved, Exchanging, Notifying, Waking, Running}
+use Rattle.async_executor.specs.declared.machine.tick.TickAction.{TickAction}
+use Rattle.async_executor.specs.declared.machine.tick.TickAction.TheVariants.{StoreRemoved}
+use Rattle.async_executor.specs.declared.machine.tick.TickMachine.{TickMachine}
+use Rattle.async_executor.specs.declared.machine.tick.TickNext.{TickNext}
+use Rattle.async_executor.specs.declared.machine.tick.TickNext.TheVariants.{Act, Rest}
+use Rattle.async_executor.specs.declared.machine.tick.TickRest.{TickRest}
 
 -- the ticker of a tick, or of the run of a runner for which the tick acts
 abbrev pub ticker_at : Option ℕ → Phase → ℕ → Ticker

@@ -1,5 +1,5 @@
 //! The futures that run the tasks of an executor.
-ghost use Rattle.std.specs.Prelude.{◌≡◌, true, false, IsTrue};
+ghost use Rattle.std.specs.Prelude.{◌≡◌, false, IsTrue};
 ghost use Rattle.async_executor.specs.Answers.{is_ready};
 ghost use Rattle.async_executor.specs.Runs.{has_ended};
 
@@ -96,7 +96,7 @@ where
     /// Example: `uses::pools`.
     #[inline(always)]
     fn poll(&mut self, w: &W) -> Poll<G::Output>
-        ensures ended { IsTrue (is_ready result) → has_ended self.new.inner.rest ≡ true }
+        ensures ended { has_ended self.old.inner.rest ≡ false → has_ended self.new.inner.rest ≡ is_ready result }
         ensures again { IsTrue (has_ended self.old.inner.rest) → (self.new.inner.rest ≡ self.old.inner.rest) × (is_ready result ≡ false) }
     {
         self.inner.poll(w)

@@ -1,25 +1,26 @@
-//! The future that makes what the machine of a run decides.
+//! The future that goes the steps of a run.
 //!
 //! No lock is held while a future is polled or dropped, or a waker is copied, woken or dropped. One
 //! poll of a task takes each lock once: the task that was polled is ended and the next one is taken
 //! in one change. Where the end leaves something to drop or to wake, that is done first, and the
 //! search is a change of its own.
 ghost use Rattle.std.specs.Prelude.{◌≡◌, [], true, false, Some, None, IsTrue, IfErr};
-ghost use Rattle.async_executor.specs.declared.runner.machine.Stage.TheVariants as Stage;
+ghost use Rattle.async_executor.specs.declared.machine.run.Stage.TheVariants as Stage;
 ghost use Rattle.async_executor.specs.RunError.{run_cause, run_future};
 ghost use Rattle.async_executor.specs.Answers.{is_ready};
-ghost use Rattle.async_executor.specs.Runs.{answers, asked, asked_by, has_ended, store_asked, store_after, store_in, AskFirst, AskOwn, AskRegister, AskTick, IsAsked, ids_in};
+ghost use Rattle.async_executor.specs.Runs.{has_ended, ids_in};
 ghost use Rattle.async_executor.specs.Store.{IsHeldRight};
-ghost use Rattle.async_executor.specs.Ticks as ticks;
-ghost use Rattle.async_executor.specs.Ticks.{is_return};
 
 use crate::home::{Home, OutIn, OutputIn};
-use crate::runner::machine::{RunAction, RunMachine, RunNext, RunReply, RunRest, Runner};
+use crate::machine::{
+    Begun, Dropped, GoingToSleep, NotRegistered, OwnPolled, PollingOwn, Registering, RunMachine,
+    RunRest, Runner, Running, Searching, Started, UnderWay, Unregistering, Yielding,
+};
 use crate::runner::words::Words;
 use crate::scheduler::{ExecutorIn, poll_taken};
 use crate::state::announce;
 use crate::store::EndThenSearch;
-use crate::ticker::{TickAction, TickEnd, TickReply, insert, remove, update};
+use crate::ticker::{Slept, announce_found, leave, sleep};
 use executor_core::queue::{Ring, RunnerError, RunnerKey};
 use executor_core::task::{Again, Future, Notice, Poll, Ran, Taken, TaskId, Wake};
 use std::sync::Wait;
@@ -85,7 +86,7 @@ impl<'a, H: Home, G: Future<H::Waker>> RunIn<'a, H, G> {
         future: G,
     ) -> RunIn<'a, H, G>
         requires { ring.ids ≡ [] }
-        ensures { result.rest ≡ record { runner = record { key = key; count = 0; ticks = 0 }; stage = Stage.New } }
+        ensures { result.rest ≡ record { runner = record { key = key; count = 0; found = 0 }; stage = Stage.New } }
     {
         let own = Own {
             future: Some(future),
@@ -100,198 +101,63 @@ impl<'a, H: Home, G: Future<H::Waker>> RunIn<'a, H, G> {
     }
 }
 
-// What a poll or the drop of a run works with: the waker of who polls, the future of a task that was
-// found, and the output of the own future.
+// What a poll of a run works with, and the future of a task that was found.
 #[derive(Drop)]
-struct Driver<'x, 'y, H: Home, G: Future<H::Waker>> {
+struct Driver<'x, 'y, H: Home, G: Drop> {
     executor: &'x ExecutorIn<H>,
     key: RunnerKey,
     own: &'y mut Own<G>,
-    w: Option<&'x H::Waker>,
     out: OutIn<H>,
-    output: Option<G::Output>,
 }
 
-impl<'x, 'y, H: Home, G: Future<H::Waker>> Driver<'x, 'y, H, G> {
-    // Makes what the machine decides from this reply on, until it rests.
-    fn drive(&mut self, rest: RunRest, first: RunReply<H::Waker>) -> (RunRest, TickEnd)
-        requires rested { has_ended rest ≡ false }
-        requires first { answers AskFirst first ≡ true }
-        requires store { store_after first ≡ None }
-        ensures { has_ended result.0 ≡ is_return result.1 }
-    {
-        let mut next = RunMachine::start(rest).next(first);
-        for _ in self.executor.state().rt().forever() {
-            match next {
-                RunNext::Rest(rest, end) => return (rest, end),
-                RunNext::Act(machine, action) => next = self.make(machine, action),
-            }
-        }
-        unreachable!()
-    }
-
-    // Makes an action, and has the machine decide what comes after.
-    #[inline(always)]
-    fn make(&mut self, machine: RunMachine, action: RunAction<H::Waker>) -> RunNext<H::Waker>
-        requires asked { asked machine ≡ asked_by action }
-        requires store { store_in action ≡ None }
-        ensures asked { IsAsked result }
-        ensures store { store_asked result ≡ None }
-    {
-        match action {
-            RunAction::Tick(action) => self.make_of_tick(machine, action),
-            RunAction::Register => machine.next(self.register()),
-            RunAction::PollOwn => machine.next(self.poll_own()),
-            RunAction::Fair => {
-                self.executor.state().cells().fair(self.key);
-                machine.next(RunReply::Moved)
-            }
-            RunAction::Unregister => {
-                let notice = self.executor.state().cells().unregister(self.key);
-                machine.next(RunReply::Unregistered(notice))
-            }
-            RunAction::Release => {
-                self.executor.state().cells().release_runner(self.key);
-                machine.next(RunReply::Released)
-            }
-        }
-    }
-
-    // Makes an action of a tick.
-    #[inline(always)]
-    fn make_of_tick(
-        &mut self,
-        machine: RunMachine,
-        action: TickAction<H::Waker>,
-    ) -> RunNext<H::Waker>
-        requires asked { asked machine ≡ asked_by (RunAction.Tick action) }
-        requires store { store_in (RunAction.Tick action) ≡ None }
-        ensures asked { IsAsked result }
-        ensures store { store_asked result ≡ None }
-    {
-        let state = self.executor.state();
-        match action {
-            TickAction::Run(taken) => self.run_tasks(machine, taken),
-            TickAction::Search(again) => self.search(machine, again),
-            TickAction::Exchange(notice) => {
-                machine.next(RunReply::Tick(TickReply::Exchanged(state.exchange(notice))))
-            }
-            TickAction::Notify(pick) => {
-                machine.next(RunReply::Tick(TickReply::Notified(state.notify_sleeper(pick))))
-            }
-            TickAction::Wake(wakeup) => {
-                wakeup.wake();
-                machine.next(RunReply::Tick(TickReply::Woken))
-            }
-            TickAction::Insert => {
-                let (lender, tick) = machine.lend();
-                lender.resume(insert(state, tick, self.w))
-            }
-            TickAction::Update(number) => {
-                let (lender, tick) = machine.lend();
-                lender.resume(update(state, tick, number, self.w))
-            }
-            TickAction::Remove(number) => {
-                let (lender, tick) = machine.lend();
-                lender.resume(remove(state, tick, number))
-            }
-            _ => unreachable!(),
-        }
-    }
-
-    // Makes the run's queue that of its runner. A queue that is refused is kept.
-    fn register(&mut self) -> RunReply<H::Waker>
-        ensures answers { answers AskRegister result ≡ true }
-        ensures store { store_after result ≡ None }
-    {
-        let own = &mut *self.own;
-        let Some(ring) = own.ring.take() else {
-            return RunReply::NotRegistered;
-        };
-        let registered = self.executor.state().cells().register(self.key, ring);
-        match registered {
-            Ok(()) => RunReply::Registered,
-            Err(ring) => {
-                own.ring = Some(ring);
-                RunReply::NotRegistered
-            }
-        }
-    }
-
-    // Polls the own future once. One that is ready is dropped.
-    fn poll_own(&mut self) -> RunReply<H::Waker>
-        ensures answers { answers AskOwn result ≡ true }
-        ensures store { store_after result ≡ None }
-    {
-        let own = &mut *self.own;
-        let (Some(future), Some(w)) = (&mut own.future, self.w) else {
-            return RunReply::OwnPending;
-        };
-        match future.poll(w) {
-            Poll::Pending => RunReply::OwnPending,
-            Poll::Ready(output) => {
-                self.output = Some(output);
-                own.future = None;
-                RunReply::OwnReady
-            }
-        }
-    }
-
-    // Searches for a task, and tells the machine what was found.
-    fn search(&mut self, machine: RunMachine, again: Option<Again>) -> RunNext<H::Waker>
-        requires { asked machine ≡ AskTick ticks.AskSearch }
-        ensures asked { IsAsked result }
-        ensures store { store_asked result ≡ None }
-    {
+impl<'x, 'y, H: Home, G: Drop> Driver<'x, 'y, H, G> {
+    // Searches for a task. Each search takes one word.
+    fn search(&mut self, again: Option<Again>) -> Option<(Taken<()>, Notice)> {
         let own = &mut *self.own;
         let word = own.words.next();
         let home = self.executor.home();
-        match home.search(self.key, word, again, &mut self.out) {
-            Some((taken, notice)) => {
-                machine.next(RunReply::Tick(TickReply::Found(taken, notice)))
-            }
-            None => machine.next(RunReply::Tick(TickReply::Empty)),
-        }
+        home.search(self.key, word, again, &mut self.out)
     }
 
-    // Runs a task, and those that are found after it, until none is found, somebody is to be
-    // notified, or the turn is over. It is asked whether a search follows before a task is ended, so
-    // that both are one change.
-    fn run_tasks(&mut self, machine: RunMachine, taken: Taken<()>) -> RunNext<H::Waker>
-        requires { asked machine ≡ AskTick ticks.AskRun }
-        ensures asked { IsAsked result }
-        ensures store { store_asked result ≡ None }
-    {
-        let mut runner = machine.into_runner();
-        let mut taken = taken;
+    // Runs a task, and those that are found after it, until none is found or the turn is over. It is
+    // asked whether a search follows before a task is ended, so that both are one change.
+    fn run_tasks(
+        &mut self,
+        running: Running<Runner>,
+    ) -> Result<GoingToSleep<Runner>, Yielding<Runner>> {
+        let mut running = running;
         for _ in self.executor.state().rt().forever() {
+            let (under_way, taken) = self.start(running);
             let id = taken.id();
             let ran = poll_taken::<H>(taken, &mut self.out);
-            let Some(next_runner) = runner.ran() else {
-                self.executor.end(id, ran, &mut self.out);
-                return RunMachine::turn_over(runner);
+            let searching = match under_way.ran() {
+                Ok(searching) => searching,
+                Err(yielding) => {
+                    self.executor.end(id, ran, &mut self.out);
+                    return Err(yielding);
+                }
             };
-            let Some((next, notice)) = self.end_then_search(id, ran) else {
-                return RunMachine::searching(next_runner).next(RunReply::Tick(TickReply::Empty));
-            };
-            if let Some(pick) = self.executor.state().exchange(notice) {
-                let machine = RunMachine::exchanging(next_runner, next);
-                return machine.next(RunReply::Tick(TickReply::Exchanged(Some(pick))));
+            match self.end_then_search(id, ran) {
+                None => return Ok(searching.empty()),
+                Some((taken, notice)) => {
+                    let state = self.executor.state();
+                    running = announce_found(state, searching.found(taken, notice));
+                }
             }
-            runner = self.count_found(next_runner);
-            taken = next;
         }
         unreachable!()
     }
 
-    // Counts a task that was found. Now and then a fair part of the global queue is taken.
+    // Counts a task that was found, and takes the fair part that is due.
     #[inline(always)]
-    fn count_found(&self, runner: Runner) -> Runner {
-        let (runner, is_fair) = runner.found();
-        if is_fair {
-            self.executor.state().cells().fair(self.key);
+    fn start(&self, running: Running<Runner>) -> (UnderWay, Taken<()>) {
+        match running.start() {
+            Started::Run(under_way, taken) => (under_way, taken),
+            Started::Share(sharing) => {
+                let mut cells = self.executor.state().cells();
+                sharing.make(&mut cells)
+            }
         }
-        runner
     }
 
     // Ends the task and searches for the next one.
@@ -313,10 +179,115 @@ impl<'x, 'y, H: Home, G: Future<H::Waker>> Driver<'x, 'y, H, G> {
                 found
             }
             EndThenSearch::Left(left) => {
+                // Its drop and its wake come before the search, which they may queue something for.
                 self.out = None;
                 self.executor.finish(id, left);
                 home.search(self.key, word, None, &mut self.out)
             }
+        }
+    }
+}
+
+// Runs tasks until none is found and the run sleeps, or its turn is over.
+fn work<H: Home, G: Drop>(
+    executor: &ExecutorIn<H>,
+    key: RunnerKey,
+    own: &mut Own<G>,
+    searching: Searching<Runner>,
+    w: &H::Waker,
+) -> RunRest
+    ensures { has_ended result ≡ false }
+{
+    let mut driver = Driver {
+        executor,
+        key,
+        own,
+        out: None,
+    };
+    let state = executor.state();
+    let mut searching = searching;
+    let mut again = None;
+    for _ in state.rt().forever() {
+        let going = match driver.search(again) {
+            None => searching.empty(),
+            Some((taken, notice)) => {
+                let running = announce_found(state, searching.found(taken, notice));
+                match driver.run_tasks(running) {
+                    Ok(going) => going,
+                    Err(yielding) => return yielding.wake(w).keep(),
+                }
+            }
+        };
+        match sleep(state, going, w) {
+            Slept::Again(next, change) => {
+                searching = next;
+                again = Some(change);
+            }
+            Slept::Rested(rested) => return rested.keep(),
+        }
+    }
+    unreachable!()
+}
+
+// Makes the run's queue that of its runner. A queue that is refused is kept.
+fn register<H: Home, G: Drop>(
+    executor: &ExecutorIn<H>,
+    own: &mut Own<G>,
+    registering: Registering,
+) -> Result<PollingOwn, NotRegistered> {
+    let Some(ring) = own.ring.take() else {
+        return Err(registering.refused());
+    };
+    let mut cells = executor.state().cells();
+    match registering.make(&mut cells, ring) {
+        Ok(polling) => Ok(polling),
+        Err((refused, ring)) => {
+            own.ring = Some(ring);
+            Err(refused)
+        }
+    }
+}
+
+// Ends the queue of a runner, passes on what stood in it and what the run was notified of, and gives
+// its places back. The own future was dropped before.
+fn end<H: Home>(executor: &ExecutorIn<H>, unregistering: Unregistering) -> RunRest
+    ensures { has_ended result ≡ true }
+{
+    let state = executor.state();
+    let mut cells = state.cells();
+    let (notice, departing) = unregistering.make(&mut cells);
+    drop(cells);
+    if let Some(notice) = notice {
+        announce!(state, notice);
+    }
+    leave(state, &departing);
+    state.release_sleeper();
+    departing.departed()
+}
+
+// Polls a run that has not ended.
+fn poll_once<H: Home, G: Future<H::Waker>>(
+    executor: &ExecutorIn<H>,
+    rest: RunRest,
+    own: &mut Own<G>,
+    w: &H::Waker,
+) -> (RunRest, Poll<G::Output>)
+    requires { has_ended rest ≡ false }
+    ensures { has_ended result.0 ≡ is_ready result.1 }
+{
+    let polling = match rest.begin() {
+        Begun::PollOwn(polling) => polling,
+        Begun::Register(registering) => match register(executor, own, registering) {
+            Ok(polling) => polling,
+            Err(refused) => return (refused.wake(w), Poll::Pending),
+        },
+    };
+    match polling.poll(&mut own.future, w) {
+        OwnPolled::Ready(output, unregistering) => {
+            (end(executor, unregistering), Poll::Ready(output))
+        }
+        OwnPolled::Pending(searching) => {
+            (work(executor, rest.key(), own, searching, w), Poll::Pending)
         }
     }
 }
@@ -330,35 +301,16 @@ impl<H: Home, G: Future<H::Waker>> Future<H::Waker> for RunIn<'_, H, G> {
     /// where the copy is refused, the waker itself is woken. A run that was ready wakes it and is
     /// pending, and does nothing more.
     fn poll(&mut self, w: &H::Waker) -> Poll<G::Output>
-        ensures ended { IsTrue (is_ready result) → has_ended self.new.rest ≡ true }
+        ensures ended { has_ended self.old.rest ≡ false → has_ended self.new.rest ≡ is_ready result }
         ensures again { IsTrue (has_ended self.old.rest) → (self.new.rest ≡ self.old.rest) × (is_ready result ≡ false) }
     {
         if self.rest.is_ended() {
             w.wake();
             return Poll::Pending;
         }
-        let mut driver = Driver {
-            executor: self.executor,
-            key: self.rest.key(),
-            own: &mut self.own,
-            w: Some(w),
-            out: None,
-            output: None,
-        };
-        let (rest, end) = driver.drive(self.rest, RunReply::Begin);
-        let output = driver.output;
+        let (rest, polled) = poll_once(self.executor, self.rest, &mut self.own, w);
         self.rest = rest;
-        match (end, output) {
-            (TickEnd::Park, _) => Poll::Pending,
-            (TickEnd::Return, Some(output)) => {
-                self.executor.state().release_sleeper();
-                Poll::Ready(output)
-            }
-            _ => {
-                w.wake();
-                Poll::Pending
-            }
-        }
+        polled
     }
 }
 
@@ -372,16 +324,19 @@ impl<H: Home, G: Future<H::Waker>> Drop for RunIn<'_, H, G> {
         if rest.is_ended() {
             return;
         }
+        // Before its queue ends: it may hold handles, whose tasks are queued as they are cancelled.
         own.future = None;
-        let mut driver = Driver {
-            executor,
-            key: rest.key(),
-            own: &mut own,
-            w: None,
-            out: None,
-            output: None,
-        };
-        driver.drive(rest, RunReply::Dropped);
-        executor.state().release_sleeper();
+        match rest.depart() {
+            Dropped::Unregister(unregistering) => {
+                end(executor, unregistering);
+            }
+            Dropped::Release(releasing) => {
+                let state = executor.state();
+                let mut cells = state.cells();
+                releasing.make(&mut cells);
+                drop(cells);
+                state.release_sleeper();
+            }
+        }
     }
 }

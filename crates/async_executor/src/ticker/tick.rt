@@ -1,20 +1,19 @@
-//! The future that makes what the machine decides.
+//! The future that goes the steps of a tick.
 //!
 //! No lock is held while a waker is copied, woken or dropped, or a task is run. So the waker of who
 //! polls is copied before the list of sleepers is locked, and a waker that comes out of the list is
 //! dropped after that.
 ghost use Rattle.std.specs.Prelude.{◌≡◌, true, false, Some, None, IsTrue};
-ghost use Rattle.executor_core.specs.Sleepers.Calls.{closed};
 ghost use Rattle.async_executor.specs.Answers.{is_ready};
-ghost use Rattle.async_executor.specs.Ticks.Courses.{course, IsOnCourse};
-ghost use Rattle.async_executor.specs.Ticks.{answers, asked, asked_by, store_asked, store_after, store_in, is_return, AskInsert, AskUpdate, AskStore, AskRemove, AskStart, IsAsked};
 
 use crate::home::Home;
+use crate::machine::{
+    Departing, Found, GoingToSleep, Rested, Running, Searching, TickMachine, TickRest,
+};
 use crate::scheduler::ExecutorIn;
-use crate::state::State;
-use crate::ticker::machine::{TickAction, TickEnd, TickMachine, TickNext, TickReply, TickRest};
-use executor_core::sleepers::{Removed, Sleepers, Update};
-use executor_core::task::{Future, Poll, Wake};
+use crate::state::{State, announce};
+use executor_core::sleepers::{Removed, Update};
+use executor_core::task::{Again, Future, Notice, Poll, Wake};
 use std::sync::Wait;
 
 /// A tick of an executor, which it borrows. It keeps nothing else between its polls but its rest.
@@ -35,183 +34,99 @@ impl<'a, H: Home> TickIn<'a, H> {
     }
 }
 
-// Makes what the machine decides from this reply on, until it rests. Without a waker nothing goes
-// to sleep.
-fn drive<'x, H: Home>(
-    executor: &'x ExecutorIn<H>,
-    rest: TickRest,
-    first: TickReply<H::Waker>,
-    w: Option<&'x H::Waker>,
-) -> (TickRest, TickEnd)
-    requires rested { rest.ended ≡ false }
-    requires first { answers AskStart first ≡ true }
-    requires store { store_after first ≡ None }
-    ensures { result.0.ended ≡ is_return result.1 }
-{
-    let mut next = TickMachine::start(rest).next(first);
-    for _ in executor.state().rt().forever() {
-        match next {
-            TickNext::Rest(rest, end) => return (rest, end),
-            TickNext::Act(machine, action) => next = make(executor, machine, action, w),
-        }
-    }
-    unreachable!()
-}
-
-// Makes an action, and has the machine decide what comes after. A change of the list is made with
-// its store.
+/// Spends the notice of a task that was found, and that of the number, if one sleeps, which is removed
+/// before. Then the task is run.
 #[inline(always)]
-fn make<'x, H: Home>(
-    executor: &'x ExecutorIn<H>,
-    machine: TickMachine,
-    action: TickAction<H::Waker>,
-    w: Option<&'x H::Waker>,
-) -> TickNext<H::Waker>
-    requires asked { asked machine ≡ asked_by action }
-    requires store { store_in action ≡ None }
-    ensures asked { IsAsked result }
-    ensures store { store_asked result ≡ None }
-{
-    let state = executor.state();
-    match action {
-        TickAction::Search(again) => {
-            let found = state.cells().take_global(again);
-            machine.next(match found {
-                Some((taken, notice)) => TickReply::Found(taken, notice),
-                None => TickReply::Empty,
-            })
-        }
-        TickAction::Insert => insert(state, machine, w),
-        TickAction::Update(number) => update(state, machine, number, w),
-        TickAction::Remove(number) => remove(state, machine, number),
-        TickAction::Exchange(notice) => machine.next(TickReply::Exchanged(state.exchange(notice))),
-        TickAction::Notify(pick) => machine.next(TickReply::Notified(state.notify_sleeper(pick))),
-        TickAction::Wake(wakeup) => {
-            wakeup.wake();
-            machine.next(TickReply::Woken)
-        }
-        TickAction::Run(taken) => {
-            executor.run_task(taken);
-            machine.next(TickReply::Ran)
-        }
-        _ => unreachable!(),
-    }
-}
-
-// A copy of the waker, where there is one and its copy is not refused.
-fn copy_of<W: Wake>(w: Option<&W>) -> Option<W> {
-    w?.copy().ok()
-}
-
-/// Goes to sleep: puts a copy of the waker into the list.
-pub(crate) fn insert<W: Wake, R: Wait + Clone + Drop>(
+pub(crate) fn announce_found<A, W: Wake, R: Wait + Clone + Drop>(
     state: &State<W, R>,
-    machine: TickMachine,
-    w: Option<&W>,
-) -> TickNext<W>
-    requires { asked machine ≡ AskInsert }
-    ensures asked { IsAsked result }
-    ensures store { store_asked result ≡ None }
-    ensures course { IsOnCourse (course machine) result }
-{
-    let Some(waker) = copy_of(w) else {
-        return machine.next(TickReply::NoWaker);
+    found: Found<A>,
+) -> Running<A> {
+    let (announcing, notice) = match found {
+        Found::Awake(announcing, notice) => (announcing, notice),
+        Found::Asleep(removing) => {
+            let notified = remove(state, removing.number());
+            removing.removed(notified)
+        }
+    };
+    // Before the task is run, which may take long: somebody else can go on with the queue meanwhile.
+    announce!(state, notice);
+    announcing.announced()
+}
+
+/// What came of going to sleep.
+pub(crate) enum Slept<A> {
+    /// The list was changed and the flag stored: a search comes next.
+    Again(Searching<A>, Again),
+    /// The poll answers pending.
+    Rested(Rested<A>),
+}
+
+/// Puts a copy of the waker into the list, in place of an earlier one, and stores the flag where the
+/// list was changed. Where the copy is refused, the waker itself is woken.
+pub(crate) fn sleep<A, W: Wake, R: Wait + Clone + Drop>(
+    state: &State<W, R>,
+    going: GoingToSleep<A>,
+    w: &W,
+) -> Slept<A> {
+    let Ok(waker) = w.copy() else {
+        return Slept::Rested(going.refused().wake(w));
     };
     let mut guard = state.sleepers();
     let sleepers = &mut guard.sleepers;
-    match sleepers.insert(waker) {
-        Ok((number, change)) => {
-            let inserted = TickReply::Inserted(number, change);
-            store(state, machine, inserted, sleepers)
-        }
-        Err(refused) => {
-            drop(guard);
-            drop(refused);
-            machine.next(TickReply::NoPlace)
-        }
+    match going {
+        GoingToSleep::Insert(inserting) => match sleepers.insert(waker) {
+            Ok((number, change)) => {
+                let again = state.store(change, sleepers);
+                let (searching, again) = inserting.inserted(number).stored(again);
+                Slept::Again(searching, again)
+            }
+            Err(refused) => {
+                drop(guard);
+                drop(refused);
+                Slept::Rested(inserting.refused().wake(w))
+            }
+        },
+        GoingToSleep::Update(updating) => match sleepers.update(updating.number(), waker) {
+            Update::WasNotified(change) => {
+                let again = state.store(change, sleepers);
+                let (searching, again) = updating.was_notified().stored(again);
+                Slept::Again(searching, again)
+            }
+            Update::Asleep(before) => {
+                drop(guard);
+                drop(before);
+                Slept::Rested(updating.asleep())
+            }
+            Update::Unknown(refused) => {
+                drop(guard);
+                drop(refused);
+                Slept::Rested(updating.refused().wake(w))
+            }
+        },
     }
 }
 
-/// Goes on to sleep: gives the sleeper of this number a copy of the waker.
-pub(crate) fn update<W: Wake, R: Wait + Clone + Drop>(
-    state: &State<W, R>,
-    machine: TickMachine,
-    number: usize,
-    w: Option<&W>,
-) -> TickNext<W>
-    requires { asked machine ≡ AskUpdate number }
-    ensures asked { IsAsked result }
-    ensures store { store_asked result ≡ None }
-    ensures course { IsOnCourse (course machine) result }
-{
-    let Some(waker) = copy_of(w) else {
-        return machine.next(TickReply::NoWaker);
-    };
-    let mut guard = state.sleepers();
-    let sleepers = &mut guard.sleepers;
-    match sleepers.update(number, waker) {
-        Update::WasNotified(change) => {
-            store(state, machine, TickReply::WasNotified(change), sleepers)
-        }
-        Update::Asleep(before) => {
-            drop(guard);
-            drop(before);
-            machine.next(TickReply::Asleep)
-        }
-        Update::Unknown(refused) => {
-            drop(guard);
-            drop(refused);
-            machine.next(TickReply::Unknown)
-        }
-    }
-}
-
-// Stores the flag after the list was changed by going to sleep, under its lock.
-fn store<W: Wake, R: Wait + Clone + Drop>(
-    state: &State<W, R>,
-    machine: TickMachine,
-    changed: TickReply<W>,
-    sleepers: &mut Sleepers<W>,
-) -> TickNext<W>
-    requires answers { answers (asked machine) changed ≡ true }
-    requires slept { store_after changed ≡ Some AskStore }
-    ensures asked { IsAsked result }
-    ensures store { store_asked result ≡ None }
-    ensures course { IsOnCourse (course machine) result }
-    ensures list { sleepers.new ≡ closed sleepers.old }
-{
-    match machine.next(changed) {
-        TickNext::Act(machine, TickAction::Store(change)) => {
-            let again = state.store(change, sleepers);
-            machine.next(TickReply::Stored(again))
-        }
-        _ => unreachable!(),
-    }
-}
-
-/// Takes the sleeper of this number out of the list, and stores the flag before the list's lock is
-/// given up.
-pub(crate) fn remove<W: Wake, R: Wait + Clone + Drop>(
-    state: &State<W, R>,
-    machine: TickMachine,
-    number: usize,
-) -> TickNext<W>
-    requires { asked machine ≡ AskRemove number }
-    ensures asked { IsAsked result }
-    ensures store { store_asked result ≡ None }
-    ensures course { IsOnCourse (course machine) result }
-{
+// Takes the sleeper of this number out of the list, and stores the flag before the list's lock is
+// given up. There is a notice if it was notified.
+fn remove<W: Wake, R: Wait + Clone + Drop>(state: &State<W, R>, number: usize) -> Option<Notice> {
     let mut guard = state.sleepers();
     let sleepers = &mut guard.sleepers;
     let change = sleepers.remove(number);
-    match machine.next(TickReply::RemovedIt(change)) {
-        TickNext::Act(machine, TickAction::StoreRemoved(change)) => {
-            let Removed { notice, waker } = state.store(change, sleepers);
-            drop(guard);
-            drop(waker);
-            machine.next(TickReply::StoredRemoved(notice))
+    let Removed { notice, waker } = state.store(change, sleepers);
+    drop(guard);
+    drop(waker);
+    notice
+}
+
+/// Leaves the sleepers for good. What a number was notified of is passed on.
+pub(crate) fn leave<A, W: Wake, R: Wait + Clone + Drop>(
+    state: &State<W, R>,
+    departing: &Departing<A>,
+) {
+    if let Some(number) = departing.number() {
+        if let Some(notice) = remove(state, number) {
+            announce!(state, notice);
         }
-        _ => unreachable!(),
     }
 }
 
@@ -229,19 +144,31 @@ impl<H: Home> Future<H::Waker> for TickIn<'_, H> {
         if self.rest.is_ended() {
             return Poll::Ready(());
         }
-        let (rest, end) = drive(self.executor, self.rest, TickReply::Begin, Some(w));
-        self.rest = rest;
-        match end {
-            TickEnd::Park => Poll::Pending,
-            TickEnd::Yield => {
-                w.wake();
-                Poll::Pending
+        let executor = self.executor;
+        let state = executor.state();
+        let mut searching = self.rest.begin();
+        let mut again = None;
+        for _ in state.rt().forever() {
+            let found = state.cells().take_global(again);
+            if let Some((taken, notice)) = found {
+                let (taken, rest) = announce_found(state, searching.found(taken, notice)).run();
+                executor.run_task(taken);
+                self.rest = rest;
+                state.release_sleeper();
+                return Poll::Ready(());
             }
-            TickEnd::Return => {
-                self.executor.state().release_sleeper();
-                Poll::Ready(())
+            match sleep(state, searching.empty(), w) {
+                Slept::Again(next, change) => {
+                    searching = next;
+                    again = Some(change);
+                }
+                Slept::Rested(rested) => {
+                    self.rest = rested.keep();
+                    return Poll::Pending;
+                }
             }
         }
+        unreachable!()
     }
 }
 
@@ -251,7 +178,9 @@ impl<H: Home> Drop for TickIn<'_, H> {
         if rest.is_ended() {
             return;
         }
-        drive(executor, rest, TickReply::Dropped, None);
+        let departing = rest.depart();
+        leave(executor.state(), &departing);
+        departing.departed();
         executor.state().release_sleeper();
     }
 }

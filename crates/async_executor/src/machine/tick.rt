@@ -16,10 +16,12 @@
 ghost use Rattle.std.specs.Prelude.{◌≡◌, ℕ, Bool, true, false, Option, Some, None};
 ghost use Rattle.async_executor.specs.Ticks.{answers, asked, asked_in, store_asked, store_after, AskRun, AskStart, IsAsked};
 ghost use Rattle.async_executor.specs.Ticks.Courses.{course, course_in, KeepsCourse};
-ghost use Rattle.async_executor.specs.Ticks.Decisions.{act, leave_by, rest, returned, run_or_return, after_removal, Decides, DecidesIn};
+ghost use Rattle.async_executor.specs.Ticks.Decisions.{act, leave_by, rest, returned, run_or_return, found_next, sleep_next, after_removal, Decides, DecidesIn};
 ghost use Rattle.async_executor.specs.Ticks.Tickers.{ticker_of, ticker_in, ticker_after, rest_ticker};
 ghost use Rattle.async_executor.specs.Ticks.Steps.{leads};
 
+use crate::machine::steps;
+use crate::machine::steps::{Announcing, Departing, GoingToSleep, Rested, Yielding, joined};
 use LeavingState::{Exchanging, Notifying, Removing, Running, StoringRemoved, Waking};
 use State::{Inserting, Leaving, Resting, Searching, Storing, Updating};
 use TickAction::{
@@ -49,7 +51,7 @@ impl TickRest {
     }
 
     /// That of a tick that sleeps under this number, or is awake where the number is 0.
-    pub(crate) fn at(number: usize) -> TickRest
+    pub(in crate::machine) fn at(number: usize) -> TickRest
         ensures { result ≡ record { number = number; ended = false } }
     {
         TickRest {
@@ -63,6 +65,79 @@ impl TickRest {
         ensures { result ≡ self.number }
     {
         self.number
+    }
+
+    // That of a tick that has ended.
+    #[inline(always)]
+    fn after_the_end() -> TickRest
+        ensures { result ≡ record { number = 0; ended = true } }
+    {
+        TickRest {
+            number: 0,
+            ended: true,
+        }
+    }
+
+    /// The tick is polled.
+    #[inline(always)]
+    pub(crate) fn begin(self) -> steps::Searching<Alone>
+        requires { self.ended ≡ false }
+    {
+        steps::Searching {
+            actor: Alone,
+            number: self.number,
+        }
+    }
+
+    /// The tick is dropped.
+    #[inline(always)]
+    pub(crate) fn depart(self) -> Departing<Alone>
+        requires { self.ended ≡ false }
+    {
+        Departing {
+            actor: Alone,
+            number: self.number,
+        }
+    }
+}
+
+/// Who goes the steps of a tick for itself: it ends with its task.
+#[derive(Clone, Copy)]
+pub(crate) struct Alone;
+
+impl steps::Running<Alone> {
+    /// The task, which is to be run, and what the tick keeps from then on.
+    #[inline(always)]
+    pub(crate) fn run(self) -> (Taken<()>, TickRest)
+        ensures { result ≡ (self.taken, record { number = 0; ended = true }) }
+    {
+        let steps::Running { actor: _, taken } = self;
+        (taken, TickRest::after_the_end())
+    }
+}
+
+impl Rested<Alone> {
+    /// What the tick keeps until its next poll.
+    #[inline(always)]
+    pub(crate) fn keep(self) -> TickRest
+        ensures { result ≡ record { number = self.number; ended = false } }
+    {
+        let Rested { actor: _, number } = self;
+        TickRest::at(number)
+    }
+}
+
+impl Departing<Alone> {
+    /// The number was removed, and the notice of that was spent.
+    #[inline(always)]
+    pub(crate) fn departed(self) -> TickRest
+        ensures { result ≡ record { number = 0; ended = true } }
+    {
+        let Departing {
+            actor: _,
+            number: _,
+        } = self;
+        TickRest::after_the_end()
     }
 }
 
@@ -198,11 +273,58 @@ fn rest<W>(number: usize, end: TickEnd) -> TickNext<W>
 fn returned<W>() -> TickNext<W>
     ensures { result ≡ returned }
 {
-    let rest = TickRest {
-        number: 0,
-        ended: true,
-    };
-    TickNext::Rest(rest, Return)
+    TickNext::Rest(TickRest::after_the_end(), Return)
+}
+
+// A task was found.
+#[inline(always)]
+fn after_found<W>(found: steps::Found<Alone>) -> TickNext<W>
+    ensures { result ≡ found_next found }
+{
+    match found {
+        steps::Found::Awake(Announcing { actor: _, taken }, notice) => {
+            leave_by(Exchanging(Some(taken)), Exchange(notice))
+        }
+        steps::Found::Asleep(
+            steps::Removing {
+                actor: _,
+                number,
+                taken,
+                notice,
+            },
+        ) => leave_by(Removing(number, Some((taken, notice))), Remove(number)),
+    }
+}
+
+// No task was found.
+#[inline(always)]
+fn go_to_sleep<W>(going: GoingToSleep<Alone>) -> TickNext<W>
+    ensures { result ≡ sleep_next going }
+{
+    match going {
+        GoingToSleep::Insert(steps::Inserting { actor: _ }) => act(Inserting, Insert),
+        GoingToSleep::Update(steps::Updating { actor: _, number }) => {
+            act(Updating(number), Update(number))
+        }
+    }
+}
+
+// The list was changed by going to sleep.
+#[inline(always)]
+fn slept<W>(storing: steps::Storing<Alone>, change: Change<Again>) -> TickNext<W>
+    ensures { result ≡ act (State.Storing storing.number) (TickAction.Store change) }
+{
+    let steps::Storing { actor: _, number } = storing;
+    act(Storing(number), Store(change))
+}
+
+// The tick could not go to sleep.
+#[inline(always)]
+fn yielded<W>(yielding: Yielding<Alone>) -> TickNext<W>
+    ensures { result ≡ rest yielding.number TickEnd.Yield }
+{
+    let Yielding { actor: _, number } = yielding;
+    rest(number, Yield)
 }
 
 /// Decides what a tick does next. It has the task that the tick has taken and the notice that it
@@ -225,38 +347,6 @@ impl TickMachine {
         ensures { result ≡ leave_by (LeavingState.Exchanging None) (TickAction.Exchange notice) }
     {
         leave_by(Exchanging(None), Exchange(notice))
-    }
-
-    /// The machine of a tick that is awake and searches.
-    #[inline(always)]
-    pub(crate) fn searching() -> TickMachine
-        ensures { result ≡ record { state = State.Searching 0 } }
-    {
-        TickMachine {
-            state: Searching(0),
-        }
-    }
-
-    /// The machine of a tick that spends the notice of this task.
-    #[inline(always)]
-    pub(crate) fn exchanging(taken: Taken<()>) -> TickMachine
-        ensures { result ≡ record { state = State.Leaving (LeavingState.Exchanging (Some taken)) } }
-    {
-        TickMachine {
-            state: Leaving(Exchanging(Some(taken))),
-        }
-    }
-
-    /// Lets the machine of a tick go whose task was run. It has nothing to spend.
-    #[inline(always)]
-    pub(crate) fn end_run(self)
-        requires { asked self ≡ AskRun }
-    {
-        let TickMachine { state } = self;
-        match state {
-            Leaving(Running) => {}
-            _ => unreachable!(),
-        }
     }
 
     /// The machine of a tick that rests. It waits for `Begin` or `Dropped`.
@@ -292,30 +382,46 @@ impl TickMachine {
                 Dropped => leave_by(Removing(number, None), Remove(number)),
                 _ => unreachable!(),
             },
-            Searching(number) => match reply {
-                Found(taken, notice) if number == 0 => {
-                    leave_by(Exchanging(Some(taken)), Exchange(notice))
+            Searching(number) => {
+                let searching = steps::Searching {
+                    actor: Alone,
+                    number,
+                };
+                match reply {
+                    Found(taken, notice) => after_found(searching.found(taken, notice)),
+                    Empty => go_to_sleep(searching.empty()),
+                    _ => unreachable!(),
                 }
-                Found(taken, notice) => {
-                    leave_by(Removing(number, Some((taken, notice))), Remove(number))
+            }
+            Inserting => {
+                let inserting = steps::Inserting { actor: Alone };
+                match reply {
+                    NoWaker | NoPlace => yielded(inserting.refused()),
+                    Inserted(number, change) => slept(inserting.inserted(number), change),
+                    _ => unreachable!(),
                 }
-                Empty if number == 0 => act(Inserting, Insert),
-                Empty => act(Updating(number), Update(number)),
-                _ => unreachable!(),
-            },
-            Inserting => match reply {
-                NoWaker | NoPlace => rest(0, Yield),
-                Inserted(number, change) => act(Storing(number), Store(change)),
-                _ => unreachable!(),
-            },
-            Updating(number) => match reply {
-                NoWaker | Unknown => rest(number, Yield),
-                Asleep => rest(number, Park),
-                WasNotified(change) => act(Storing(number), Store(change)),
-                _ => unreachable!(),
-            },
+            }
+            Updating(number) => {
+                let updating = steps::Updating {
+                    actor: Alone,
+                    number,
+                };
+                match reply {
+                    NoWaker | Unknown => yielded(updating.refused()),
+                    Asleep => TickNext::Rest(updating.asleep().keep(), Park),
+                    WasNotified(change) => slept(updating.was_notified(), change),
+                    _ => unreachable!(),
+                }
+            }
             Storing(number) => match reply {
-                Stored(again) => act(Searching(number), Search(Some(again))),
+                Stored(again) => {
+                    let storing = steps::Storing {
+                        actor: Alone,
+                        number,
+                    };
+                    let (steps::Searching { actor: _, number }, again) = storing.stored(again);
+                    act(Searching(number), Search(Some(again)))
+                }
                 _ => unreachable!(),
             },
             Leaving(state) => leave(state, reply),
@@ -380,11 +486,10 @@ fn after_removal<W>(found: Option<(Taken<()>, Notice)>, notice: Option<Notice>) 
     ensures { result ≡ after_removal found notice }
 {
     match (found, notice) {
-        (Some((taken, kept)), Some(notice)) => leave_by(
+        (Some((taken, kept)), notice) => leave_by(
             Exchanging(Some(taken)),
-            Exchange(kept.join(notice)),
+            Exchange(joined(kept, notice)),
         ),
-        (Some((taken, kept)), None) => { leave_by(Exchanging(Some(taken)), Exchange(kept)) }
         (None, Some(notice)) => leave_by(Exchanging(None), Exchange(notice)),
         (None, None) => returned(),
     }

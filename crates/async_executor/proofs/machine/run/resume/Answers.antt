@@ -1,7 +1,7 @@
 use Rattle.std.proofs.Common.{subst, sym, ◌∙◌, ap}
 use Rattle.async_executor.specs.Runs.{store_asked, IsAsked, IsFitNext}
 use Rattle.async_executor.proofs.Runs.{working_asked, working_store, passing_asked, leaving_asked}
-use Rattle.async_executor.proofs.runner.machine.Lender.resume.Goals as goal
+use Rattle.async_executor.proofs.machine.run.resume.Goals as goal
 
 pub returns-in-Work-clause-asked : goal.returns-in-Work-clause-asked
 returns-in-Work-clause-asked g c = subst IsAsked (sym c.work.ensures) (working_asked _ _ c.requires.asked (subst (λ aim. IsFitNext aim c.args.next) c.in-Work.is c.requires.course))

@@ -1,9 +1,9 @@
 use Rattle.std.proofs.Common.{◌+◌, subst, sym, ap, ◌∙◌}
 use Rattle.async_executor.specs.Runs.Tickers.{ticker_after}
 use Rattle.async_executor.specs.Runs.Turns.{TurnFrom, under_way_in}
-use Rattle.async_executor.specs.declared.runner.machine.State.TheVariants.{Ticking}
+use Rattle.async_executor.specs.declared.machine.run.State.TheVariants.{Ticking}
 use Rattle.async_executor.proofs.Runs.{ticking_gate, keeps_fit, resumed_seen, resumed_in_turn, ticked_next}
-use Rattle.async_executor.proofs.runner.machine.RunMachine.next.Goals as goal
+use Rattle.async_executor.proofs.machine.run.RunMachine.next.Goals as goal
 
 pub next-requires : goal.next-requires
 next-requires g c = (ticking_gate c.args.self.state c.in-Ticking.aim c.in-Ticking.tick c.args.reply c.in-Tick.reply c.in-Ticking.is c.in-Tick.is c.requires).1

@@ -11,18 +11,19 @@
 //! | leaves the sleepers | a tick | leave |
 //!
 //! The table of decisions is `specs/Runs/Decisions.antt`.
-ghost use Rattle.std.specs.Prelude.{◌≡◌, ◌+◌, ◌%◌, ◌^◌, ◌==◌, ◌<◌, nat_lt, cond, Bool, true, false, Some, None};
-ghost use Rattle.async_executor.specs.Runs.{answers, asked, asked_in, has_ended, is_fit, is_tick, store_asked, store_after, AskFirst, AskTick, IsAsked, IsFitNext};
+ghost use Rattle.std.specs.Prelude.{◌≡◌, ◌+◌, ◌<◌, nat_lt, cond, Bool, true, false, Ok, Err, Some, None};
+ghost use Rattle.async_executor.specs.Runs.{answers, asked, asked_in, has_ended, store_asked, store_after, AskFirst, IsAsked, IsFitNext};
 ghost use Rattle.async_executor.specs.Runs.Decisions.{turn, fair, ask, run_rest, run_ended, searching, dropping, after_task, found, working, passing_on, leaving, resumed, Decides};
 ghost use Rattle.async_executor.specs.Runs.Steps.{leads};
 ghost use Rattle.async_executor.specs.Runs.Tickers.{ticker_of, ticker_after, rest_ticker};
 ghost use Rattle.async_executor.specs.Runs.Turns.{TurnGoesOn};
 ghost use Rattle.async_executor.specs.Ticks as ticks;
-ghost use Rattle.async_executor.specs.Ticks.Courses.{course};
-ghost use Rattle.async_executor.specs.declared.ticker.machine.State.TheVariants as tick;
-ghost use Rattle.async_executor.specs.declared.ticker.machine.LeavingState.TheVariants as LeavingState;
+ghost use Rattle.async_executor.specs.declared.machine.tick.LeavingState.TheVariants as LeavingState;
 
-use crate::ticker::{TickAction, TickEnd, TickMachine, TickNext, TickReply, TickRest};
+use crate::limits::{FAIR, TURN};
+use crate::machine::run_steps;
+use crate::machine::run_steps::{Begun, Dropped};
+use crate::machine::tick::{TickAction, TickEnd, TickMachine, TickNext, TickReply, TickRest};
 use Aim::{Leave, PassOn, Work};
 use RunAction::{Fair, PollOwn, Register, Release, Tick, Unregister};
 use Stage::{Ended, Joined, New};
@@ -32,12 +33,6 @@ use State::{
 use executor_core::queue::RunnerKey;
 use executor_core::task::{Notice, Taken};
 
-// How many tasks a run runs before it yields.
-const TURN: u32 = 200;
-
-// How many tasks a run finds from one fair part to the next.
-const FAIR: u64 = 64;
-
 /// What a run keeps between its polls: its runner, what it counts, and how far it is.
 #[derive(Debug, Clone, Copy, PartialEq, Eq)]
 pub struct RunRest {
@@ -45,35 +40,57 @@ pub struct RunRest {
     stage: Stage,
 }
 
-/// The runner of a run, with how many tasks it ran in this turn, and how many it found in all.
+/// The runner of a run, with how many tasks it ran in this turn, and how many it found since its last
+/// fair part.
 #[derive(Debug, Clone, Copy, PartialEq, Eq)]
 pub(crate) struct Runner {
     key: RunnerKey,
     count: u32,
-    ticks: u64,
+    found: u32,
+}
+
+// One more than so many, or none if that is the limit: then it is counted anew.
+#[inline(always)]
+fn count_up(count: u32, limit: u32) -> Option<u32>
+    requires { 0 < limit }
+    ensures { result ≡ cond (nat_lt (count + 1) limit) (Some (count + 1)) None }
+{
+    if count >= limit - 1 {
+        return None;
+    }
+    Some(count + 1)
 }
 
 impl Runner {
-    /// The same after one task more was run, or none where that was the last of its turn.
+    /// Its key.
     #[inline(always)]
-    pub(crate) fn ran(self) -> Option<Runner>
-        ensures { result ≡ cond (nat_lt (self.count + 1) turn) (Some (record self { count = self.count + 1 })) None }
+    pub(in crate::machine) fn key(self) -> RunnerKey
+        ensures { result ≡ self.key }
     {
-        if self.count >= TURN - 1 {
-            return None;
+        self.key
+    }
+
+    /// The same after one task more was run, or, if that was the last of its turn, at the start of
+    /// the next one.
+    #[inline(always)]
+    pub(in crate::machine) fn ran(self) -> Result<Runner, Runner>
+        ensures { result ≡ cond (nat_lt (self.count + 1) turn) (Ok (record self { count = self.count + 1 })) (Err (record self { count = 0 })) }
+    {
+        match count_up(self.count, TURN) {
+            Some(count) => Ok(Runner { count, ..self }),
+            None => Err(Runner { count: 0, ..self }),
         }
-        let count = self.count + 1;
-        Some(Runner { count, ..self })
     }
 
     /// The same after one task more was found, and whether it takes its fair part before that runs.
     #[inline(always)]
-    pub(crate) fn found(self) -> (Runner, bool)
-        ensures runner { result.0 ≡ record self { ticks = (self.ticks + 1) % 2 ^ 64 } }
-        ensures is_fair { result.1 ≡ (result.0.ticks % fair == 0) }
+    pub(in crate::machine) fn found(self) -> (Runner, bool)
+        ensures { result ≡ cond (nat_lt (self.found + 1) fair) (record self { found = self.found + 1 }, false) (record self { found = 0 }, true) }
     {
-        let ticks = self.ticks.wrapping_add(1);
-        (Runner { ticks, ..self }, ticks % FAIR == 0)
+        match count_up(self.found, FAIR) {
+            Some(found) => (Runner { found, ..self }, false),
+            None => (Runner { found: 0, ..self }, true),
+        }
     }
 }
 
@@ -99,6 +116,59 @@ impl RunRest {
         ensures { result ≡ self.runner.key }
     {
         self.runner.key
+    }
+
+    // That of a run whose runner was not registered.
+    pub(in crate::machine) fn of_new(runner: Runner) -> RunRest
+        ensures { result ≡ record { runner = runner; stage = Stage.New } }
+    {
+        RunRest { runner, stage: New }
+    }
+
+    // That of a run whose runner is registered, and which sleeps under this number, if it is not 0.
+    #[inline(always)]
+    pub(in crate::machine) fn of_joined(runner: Runner, number: usize) -> RunRest
+        ensures { result ≡ record { runner = runner; stage = Stage.Joined number } }
+    {
+        RunRest {
+            runner,
+            stage: Joined(number),
+        }
+    }
+
+    // That of a run that has ended.
+    pub(in crate::machine) fn of_ended(runner: Runner) -> RunRest
+        ensures { result ≡ record { runner = runner; stage = Stage.Ended } }
+    {
+        RunRest {
+            runner,
+            stage: Ended,
+        }
+    }
+
+    /// The run is polled.
+    #[inline(always)]
+    pub(crate) fn begin(self) -> Begun
+        requires { has_ended self ≡ false }
+    {
+        let RunRest { runner, stage } = self;
+        match stage {
+            New => Begun::Register(run_steps::Registering { runner }),
+            Joined(number) => Begun::PollOwn(run_steps::PollingOwn { runner, number }),
+            Ended => unreachable!(),
+        }
+    }
+
+    /// The run is dropped. Its own future was dropped before.
+    pub(crate) fn depart(self) -> Dropped
+        requires { has_ended self ≡ false }
+    {
+        let RunRest { runner, stage } = self;
+        match stage {
+            New => Dropped::Release(run_steps::Releasing { runner }),
+            Joined(number) => Dropped::Unregister(run_steps::Unregistering { runner, number }),
+            Ended => unreachable!(),
+        }
     }
 }
 
@@ -164,10 +234,10 @@ enum State {
     Releasing,
 }
 
-/// What a tick acts for: to run a task, to spend the notice of a queue that has ended before the
-/// run leaves the sleepers, or to leave the sleepers.
+// What a tick acts for: to run a task, to spend the notice of a queue that has ended before the
+// run leaves the sleepers, or to leave the sleepers.
 #[derive(Clone, Copy)]
-pub(crate) enum Aim {
+enum Aim {
     Work,
     PassOn(usize),
     Leave,
@@ -217,8 +287,8 @@ fn after_task<W>(runner: Runner) -> RunNext<W>
     ensures { result ≡ after_task runner }
 {
     match runner.ran() {
-        Some(runner) => search(runner, 0),
-        None => RunMachine::turn_over(runner),
+        Ok(runner) => search(runner, 0),
+        Err(runner) => rest(runner, Joined(0), TickEnd::Yield),
     }
 }
 
@@ -279,14 +349,14 @@ pub struct RunMachine {
 impl RunMachine {
     /// The rest of a run that was never polled.
     pub fn new(key: RunnerKey) -> RunRest
-        ensures { result ≡ record { runner = record { key = key; count = 0; ticks = 0 }; stage = Stage.New } }
+        ensures { result ≡ record { runner = record { key = key; count = 0; found = 0 }; stage = Stage.New } }
     {
         let runner = Runner {
             key,
             count: 0,
-            ticks: 0,
+            found: 0,
         };
-        RunRest { runner, stage: New }
+        RunRest::of_new(runner)
     }
 
     /// The machine of a run that rests. It waits for `Begin` or `Dropped`.
@@ -338,7 +408,7 @@ impl RunMachine {
                 _ => unreachable!(),
             },
             Ticking(aim, tick) => match reply {
-                RunReply::Tick(reply) => Lender { runner, aim }.resume(tick.next(reply)),
+                RunReply::Tick(reply) => resume(runner, aim, tick.next(reply)),
                 _ => unreachable!(),
             },
             Sharing(tick, taken) => match reply {
@@ -360,84 +430,20 @@ impl RunMachine {
             },
         }
     }
-
-    /// The runner of a run whose task was run.
-    #[inline(always)]
-    pub(crate) fn into_runner(self) -> Runner
-        requires { asked self ≡ AskTick ticks.AskRun }
-        ensures { result ≡ self.runner }
-    {
-        let (Lender { runner, aim: _ }, tick) = self.lend();
-        tick.end_run();
-        runner
-    }
-
-    /// The machine of a runner that searches, as it is after its task was run.
-    #[inline(always)]
-    pub(crate) fn searching(runner: Runner) -> RunMachine
-        ensures machine { result ≡ record { runner = runner; state = State.Ticking Aim.Work (record { state = tick.Searching 0 }) } }
-        ensures asked { asked result ≡ AskTick ticks.AskSearch }
-    {
-        let state = Ticking(Work, TickMachine::searching());
-        RunMachine { runner, state }
-    }
-
-    /// The machine of a runner that spends the notice of this task, as it is after the search.
-    #[inline(always)]
-    pub(crate) fn exchanging(runner: Runner, taken: Taken<()>) -> RunMachine
-        ensures machine { result ≡ record { runner = runner; state = State.Ticking Aim.Work (record { state = tick.Leaving (LeavingState.Exchanging (Some taken)) }) } }
-        ensures asked { asked result ≡ AskTick ticks.AskExchange }
-    {
-        let state = Ticking(Work, TickMachine::exchanging(taken));
-        RunMachine { runner, state }
-    }
-
-    /// What a runner does whose turn is over.
-    pub(crate) fn turn_over<W>(runner: Runner) -> RunNext<W>
-        ensures decided { result ≡ run_rest (record runner { count = 0 }) (Stage.Joined 0) TickEnd.Yield }
-        ensures asked { IsAsked result }
-        ensures store { store_asked result ≡ None }
-    {
-        rest(Runner { count: 0, ..runner }, Joined(0), TickEnd::Yield)
-    }
-
-    /// Lends the tick that acts for the run, which makes an action and decides what comes after.
-    #[inline(always)]
-    pub(crate) fn lend(self) -> (Lender, TickMachine)
-        requires { is_tick (asked self) ≡ true }
-        ensures asked { AskTick (ticks.asked result.1) ≡ asked self }
-        ensures fit { is_fit result.0.aim (course result.1) ≡ true }
-        ensures machine { self ≡ record { runner = result.0.runner; state = State.Ticking result.0.aim result.1 } }
-    {
-        let RunMachine { runner, state } = self;
-        match state {
-            Ticking(aim, tick) => (Lender { runner, aim }, tick),
-            _ => unreachable!(),
-        }
-    }
 }
 
-/// What a machine keeps while its tick is lent.
-pub(crate) struct Lender {
-    runner: Runner,
-    aim: Aim,
-}
-
-impl Lender {
-    /// What comes of the decision of the tick that was lent.
-    #[inline(always)]
-    pub(crate) fn resume<W>(self, next: TickNext<W>) -> RunNext<W>
-        requires asked { ticks.IsAsked next }
-        requires course { IsFitNext self.aim next }
-        ensures decided { result ≡ resumed self.runner self.aim next }
-        ensures asked { IsAsked result }
-        ensures store { store_asked result ≡ ticks.store_asked next }
-    {
-        let Lender { runner, aim } = self;
-        match aim {
-            Work => work(runner, next),
-            PassOn(number) => pass_on(runner, number, next),
-            Leave => go_on_leaving(runner, next),
-        }
+// What comes of the decision of the tick that acts for the run.
+#[inline(always)]
+fn resume<W>(runner: Runner, aim: Aim, next: TickNext<W>) -> RunNext<W>
+    requires asked { ticks.IsAsked next }
+    requires course { IsFitNext aim next }
+    ensures decided { result ≡ resumed runner aim next }
+    ensures asked { IsAsked result }
+    ensures store { store_asked result ≡ ticks.store_asked next }
+{
+    match aim {
+        Work => work(runner, next),
+        PassOn(number) => pass_on(runner, number, next),
+        Leave => go_on_leaving(runner, next),
     }
 }

@@ -1,0 +1,234 @@
+//! The steps that a run alone goes, each a value that must be spent. Between them it goes those of a
+//! tick, with its `Runner` for A.
+//!
+//! | step | what the run does | what comes next |
+//! |---|---|---|
+//! | `Registering` | makes its ring the queue of its runner | `PollingOwn`, or `NotRegistered` |
+//! | `NotRegistered` | wakes the waker of who polls | it answers pending |
+//! | `PollingOwn` | polls its own future, once | `Searching`, or `Unregistering` |
+//! | `Started` | takes a fair part of the global queue, if one is due | `UnderWay`, with the task |
+//! | `UnderWay` | runs the task | `Searching`, or `Yielding` once its turn is over |
+//! | `Unregistering` | ends the queue of its runner | `Departing`, with the notice of that |
+//! | `Releasing` | gives the place of a runner back that was never registered | it has ended |
+ghost use Rattle.std.specs.Prelude.{◌≡◌, ◌==◌, nat_lt, [], Bool, true, false, cond, Option, Some, None, IfOk, IfErr, OnOk};
+ghost use Rattle.executor_core.specs.Cells.Calls.{after_unregister, after_fair, after_release_runner};
+ghost use Rattle.async_executor.specs.Runs.{has_ended};
+
+use crate::machine::run::{RunRest, Runner};
+use crate::machine::steps::{Departing, Rested, Running, Searching, Yielding};
+use executor_core::queue::{Ring, RunnerKey};
+use executor_core::task::{Cells, Future, Notice, Poll, Taken, Wake};
+
+/// A poll of a run begins.
+pub(crate) enum Begun {
+    /// Its runner is to be registered first.
+    Register(Registering),
+    /// Its own future is polled first.
+    PollOwn(PollingOwn),
+}
+
+/// A run is dropped. Its own future was dropped before.
+pub(crate) enum Dropped {
+    /// Its runner was never registered.
+    Release(Releasing),
+    /// Its runner was registered.
+    Unregister(Unregistering),
+}
+
+/// To make its ring the queue of its runner.
+pub(crate) struct Registering {
+    pub(in crate::machine) runner: Runner,
+}
+
+impl Registering {
+    /// Makes it. A ring that is refused comes back.
+    pub(crate) fn make<W>(
+        self,
+        cells: &mut Cells<(), (), W>,
+        ring: Ring,
+    ) -> Result<PollingOwn, (NotRegistered, Ring)>
+        requires { ring.ids ≡ [] }
+        ensures refused { IfErr result (λ refused. refused.1 ≡ ring) }
+    {
+        let Registering { runner } = self;
+        match cells.register(runner.key(), ring) {
+            Ok(()) => Ok(PollingOwn { runner, number: 0 }),
+            Err(ring) => Err((NotRegistered { runner }, ring)),
+        }
+    }
+
+    /// There is no ring.
+    pub(crate) fn refused(self) -> NotRegistered {
+        let Registering { runner } = self;
+        NotRegistered { runner }
+    }
+}
+
+/// To wake the waker of who polls: the runner was not registered.
+pub(crate) struct NotRegistered {
+    pub(in crate::machine) runner: Runner,
+}
+
+impl NotRegistered {
+    /// Wakes the waker. The run tries again at its next poll. No lock may be held.
+    pub(crate) fn wake<W: Wake>(self, w: &W) -> RunRest
+        ensures { has_ended result ≡ false }
+    {
+        let NotRegistered { runner } = self;
+        w.wake();
+        RunRest::of_new(runner)
+    }
+}
+
+/// To poll the own future of the run.
+pub(crate) struct PollingOwn {
+    pub(in crate::machine) runner: Runner,
+    pub(in crate::machine) number: usize,
+}
+
+/// The own future was polled.
+pub(crate) enum OwnPolled<T> {
+    /// It is pending, and a task is to be searched for.
+    Pending(Searching<Runner>),
+    /// It was ready with this output, and was dropped.
+    Ready(T, Unregistering),
+}
+
+impl PollingOwn {
+    /// Polls it once. One that is ready is dropped. No lock may be held.
+    #[inline(always)]
+    pub(crate) fn poll<W, G: Future<W>>(self, own: &mut Option<G>, w: &W) -> OwnPolled<G::Output> {
+        let PollingOwn { runner, number } = self;
+        let polled = match own {
+            Some(future) => future.poll(w),
+            None => Poll::Pending,
+        };
+        match polled {
+            Poll::Pending => OwnPolled::Pending(Searching {
+                actor: runner,
+                number,
+            }),
+            Poll::Ready(output) => {
+                *own = None;
+                OwnPolled::Ready(output, Unregistering { runner, number })
+            }
+        }
+    }
+}
+
+/// A task that was found is counted.
+pub(crate) enum Started {
+    /// The run takes its fair part before it runs the task.
+    Share(Sharing),
+    /// It runs the task.
+    Run(UnderWay, Taken<()>),
+}
+
+impl Running<Runner> {
+    /// Counts the task.
+    #[inline(always)]
+    pub(crate) fn start(self) -> Started {
+        let Running { actor, taken } = self;
+        let (runner, is_fair) = actor.found();
+        if is_fair {
+            return Started::Share(Sharing { runner, taken });
+        }
+        Started::Run(UnderWay { runner }, taken)
+    }
+}
+
+/// To take a fair part of the global queue, so that tasks there are not left behind those of the
+/// run's own queue.
+pub(crate) struct Sharing {
+    runner: Runner,
+    taken: Taken<()>,
+}
+
+impl Sharing {
+    /// Takes it.
+    #[inline(always)]
+    pub(crate) fn make<W>(self, cells: &mut Cells<(), (), W>) -> (UnderWay, Taken<()>)
+        ensures cells { cells.new ≡ after_fair cells.old self.runner.key.number }
+        ensures task { result ≡ (record { runner = self.runner }, self.taken) }
+    {
+        let Sharing { runner, taken } = self;
+        cells.fair(runner.key());
+        (UnderWay { runner }, taken)
+    }
+}
+
+/// A task is being run.
+pub(crate) struct UnderWay {
+    runner: Runner,
+}
+
+impl UnderWay {
+    /// It was run. After the last one of a turn the run yields, so that others of its thread go on.
+    #[inline(always)]
+    pub(crate) fn ran(self) -> Result<Searching<Runner>, Yielding<Runner>> {
+        let UnderWay { runner } = self;
+        match runner.ran() {
+            Ok(actor) => Ok(Searching { actor, number: 0 }),
+            Err(actor) => Err(Yielding { actor, number: 0 }),
+        }
+    }
+}
+
+impl Rested<Runner> {
+    /// What the run keeps until its next poll.
+    #[inline(always)]
+    pub(crate) fn keep(self) -> RunRest
+        ensures { has_ended result ≡ false }
+    {
+        let Rested { actor, number } = self;
+        RunRest::of_joined(actor, number)
+    }
+}
+
+/// To end the queue of the runner. The own future was dropped before.
+pub(crate) struct Unregistering {
+    pub(in crate::machine) runner: Runner,
+    pub(in crate::machine) number: usize,
+}
+
+impl Unregistering {
+    /// Ends it. There is a notice if tasks stood in it, which are queued globally now.
+    pub(crate) fn make<W>(self, cells: &mut Cells<(), (), W>) -> (Option<Notice>, Departing<Runner>)
+        ensures cells { cells.new ≡ after_unregister cells.old self.runner.key.number }
+    {
+        let Unregistering { runner, number } = self;
+        let notice = cells.unregister(runner.key());
+        (
+            notice,
+            Departing {
+                actor: runner,
+                number,
+            },
+        )
+    }
+}
+
+impl Departing<Runner> {
+    /// The number was removed, and the notice of that was spent.
+    pub(crate) fn departed(self) -> RunRest
+        ensures { has_ended result ≡ true }
+    {
+        let Departing { actor, number: _ } = self;
+        RunRest::of_ended(actor)
+    }
+}
+
+/// To give the place of a runner back that was never registered.
+pub(crate) struct Releasing {
+    pub(in crate::machine) runner: Runner,
+}
+
+impl Releasing {
+    /// Gives it back.
+    pub(crate) fn make<W>(self, cells: &mut Cells<(), (), W>)
+        ensures { cells.new ≡ after_release_runner cells.old self.runner.key.number }
+    {
+        let Releasing { runner } = self;
+        cells.release_runner(runner.key());
+    }
+}
