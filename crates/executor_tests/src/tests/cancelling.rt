@@ -5,7 +5,7 @@ use super::support::line::Line::{
     Cancel, Count, Detach, DropHandle, Empty, Fallible, Finished, Poll, Spawn, Tick,
 };
 use super::support::player::play;
-use super::support::record::Moment::{FutureDrop, FuturePoll, WakerWake};
+use super::support::record::Moment::{FutureDrop, FuturePoll, OutputDrop, WakerDrop, WakerWake};
 use std::test::Fail;
 
 #[test]
@@ -36,6 +36,7 @@ fn a_fallible_task_gives_the_output(rt: HostRuntime) -> Result<(), Fail> {
             Poll(0, Cancelled),
             Spawn(Ready(8)),
             Fallible(1),
+            Finished(1, false),
             Cancel(1),
             Tick(true),
             Poll(1, Cancelled),
@@ -80,6 +81,47 @@ fn an_idle_task_that_is_cancelled_is_scheduled(rt: HostRuntime) -> Result<(), Fa
             Poll(0, Cancelled),
             Count(0, FuturePoll, 1),
             Count(0, FutureDrop, 1),
+        ],
+    )
+}
+
+#[test]
+fn a_cancel_wakes_nobody_who_awaits(rt: HostRuntime) -> Result<(), Fail> {
+    play(
+        &rt,
+        &[
+            Spawn(Ready(7)),
+            Poll(0, Pending),
+            Cancel(0),
+            Count(0, WakerWake, 0),
+            Tick(true),
+            Count(0, FutureDrop, 1),
+            Count(0, WakerWake, 1),
+            // Without a handle, not even then.
+            Spawn(Ready(8)),
+            Poll(1, Pending),
+            DropHandle(1),
+            Count(1, WakerWake, 0),
+            Count(1, WakerDrop, 1),
+            Tick(true),
+            Count(1, FutureDrop, 1),
+            Count(1, WakerWake, 0),
+        ],
+    )
+}
+
+#[test]
+fn a_detached_task_wakes_nobody_at_its_end(rt: HostRuntime) -> Result<(), Fail> {
+    play(
+        &rt,
+        &[
+            Spawn(Ready(7)),
+            Poll(0, Pending),
+            Detach(0),
+            Count(0, WakerDrop, 1),
+            Tick(true),
+            Count(0, OutputDrop, 1),
+            Count(0, WakerWake, 0),
         ],
     )
 }

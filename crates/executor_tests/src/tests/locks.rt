@@ -1,10 +1,11 @@
 //! No lock is held while something of the caller's runs: it halts, and another thread uses the same
 //! executor.
-use super::support::future::Kind::{Never, Ready, Yields};
+use super::support::future::Kind::{LeavesWaker, Never, Ready, Yields};
 use super::support::line::Answer::{Gone, Output, Pending, Ticked};
 use super::support::line::Line::{
-    AnotherWaker, Cancel, Count, Detach, DetachHalts, DropHalts, DropHandle, HaltAt, HaltsAgain,
-    MakeTick, Poll, PollHalts, Refuse, Returns, Spawn, SpawnHalts, Tick, TickHalts, Used,
+    AnotherWaker, Cancel, CancelHalts, Count, Detach, DetachHalts, DropHalts, DropHandle, HaltAt,
+    HaltsAgain, MakeTick, PassOnAt, Poll, PollHalts, Refuse, Returns, Spawn, SpawnHalts, SpawnMany,
+    Tick, TickHalts, Used, WakeHalts,
 };
 use super::support::player::play;
 use super::support::record::Moment::{
@@ -262,6 +263,92 @@ fn while_a_spawn_wakes_a_tick(rt: HostRuntime) -> Result<(), Fail> {
             Used,
             Returns(Gone),
             Count(0, WakerWake, 1),
+        ],
+    )
+}
+
+#[test]
+fn while_a_wake_wakes_a_tick(rt: HostRuntime) -> Result<(), Fail> {
+    play(
+        &rt,
+        &[
+            Spawn(LeavesWaker(1)),
+            Tick(true),
+            MakeTick,
+            Poll(1, Pending),
+            HaltAt(1, WakerWake),
+            WakeHalts(0),
+            Used,
+            Returns(Gone),
+            Count(1, WakerWake, 1),
+        ],
+    )
+}
+
+#[test]
+fn while_a_cancel_wakes_a_tick(rt: HostRuntime) -> Result<(), Fail> {
+    play(
+        &rt,
+        &[
+            Spawn(Never),
+            Tick(true),
+            MakeTick,
+            Poll(1, Pending),
+            HaltAt(1, WakerWake),
+            CancelHalts(0),
+            Used,
+            Returns(Gone),
+            Count(1, WakerWake, 1),
+        ],
+    )
+}
+
+#[test]
+fn while_a_handle_that_is_dropped_wakes_a_tick(rt: HostRuntime) -> Result<(), Fail> {
+    play(
+        &rt,
+        &[
+            Spawn(Never),
+            Tick(true),
+            MakeTick,
+            Poll(1, Pending),
+            HaltAt(1, WakerWake),
+            DropHalts(0),
+            Used,
+            Returns(Gone),
+            Count(1, WakerWake, 1),
+        ],
+    )
+}
+
+// A task is queued and somebody sleeps unnotified only while another thread has news of it. That of
+// the second tick stops in between: it has found a task, and has the news still to spend.
+#[test]
+fn while_a_try_tick_wakes_a_tick(rt: HostRuntime) -> Result<(), Fail> {
+    play(
+        &rt,
+        &[
+            MakeTick,
+            MakeTick,
+            Poll(0, Pending),
+            Poll(1, Pending),
+            SpawnMany(1),
+            Tick(true),
+            HaltAt(1, WakerCopy),
+            PollHalts(1),
+            // It was notified, so the news of these tasks wakes nobody.
+            Spawn(Ready(7)),
+            HaltAt(2, OutputDrop),
+            Detach(2),
+            SpawnMany(1),
+            HaltAt(1, WakerDrop),
+            HaltsAgain,
+            Count(0, WakerWake, 0),
+            // The waker of the first tick waits until the other thread has ended its task.
+            PassOnAt(0, WakerWake),
+            Tick(true),
+            Count(0, WakerWake, 1),
+            Returns(Ticked),
         ],
     )
 }

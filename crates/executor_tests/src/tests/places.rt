@@ -1,10 +1,11 @@
-//! The places of ticks among the sleepers: none stays behind. A place takes memory, so a table that
-//! keeps those of ticks which are gone grows.
-use super::support::future::Ready;
+//! The places of ticks and runs among the sleepers, and those of runs among the runners: none stays
+//! behind. A place takes memory, so a table that keeps those of ticks and runs which are gone grows.
+use super::support::future::{Ready, Until};
 use super::support::task::spawned;
-use async_executor::{Executor, Future, OutOfMemory, Poll, Wake};
+use async_executor::{Executor, Future, OutOfMemory, Poll, Run, Wake};
 use std::fs;
-use std::sync::Wait;
+use std::sync::atomic::AtomicU64;
+use std::sync::{Arc, Wait};
 use std::test::Fail;
 
 // A waker that takes much room in its place, and wakes nobody.
@@ -83,6 +84,59 @@ fn no_tick_leaves_its_place_behind(rt: HostRuntime) -> Result<(), Fail> {
 }
 
 const ROUNDS: u32 = 5_000;
+
+// A run that ends once the count is so high.
+fn run_until<'x, R: Wait + Clone + Drop + Send + Sync>(
+    ex: &'x Executor<Ready<u64>, Wide, R>,
+    count: &Arc<AtomicU64>,
+    all: u64,
+) -> Result<Run<'x, Ready<u64>, Wide, R, Until>, Fail> {
+    match ex.run(Until::new(count, all)?) {
+        Ok(run) => Ok(run),
+        Err(_) => Err("no memory for a run".into()),
+    }
+}
+
+// What its first poll answers. It is dropped after that.
+fn first_answer<R: Wait + Clone + Drop + Send + Sync>(
+    ex: &Executor<Ready<u64>, Wide, R>,
+    waker: &Wide,
+    count: &Arc<AtomicU64>,
+    all: u64,
+) -> Result<Poll<()>, Fail> {
+    let mut run = run_until(ex, count, all)?;
+    Ok(run.poll(waker))
+}
+
+// Makes runs that end in each way: before the first poll, asleep, and with their own future. Says
+// whether each poll answers as it should.
+fn runs_end<R: Wait + Clone + Drop + Send + Sync>(
+    ex: &Executor<Ready<u64>, Wide, R>,
+    waker: &Wide,
+    count: &Arc<AtomicU64>,
+) -> Result<bool, Fail> {
+    drop(run_until(ex, count, 1)?);
+    let asleep = first_answer(ex, waker, count, 1)?;
+    let ended = first_answer(ex, waker, count, 0)?;
+    Ok((asleep, ended) == (Poll::Pending, Poll::Ready(())))
+}
+
+#[test]
+fn no_run_leaves_its_places_behind(rt: HostRuntime) -> Result<(), Fail> {
+    let waker = Wide { room: [0; 64] };
+    let count = Arc::new(rt.alloc(), AtomicU64::new(0))?;
+    let ex = Executor::new(rt.clone()?, rt.alloc())?;
+    assert!(rt; runs_end(&ex, &waker, &count)?);
+    let before = pages(&rt)?;
+    for _ in 0..ROUNDS_OF_RUNS {
+        assert!(rt; runs_end(&ex, &waker, &count)?);
+    }
+    assert!(rt; pages(&rt)? < before.saturating_add(MOST_PAGES));
+    Ok(())
+}
+
+// More than of ticks, since the place of a runner takes less memory than that of a sleeper.
+const ROUNDS_OF_RUNS: u32 = 20_000;
 
 // Less than half of what the places take where one stays behind in each round.
 const MOST_PAGES: u64 = 256;

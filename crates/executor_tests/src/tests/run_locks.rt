@@ -101,11 +101,14 @@ fn while_a_run_drops_a_future(rt: HostRuntime) -> Result<(), Fail> {
         &[
             Spawn(Ready(7)),
             HaltAt(0, FutureDrop),
+            // One that is found after it.
+            Spawn(Ready(8)),
             MakeRun(Never),
-            PollHalts(1),
+            PollHalts(2),
             Used,
             Returns(Pending),
             Poll(0, Output(7)),
+            Poll(1, Output(8)),
         ],
     )
 }

@@ -3,8 +3,8 @@
 use super::support::future::Kind::{LeavesWaker, Never, Ready, Yields};
 use super::support::line::Answer::{Output, Pending};
 use super::support::line::Line::{
-    AnotherWaker, Cancel, Count, DropHandle, Empty, Finished, MakeRun, MakeTick, ManyRan,
-    OtherWoken, Poll, Refuse, Spawn, SpawnMany, Ticks, Wake,
+    AnotherWaker, Cancel, Count, DropHandle, Empty, Finished, HaltAt, HaltsAgain, MakeRun,
+    MakeTick, ManyRan, OtherWoken, Poll, PollHalts, Refuse, Returns, Spawn, SpawnMany, Ticks, Wake,
 };
 use super::support::player::play;
 use super::support::record::Moment::{FutureDrop, FuturePoll, OutputDrop, WakerCopy, WakerWake};
@@ -66,6 +66,91 @@ fn each_poll_of_a_task_is_counted(rt: HostRuntime) -> Result<(), Fail> {
             Count(1, FuturePoll, 2),
             Poll(1, Pending),
             Poll(0, Output(501)),
+        ],
+    )
+}
+
+#[test]
+fn the_queue_of_a_run_has_room_for_512_tasks(rt: HostRuntime) -> Result<(), Fail> {
+    play(
+        &rt,
+        &[
+            Spawn(Ready(7)),
+            HaltAt(0, FuturePoll),
+            SpawnMany(1_099),
+            MakeRun(Never),
+            PollHalts(1),
+            // Half of them are 550.
+            Ticks(587),
+            Returns(Pending),
+        ],
+    )
+}
+
+#[test]
+fn a_run_takes_its_part_before_the_64th_task(rt: HostRuntime) -> Result<(), Fail> {
+    play(
+        &rt,
+        &[
+            SpawnMany(62),
+            Spawn(Ready(7)),
+            Spawn(Ready(8)),
+            HaltAt(0, FuturePoll),
+            HaltAt(1, FuturePoll),
+            SpawnMany(100),
+            MakeRun(Never),
+            PollHalts(2),
+            ManyRan(62),
+            // What is left to all since the first search.
+            Ticks(81),
+            SpawnMany(100),
+            HaltsAgain,
+            Ticks(50),
+            Returns(Pending),
+        ],
+    )
+}
+
+// The first search of the second poll takes half of what is left, and then the part is taken.
+#[test]
+fn a_run_takes_its_part_before_a_64th_task_that_is_the_first_of_a_poll(
+    rt: HostRuntime,
+) -> Result<(), Fail> {
+    play(
+        &rt,
+        &[
+            MakeRun(Never),
+            SpawnMany(63),
+            Poll(0, Pending),
+            ManyRan(63),
+            Spawn(Ready(7)),
+            HaltAt(1, FuturePoll),
+            SpawnMany(100),
+            PollHalts(0),
+            Ticks(25),
+            Returns(Pending),
+        ],
+    )
+}
+
+// The first search takes half of the tasks after the first one to the run's own queue, and those
+// come before the last one.
+#[test]
+fn a_run_runs_its_own_tasks_first(rt: HostRuntime) -> Result<(), Fail> {
+    play(
+        &rt,
+        &[
+            Spawn(Ready(5)),
+            Spawn(Ready(6)),
+            Spawn(Ready(7)),
+            Spawn(Ready(8)),
+            HaltAt(3, FuturePoll),
+            MakeRun(Never),
+            PollHalts(4),
+            Count(0, FuturePoll, 1),
+            Count(1, FuturePoll, 1),
+            Count(2, FuturePoll, 1),
+            Returns(Pending),
         ],
     )
 }
@@ -159,6 +244,67 @@ fn each_search_takes_one_word(rt: HostRuntime) -> Result<(), Fail> {
             Count(3, FuturePoll, 0),
             Poll(0, Pending),
             ManyRan(599),
+            Count(3, FuturePoll, 1),
+        ],
+    )
+}
+
+// By its words the first of three runs steals from the third at its seventh search, which is the
+// first of its sixth poll. With word 0, or with two words a search, it would steal from the second.
+#[test]
+fn a_search_goes_by_its_word(rt: HostRuntime) -> Result<(), Fail> {
+    play(
+        &rt,
+        &[
+            MakeRun(Never),
+            MakeRun(Never),
+            MakeRun(Never),
+            Poll(0, Pending),
+            Poll(0, Pending),
+            Poll(0, Pending),
+            Poll(0, Pending),
+            Poll(0, Pending),
+            // Each of the others is left one task.
+            SpawnMany(200),
+            Spawn(Ready(7)),
+            Poll(1, Pending),
+            SpawnMany(200),
+            Spawn(Ready(8)),
+            Poll(2, Pending),
+            HaltAt(4, FuturePoll),
+            PollHalts(0),
+            Count(3, FuturePoll, 0),
+            Returns(Pending),
+            Count(3, FuturePoll, 1),
+        ],
+    )
+}
+
+// The same search, which here follows the end of a task that all share.
+#[test]
+fn a_search_after_an_end_goes_by_its_word(rt: HostRuntime) -> Result<(), Fail> {
+    play(
+        &rt,
+        &[
+            MakeRun(Never),
+            MakeRun(Never),
+            MakeRun(Never),
+            Poll(0, Pending),
+            Poll(0, Pending),
+            Poll(0, Pending),
+            Poll(0, Pending),
+            SpawnMany(200),
+            Spawn(Ready(7)),
+            Poll(1, Pending),
+            SpawnMany(200),
+            Spawn(Ready(8)),
+            Poll(2, Pending),
+            Spawn(Ready(9)),
+            HaltAt(4, FuturePoll),
+            PollHalts(0),
+            Count(5, FuturePoll, 1),
+            Count(3, FuturePoll, 0),
+            Returns(Pending),
             Count(3, FuturePoll, 1),
         ],
     )

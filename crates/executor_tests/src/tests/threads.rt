@@ -1,10 +1,10 @@
 //! What becomes of a task, and in which order, where it is cancelled or let go while another thread
 //! polls or drops its future.
 use super::support::future::Kind::{Never, Ready, WakesAndReady, Yields};
-use super::support::line::Answer::{Cancelled, Pending, Ticked};
+use super::support::line::Answer::{Cancelled, Output, Pending, Ticked};
 use super::support::line::Line::{
-    Cancel, Count, Detach, DropHandle, Empty, HaltAt, HaltsAgain, Poll, Returns, Spawn, Tick,
-    TickHalts,
+    Cancel, Count, Detach, DropHandle, Empty, Finished, HaltAt, HaltsAgain, Poll, Returns, Spawn,
+    Tick, TickHalts,
 };
 use super::support::player::play;
 use super::support::record::Moment::{FutureDrop, FuturePoll, OutputDrop, WakerWake};
@@ -128,6 +128,24 @@ fn a_cancelled_task_ends_after_its_future_is_dropped(rt: HostRuntime) -> Result<
             Empty(true),
             Count(0, WakerWake, 1),
             Poll(0, Cancelled),
+        ],
+    )
+}
+
+#[test]
+fn a_task_ends_after_its_ready_future_is_dropped(rt: HostRuntime) -> Result<(), Fail> {
+    play(
+        &rt,
+        &[
+            Spawn(Ready(7)),
+            HaltAt(0, FutureDrop),
+            TickHalts,
+            Finished(0, false),
+            Empty(false),
+            Returns(Ticked),
+            Finished(0, true),
+            Empty(true),
+            Poll(0, Output(7)),
         ],
     )
 }

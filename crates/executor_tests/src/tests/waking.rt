@@ -1,5 +1,5 @@
 //! What a task's waker does, and what it no longer does.
-use super::support::future::Kind::LeavesWaker;
+use super::support::future::Kind::{LeavesWaker, WakesTwice};
 use super::support::line::Answer::{Output, Pending};
 use super::support::line::Line::{
     Count, Detach, DropExecutor, DropHandle, Poll, Spawn, Tick, Wake, WakeCopy, WakeElsewhere,
@@ -23,6 +23,20 @@ fn an_idle_task_is_scheduled_once(rt: HostRuntime) -> Result<(), Fail> {
             Tick(true),
             Tick(false),
             Count(0, FuturePoll, 2),
+        ],
+    )
+}
+
+#[test]
+fn a_task_that_wakes_itself_twice_is_polled_again(rt: HostRuntime) -> Result<(), Fail> {
+    play(
+        &rt,
+        &[
+            Spawn(WakesTwice),
+            Tick(true),
+            Tick(true),
+            Poll(0, Output(2)),
+            Tick(false),
         ],
     )
 }

@@ -65,6 +65,9 @@ pub enum Kind {
     Ready(u64),
     /// It wakes itself at its first poll, and is ready with this.
     WakesAndReady(u64),
+    /// It wakes itself twice at its first poll, and is ready with the number of its polls at the
+    /// next.
+    WakesTwice,
     /// It is never ready.
     Never,
     /// It wakes itself at this number of polls, and is ready with the number of its polls at the
@@ -153,6 +156,11 @@ impl<W: Wake> TestFuture<W> {
             Kind::WakesAndReady(number) => {
                 w.wake();
                 return Some(number);
+            }
+            Kind::WakesTwice => {
+                self.kind = Kind::Yields(0);
+                w.wake();
+                w.wake();
             }
             Kind::Yields(0) | Kind::LeavesWaker(0) => return Some(self.polls),
             Kind::Yields(left) => {

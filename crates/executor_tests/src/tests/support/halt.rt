@@ -59,12 +59,21 @@ impl Halt {
         self.counts.releases.store(halts, Ordering::SeqCst);
     }
 
+    /// Lets another thread go on that halts here, and waits until it halts again, or the turns are
+    /// over.
+    pub fn pass_on(&self) {
+        self.release();
+        if !self.await_other() {
+            self.counts.misses.fetch_add(1, Ordering::SeqCst);
+        }
+    }
+
     /// Lets those go on that halt here, now or later.
     pub fn open(&self) {
         self.counts.releases.store(u64::MAX, Ordering::SeqCst);
     }
 
-    /// Whether each that halted here was let go on in time.
+    /// Whether nobody waited here in vain.
     pub fn was_passed(&self) -> bool {
         self.counts.misses.load(Ordering::SeqCst) == 0
     }

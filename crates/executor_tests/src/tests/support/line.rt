@@ -76,10 +76,16 @@ pub enum Line {
 
     /// The thread that meets this halts.
     HaltAt(usize, Moment),
+    /// The thread that meets this lets the other one go on, and waits until that halts again.
+    PassOnAt(usize, Moment),
     /// Another thread calls `try_tick`, and halts.
     TickHalts,
     /// Another thread polls the task's handle, and halts.
     PollHalts(usize),
+    /// Another thread wakes the waker that the task's future left, and halts.
+    WakeHalts(usize),
+    /// Another thread cancels the task and drops its handle, and halts.
+    CancelHalts(usize),
     /// Another thread detaches the task, and halts.
     DetachHalts(usize),
     /// Another thread drops the task's handle, and halts.

@@ -4,7 +4,7 @@ use super::halt::Halt;
 use super::line::{Answer, Line};
 use super::record::{Moment, Record};
 use super::task::{
-    Entry, Handle, LentHandle, TaskFuture, TestExecutor, TestTicker, Ticker, spawned,
+    Entry, FutureWaker, Handle, LentHandle, TaskFuture, TestExecutor, TestTicker, Ticker, spawned,
 };
 use super::waker::TestWaker;
 use async_executor::executor::Executor;
@@ -24,6 +24,8 @@ enum Call<T, R: Wait + Clone + Drop + Send + Sync> {
     Tick(Arc<TestExecutor<R>>),
     Spawn(Arc<TestExecutor<R>>, TaskFuture<R>),
     Poll(LentHandle<T, R>),
+    Wake(FutureWaker<R>),
+    Cancel(Handle<T, R>),
     Detach(Handle<T, R>),
     Drop(Handle<T, R>),
 }
@@ -46,6 +48,14 @@ impl<T: TestTicker<R>, R: Wait + Clone + Drop + Send + Sync> Call<T, R> {
                     answer,
                     polled: Some(lent),
                 };
+            }
+            Call::Wake(waker) => {
+                waker.wake();
+                Answer::Gone
+            }
+            Call::Cancel(handle) => {
+                drop(handle.cancel());
+                Answer::Gone
             }
             Call::Detach(handle) => {
                 handle.detach();
@@ -132,6 +142,8 @@ impl<'s, E: 's, T: TestTicker<R> + 's, R: Wait + Threads + Clone + Drop + Send +
             Line::TickHalts => self.tick_halts(),
             Line::SpawnHalts => self.spawn_halts(),
             Line::PollHalts(task) => self.poll_halts(task),
+            Line::WakeHalts(task) => self.wake_halts(task),
+            Line::CancelHalts(task) => self.cancel_halts(task),
             Line::DetachHalts(task) => self.detach_halts(task),
             Line::DropHalts(task) => self.drop_halts(task),
             Line::WakeElsewhere(task) => self.wake_elsewhere(task),
@@ -153,6 +165,7 @@ impl<'s, E: 's, T: TestTicker<R> + 's, R: Wait + Threads + Clone + Drop + Send +
             | Line::OtherWoken(task, _)
             | Line::Refuse(task)
             | Line::HaltAt(task, _)
+            | Line::PassOnAt(task, _)
             | Line::Count(task, _, _) => match self.entries.get_mut(task) {
                 Some(entry) => entry.holds(line),
                 None => Ok(false),
@@ -284,10 +297,32 @@ impl<'s, E: 's, T: TestTicker<R> + 's, R: Wait + Threads + Clone + Drop + Send +
         }
     }
 
+    // The waker that the task's future left.
+    fn taken_waker(&mut self, task: usize) -> Option<FutureWaker<R>> {
+        match self.entries.get_mut(task) {
+            Some(entry) => entry.take_left(),
+            None => None,
+        }
+    }
+
     fn taken_handle(&mut self, task: usize) -> Option<Handle<T, R>> {
         match self.entries.get_mut(task) {
             Some(entry) => entry.handle.take(),
             None => None,
+        }
+    }
+
+    fn wake_halts(&mut self, task: usize) -> Result<bool, Fail> {
+        match self.taken_waker(task) {
+            Some(waker) => self.start(Call::Wake(waker)),
+            None => Ok(false),
+        }
+    }
+
+    fn cancel_halts(&mut self, task: usize) -> Result<bool, Fail> {
+        match self.taken_handle(task) {
+            Some(handle) => self.start(Call::Cancel(handle)),
+            None => Ok(false),
         }
     }
 
@@ -331,11 +366,7 @@ impl<'s, E: 's, T: TestTicker<R> + 's, R: Wait + Threads + Clone + Drop + Send +
     }
 
     fn wake_elsewhere(&mut self, task: usize) -> Result<bool, Fail> {
-        let waker = match self.entries.get_mut(task) {
-            Some(entry) => entry.take_left(),
-            None => None,
-        };
-        let Some(waker) = waker else {
+        let Some(waker) = self.taken_waker(task) else {
             return Ok(false);
         };
         let child = self.scope.spawn(move || waker.wake())?;

@@ -21,11 +21,12 @@ pub enum Moment {
     WakerDrop,
 }
 
-// How often a moment came, and whether it halts there.
+// How often a moment came, and whether the thread halts there, or lets another one go on.
 #[derive(Drop)]
 struct Point {
     times: AtomicU64,
     halts: AtomicBool,
+    passes_on: AtomicBool,
 }
 
 impl Point {
@@ -33,6 +34,7 @@ impl Point {
         Point {
             times: AtomicU64::new(0),
             halts: AtomicBool::new(false),
+            passes_on: AtomicBool::new(false),
         }
     }
 }
@@ -102,6 +104,12 @@ impl Record {
         self.point(moment).halts.store(true, Ordering::SeqCst);
     }
 
+    /// Has the thread that meets this moment let another one go on, which halts, and wait until it
+    /// halts again.
+    pub fn pass_on_at(&self, moment: Moment) {
+        self.point(moment).passes_on.store(true, Ordering::SeqCst);
+    }
+
     /// Has copies be refused from now on.
     pub fn refuse(&self) {
         self.points.refuses.store(true, Ordering::SeqCst);
@@ -112,12 +120,15 @@ impl Record {
         self.points.refuses.load(Ordering::SeqCst)
     }
 
-    /// Counts the moment, and halts where it is told to.
+    /// Counts the moment, and halts or lets another thread go on where it is told to.
     pub fn meet(&self, moment: Moment) {
         let point = self.point(moment);
         point.times.fetch_add(1, Ordering::SeqCst);
         if point.halts.load(Ordering::SeqCst) {
             self.points.halt.halt();
+        }
+        if point.passes_on.load(Ordering::SeqCst) {
+            self.points.halt.pass_on();
         }
     }
 

@@ -130,7 +130,7 @@ impl<T: TestTicker<R>, R: Wait + Clone + Drop + Send + Sync> Handle<T, R> {
         }
     }
 
-    fn cancel(self) -> Handle<T, R> {
+    pub fn cancel(self) -> Handle<T, R> {
         match self {
             Handle::Task(task) => Handle::Cancel(task.cancel()),
             Handle::Fallible(fallible) => Handle::Cancel(fallible.cancel()),
@@ -302,6 +302,10 @@ impl<T: TestTicker<R>, R: Wait + Clone + Drop + Send + Sync> Entry<T, R> {
             }
             Line::HaltAt(_, moment) => {
                 self.record.halt_at(moment);
+                true
+            }
+            Line::PassOnAt(_, moment) => {
+                self.record.pass_on_at(moment);
                 true
             }
             Line::Count(_, moment, times) => self.record.times(moment) == times,
