@@ -1,32 +1,59 @@
-// Lets one request for memory of a program fail: the Nth, where N is FAIL_ALLOC in the environment.
-// It says so by a line on descriptor 3. LD_PRELOAD loads it before the C library.
+// Lets requests for memory of a program fail. LD_PRELOAD loads it before the C library; compiled with
+// SANITIZED it is a part of the program, before the sanitizer's runtime.
+//
+// The Nth request fails, where N is FAIL_ALLOC in the environment. It says so by a line on
+// descriptor 3. Where N is 0, or not there, the program orders what fails: a request for ORDER bytes
+// and 16 N more has the Nth request after it fail, and none where N is 0.
 typedef unsigned long size;
 extern void *dlsym(void *library, const char *name);
 extern char *getenv(const char *name);
 extern long atol(const char *text);
 extern long write(int descriptor, const void *bytes, size count);
 
-static void *const NEXT_LIBRARY = (void *)-1L;
-static long requests, refused = -1;
+// crates/refusals/src/rooms.rt has the same number, as that of the ids in a ring.
+static const size ORDER = 1 << 20, MOST_ORDERED = 16;
 
-static int is_refused(void) {
+static void *const NEXT_LIBRARY = (void *)-1L;
+static long requests, refused = -1, ordered;
+
+static int is_refused_by_order(size bytes) {
+    size order = (bytes - ORDER) / 16;
+    if (bytes < ORDER || order > MOST_ORDERED) return ordered > 0 && --ordered == 0;
+    ordered = order;
+    return 0;
+}
+
+static int is_refused(size bytes) {
     if (refused < 0) {
         const char *text = getenv("FAIL_ALLOC");
         refused = text ? atol(text) : 0;
     }
+    if (refused == 0) return is_refused_by_order(bytes);
     if (++requests != refused) return 0;
     write(3, "refused\n", 8);
     return 1;
 }
 
-void *malloc(size bytes) {
+#ifdef SANITIZED
+extern void *___interceptor_malloc(size bytes);
+extern void *___interceptor_realloc(void *old, size bytes);
+
+static void *next_malloc(size bytes) { return ___interceptor_malloc(bytes); }
+static void *next_realloc(void *old, size bytes) { return ___interceptor_realloc(old, bytes); }
+#else
+static void *next_malloc(size bytes) {
     static void *(*next)(size);
     if (!next) next = (void *(*)(size))dlsym(NEXT_LIBRARY, "malloc");
-    return is_refused() ? 0 : next(bytes);
+    return next(bytes);
 }
 
-void *realloc(void *old, size bytes) {
+static void *next_realloc(void *old, size bytes) {
     static void *(*next)(void *, size);
     if (!next) next = (void *(*)(void *, size))dlsym(NEXT_LIBRARY, "realloc");
-    return is_refused() ? 0 : next(old, bytes);
+    return next(old, bytes);
 }
+#endif
+
+void *malloc(size bytes) { return is_refused(bytes) ? 0 : next_malloc(bytes); }
+
+void *realloc(void *old, size bytes) { return is_refused(bytes) ? 0 : next_realloc(old, bytes); }

@@ -9,6 +9,9 @@
 # The programs are those that the gate built, or are built by `rt run` where a source is newer. The
 # library of fail_nth.c counts their requests, and says whether it refused one. The last request of
 # refusals is refused once more by `rt try`, which also finds a bad access.
+#
+# In the end refusals orders itself which requests fail, and says for how many ticks and runs there is
+# room before and after runs that were refused.
 # Usage: checks/refusals.sh, anywhere. RT names the command rt. Its last line counts the runs.
 set -eu
 rt=${RT:-rt}
@@ -79,7 +82,16 @@ read_line 0
 [ "$(printf '%s\n' "$met" | sed 1d | sort -u)" = "$(calls 0 | sort -u)" ] ||
     give_up "not each call met a refusal: $met"
 
-n=$((n - 1))
+last=$((n - 1))
+n=0
+run_refused
+read_line 0
+room=$(printf '%s\n' "$out" | grep '^room for ' || :)
+[ -n "$room" ] || give_up "refusals takes no orders: $out"
+echo "refusals, by its orders: $room"
+passed=$((passed + 1))
+
+n=$last
 out=$(cd "$top/crates/refusals" && "$rt" try --fail-alloc "$n" --seconds 60 2>&1) &&
     status=0 || status=$?
 read_line 1

@@ -5,6 +5,7 @@
 
 mod core_calls;
 mod outcome;
+mod rooms;
 mod running;
 
 use outcome::Outcome;
@@ -24,8 +25,11 @@ fn main(rt: HostRuntime) -> io::Result<ExitCode> {
     core_calls::make_ticker(alloc, &mut outcome, true);
     running::spawn_and_run(&rt, alloc, &mut outcome);
     running::tick_and_run(&rt, alloc, &mut outcome);
+    if let Some((sleepers, runners)) = rooms::keep_rooms(&rt, alloc, &mut outcome) {
+        println!(rt; "room for {sleepers} sleepers and {runners} runners")?;
+    }
     println!(rt;
-        "refused: Cells::new {}, Cells::spawn {}, Cells::reserve_runner {}, Ring::new {}, Sleepers::reserve {}, Core::new {}, Core::reserve {}, World::new {}, World::run {}, World::step {}, Executor::new {}, Executor::spawn {}, Executor::tick {}, Executor::run {}, steps {}; wrong: {}",
+        "refused: Cells::new {}, Cells::spawn {}, Cells::reserve_runner {}, Ring::new {}, Sleepers::reserve {}, Core::new {}, Core::reserve {}, World::new {}, World::run {}, World::step {}, Executor::new {}, Executor::spawn {}, Executor::tick {}, Executor::run {}, steps {}, orders {}; wrong: {}",
         outcome.cells_new,
         outcome.cells_spawn,
         outcome.cells_reserve_runner,
@@ -41,6 +45,7 @@ fn main(rt: HostRuntime) -> io::Result<ExitCode> {
         outcome.executor_tick,
         outcome.executor_run,
         outcome.steps,
+        outcome.orders,
         outcome.wrong
     )?;
     Ok(if outcome.wrong == 0 {

@@ -1,7 +1,7 @@
 //! What came of the calls.
 
-/// How often each call was refused memory, and the program's own list of steps; and how many
-/// answers were wrong.
+/// How often each call was refused memory, the program's own list of steps, and its orders;
+/// and how many answers were wrong.
 #[derive(Drop)]
 pub struct Outcome {
     pub cells_new: u32,
@@ -19,6 +19,7 @@ pub struct Outcome {
     pub executor_tick: u32,
     pub executor_run: u32,
     pub steps: u32,
+    pub orders: u32,
     pub wrong: u32,
 }
 
@@ -41,6 +42,7 @@ impl Outcome {
             executor_tick: 0,
             executor_run: 0,
             steps: 0,
+            orders: 0,
             wrong: 0,
         }
     }

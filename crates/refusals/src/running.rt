@@ -11,7 +11,7 @@ const TASKS: u64 = 5;
 
 /// Counts how often it and its copies are woken.
 #[derive(Drop)]
-struct CountingWaker<'a> {
+pub struct CountingWaker<'a> {
     wakes: &'a AtomicU64,
 }
 
@@ -27,7 +27,7 @@ impl Wake for CountingWaker<'_> {
 
 /// Adds its number to a sum.
 #[derive(Drop)]
-struct Adds<'a> {
+pub struct Adds<'a> {
     number: u64,
     sum: &'a AtomicU64,
 }
@@ -41,9 +41,10 @@ impl<W> Future<W> for Adds<'_> {
     }
 }
 
-type AddingExecutor<'a, R> = Executor<Adds<'a>, CountingWaker<'a>, R>;
+pub type AddingExecutor<'a, R> = Executor<Adds<'a>, CountingWaker<'a>, R>;
 
-fn made<'a, R: Wait + Clone + Drop + Send + Sync>(
+/// An executor, made again where that is refused.
+pub fn made<'a, R: Wait + Clone + Drop + Send + Sync>(
     rt: &R,
     alloc: Global,
     outcome: &mut Outcome,
@@ -132,8 +133,14 @@ fn ticked<'x, 'a, R: Wait + Clone + Drop + Send + Sync>(
 
 /// A future beside which a run runs tasks. It is never ready.
 #[derive(Drop)]
-struct Beside {
+pub struct Beside {
     number: u64,
+}
+
+impl Beside {
+    pub fn new() -> Beside {
+        Beside { number: 7 }
+    }
 }
 
 impl<W> Future<W> for Beside {
@@ -149,7 +156,7 @@ fn run_made<'x, 'a, R: Wait + Clone + Drop + Send + Sync>(
     ex: &'x AddingExecutor<'a, R>,
     outcome: &mut Outcome,
 ) -> Option<Run<'x, Adds<'a>, CountingWaker<'a>, R, Beside>> {
-    let refusal = match ex.run(Beside { number: 7 }) {
+    let refusal = match ex.run(Beside::new()) {
         Ok(run) => return Some(run),
         Err(refusal) => refusal,
     };
