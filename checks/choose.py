@@ -5,8 +5,9 @@ the number of the edit is chosen. The crates of tests become one, the suite. Of 
 that an edit names, and each edit has a copy of its test, of the edit's name, which chooses that
 number first. With the line 'alone: yes' an edit changes more than bodies: of those given beside
 others only the tests are kept.
-Usage: choose.py beside COPY EDIT.., or choose.py alone COPY EDIT, which applies it as it is. COPY is
-a copy of the repository, and EDIT a file. With status 1 it says why one cannot be applied.
+Usage: choose.py beside COPY EDIT.., or choose.py alone COPY EDIT, which applies it as it is, or
+choose.py program COPY EDIT.., which leaves the tests. COPY is a copy of the repository, and EDIT a
+file. With status 1 it says why one cannot be applied.
 """
 import os
 import re
@@ -98,8 +99,9 @@ def main(way, copy, *paths):
             add_bodies(copy, [(number, edit) for number, edit in edits if not edit.is_alone])
     except Unapplied as why:
         sys.exit(str(why))
-    join_tests(copy, edits)
-    keep_tests(f"{copy}/crates/{SUITE}/src/tests", edits)
+    if way != "program":
+        join_tests(copy, edits)
+        keep_tests(f"{copy}/crates/{SUITE}/src/tests", edits)
     lowest = f"{copy}/crates/{LOWEST}/src"
     write(f"{lowest}/choice.rt", CHOICE)
     write(f"{lowest}/lib.rt", read(f"{lowest}/lib.rt") + "\npub mod choice;\n")
