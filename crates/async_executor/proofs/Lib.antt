@@ -1,2 +1,3 @@
 mod Places
+mod RunRows
 mod Runs

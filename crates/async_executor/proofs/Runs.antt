@@ -4,6 +4,7 @@ use Rattle.std.proofs.lemmas.Bool.{cases_Bool, eqb-true, eq-eqb, ltb-true, lt-lt
 use Rattle.std.specs.Prelude.{nat_lt, ◌==◌}
 use Rattle.executor_core.specs.declared.interleave.ticker.Phase.TheVariants as phase
 use Rattle.executor_core.specs.declared.interleave.ticker.Ticker.{Ticker}
+use Rattle.executor_core.specs.World.Tickers as seen
 use Rattle.executor_core.specs.declared.task.values.Taken.{Taken}
 use Rattle.async_executor.specs.Ticks.{Asked, AskStart, AskSearch, AskInsert, AskUpdate, AskStore, AskRemove, AskStoreRemoved, AskExchange, AskNotify, AskWake, AskRun, is_return}
 use Rattle.async_executor.specs.Ticks as ticks
@@ -12,7 +13,7 @@ use Rattle.async_executor.specs.Ticks.Steps as ticks_steps
 use Rattle.async_executor.specs.Ticks.Tickers as ticks_seen
 use Rattle.async_executor.specs.Runs.{AskTick, AskFair, AskNothing, is_fit, asked, asked_in, answers, store_asked, IsAsked, IsFitNext}
 use Rattle.async_executor.specs.Runs.Decisions.{turn, ask, run_rest, run_ended, searching, dropping, after_task, found, working, passing_on, leaving, resumed}
-use Rattle.async_executor.specs.Runs.Steps.{left_awake, ran, worked, passed_on, ticked, leads}
+use Rattle.async_executor.specs.Runs.Steps.{left_awake, ran, worked, passed_on, ticked, leads, may_tick, may_lead}
 use Rattle.async_executor.specs.Runs.Tickers.{runner_in, run_at, ticker_in, ticker_of, ticker_after}
 use Rattle.async_executor.specs.Runs.Turns.{under_way, runs_in, TurnFrom}
 use Rattle.async_executor.specs.declared.machine.run.Aim.{Aim}
@@ -370,3 +371,22 @@ module _ {W : Type 0} where
       led
       ∙ ap (λ s. ticked machine.runner.count s reply (ticker_in machine.runner notified s)) (sym is)
       ∙ ap (λ r. leads machine r (ticker_of notified machine)) (sym from)
+
+-- where the steps of a tick are enabled, so are those of the run for which it acts
+module _ {W : Type 0} where
+  abbrev Enabled : TickMachine → TickReply W → Type 0
+  Enabled machine reply = (runner : Option ℕ) (notified : Bool) → ticks_steps.may_lead machine.state reply (ticks_seen.ticker_of runner notified machine) ≡ true
+
+  pub may_by_aim : (runner : Runner) (aim : Aim) (machine : TickMachine) (reply : TickReply W) → ticks.answers (ticks.asked machine) reply ≡ true → Enabled machine reply → (notified : Bool) → may_tick (Ticking aim machine) reply (ticker_in runner notified (Ticking aim machine)) ≡ true
+  may_by_aim runner Work machine reply answered may notified =
+      cond_both _ _ _ (λ b. b ≡ true)
+      (λ ending. ap (λ s. seen.at_rest (ticks_seen.ticker_in (runner_in runner) notified s).phase) (was_running machine.state reply ending answered))
+      (λ _. may (runner_in runner) notified)
+  may_by_aim runner (PassOn number) machine reply answered may notified = refl
+  may_by_aim runner Leave machine reply answered may notified = may (runner_in runner) notified
+
+  pub may_next : (machine : RunMachine) (aim : Aim) (tick : TickMachine) (given : RunReply W) (reply : TickReply W) → machine.state ≡ Ticking aim tick → given ≡ Tick reply → (notified : Bool) → may_tick (Ticking aim tick) reply (ticker_in machine.runner notified (Ticking aim tick)) ≡ true → may_lead machine given (ticker_of notified machine) ≡ true
+  may_next machine aim tick given reply is from notified may =
+      ap (λ r. may_lead machine r (ticker_of notified machine)) from
+      ∙ ap (λ s. may_tick s reply (ticker_in machine.runner notified s)) is
+      ∙ may

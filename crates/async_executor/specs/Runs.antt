@@ -1,6 +1,8 @@
 -- What a run asks for, and what answers it.
 pub mod Decisions
+pub mod Rows
 pub mod Steps
+pub mod Table
 pub mod Tickers
 pub mod Turns
 use Rattle.std.specs.Prelude.{◌≡◌, ℕ, Bool, true, false, cond, List, [], Option, Some, None}

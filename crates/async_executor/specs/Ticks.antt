@@ -1,7 +1,9 @@
 -- What a tick asks for, and what answers it.
 pub mod Courses
 pub mod Decisions
+pub mod Rows
 pub mod Steps
+pub mod Table
 pub mod Tickers
 use Rattle.std.specs.Prelude.{◌≡◌, ℕ, Bool, true, false, Option, Some, None}
 use Rattle.async_executor.specs.declared.machine.tick.State.{State}

@@ -1,6 +1,6 @@
 -- Which steps of a run a reply stands for.
-use Rattle.std.specs.Prelude.{ℕ, ◌+◌, nat_lt, cond, Some, None}
-use Rattle.executor_core.specs.World.Tickers.{is_awake, polled, ended, left}
+use Rattle.std.specs.Prelude.{ℕ, ◌+◌, nat_lt, Bool, true, cond, Some, None}
+use Rattle.executor_core.specs.World.Tickers.{at_rest, in_leaving, is_awake, polled, ended, left}
 use Rattle.executor_core.specs.declared.interleave.ticker.Ticker.{Ticker}
 use Rattle.async_executor.specs.Runs.Decisions.{turn}
 use Rattle.async_executor.specs.Ticks.Courses.{Seeking, Departing, ends}
@@ -50,3 +50,25 @@ module _ {W : Type 0} where
   leads machine (Unregistered (Some notice)) t = left t
   leads machine (Unregistered None) t = left_awake (left t)
   leads machine Released t = ended t
+
+  -- the run is where these steps are enabled, but for who holds the sleepers' lock
+  abbrev pub may_work : tick.State → TickReply W → Ticker → Bool
+  may_work state reply t = cond (ends Seeking reply) (at_rest t.phase) (ticks.may_lead state reply t)
+
+  abbrev pub may_tick : State → TickReply W → Ticker → Bool
+  may_tick (Ticking Work machine) reply t = may_work machine.state reply t
+  may_tick (Ticking (PassOn number) machine) reply t = in_leaving t.phase
+  may_tick (Ticking Leave machine) reply t = ticks.may_lead machine.state reply t
+  may_tick _ reply t = true
+
+  abbrev pub may_lead : RunMachine → RunReply W → Ticker → Bool
+  may_lead machine Begin t = true
+  may_lead machine Dropped t = true
+  may_lead machine Registered t = at_rest t.phase
+  may_lead machine NotRegistered t = true
+  may_lead machine OwnPending t = at_rest t.phase
+  may_lead machine OwnReady t = true
+  may_lead machine (Tick reply) t = may_tick machine.state reply t
+  may_lead machine Moved t = at_rest t.phase
+  may_lead machine (Unregistered notice) t = at_rest t.phase
+  may_lead machine Released t = at_rest t.phase

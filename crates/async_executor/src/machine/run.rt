@@ -14,7 +14,8 @@
 ghost use Rattle.std.specs.Prelude.{◌≡◌, ◌+◌, ◌<◌, nat_lt, cond, Bool, true, false, Ok, Err, Some, None};
 ghost use Rattle.async_executor.specs.Runs.{answers, asked, asked_in, has_ended, store_asked, store_after, AskFirst, IsAsked, IsFitNext};
 ghost use Rattle.async_executor.specs.Runs.Decisions.{turn, fair, ask, run_rest, run_ended, searching, dropping, after_task, found, working, passing_on, leaving, resumed, Decides};
-ghost use Rattle.async_executor.specs.Runs.Steps.{leads};
+ghost use Rattle.async_executor.specs.Runs.Rows.{IsRow};
+ghost use Rattle.async_executor.specs.Runs.Steps.{leads, may_lead};
 ghost use Rattle.async_executor.specs.Runs.Tickers.{ticker_of, ticker_after, rest_ticker};
 ghost use Rattle.async_executor.specs.Runs.Turns.{TurnGoesOn};
 ghost use Rattle.async_executor.specs.Ticks as ticks;
@@ -383,6 +384,8 @@ impl RunMachine {
         ensures asked { IsAsked result }
         ensures store { store_asked result ≡ store_after reply }
         ensures ticker { (notified : Bool) → ticker_after result ≡ leads self reply (ticker_of notified self) }
+        ensures enabled { (notified : Bool) → may_lead self reply (ticker_of notified self) ≡ true }
+        ensures table { IsRow self reply result }
         ensures turn { self.runner.count < 200 → TurnGoesOn self result }
     {
         let RunMachine { runner, state } = self;

@@ -17,8 +17,9 @@ ghost use Rattle.std.specs.Prelude.{◌≡◌, ℕ, Bool, true, false, Option, S
 ghost use Rattle.async_executor.specs.Ticks.{answers, asked, asked_in, store_asked, store_after, AskRun, AskStart, IsAsked};
 ghost use Rattle.async_executor.specs.Ticks.Courses.{course, course_in, KeepsCourse};
 ghost use Rattle.async_executor.specs.Ticks.Decisions.{act, leave_by, rest, returned, run_or_return, found_next, sleep_next, after_removal, Decides, DecidesIn};
+ghost use Rattle.async_executor.specs.Ticks.Rows.{IsRow, IsRowIn};
 ghost use Rattle.async_executor.specs.Ticks.Tickers.{ticker_of, ticker_in, ticker_after, rest_ticker};
-ghost use Rattle.async_executor.specs.Ticks.Steps.{leads};
+ghost use Rattle.async_executor.specs.Ticks.Steps.{leads, may_lead};
 
 use crate::machine::steps;
 use crate::machine::steps::{Announcing, Departing, GoingToSleep, Rested, Yielding, joined};
@@ -372,6 +373,8 @@ impl TickMachine {
         ensures asked { IsAsked result }
         ensures store { store_asked result ≡ store_after reply }
         ensures ticker { (runner : Option ℕ) (notified : Bool) → ticker_after runner result ≡ leads self.state reply (ticker_of runner notified self) }
+        ensures enabled { (runner : Option ℕ) (notified : Bool) → may_lead self.state reply (ticker_of runner notified self) ≡ true }
+        ensures table { IsRow self reply result }
         ensures course { KeepsCourse (course self) reply result }
     {
         let TickMachine { state } = self;
@@ -437,6 +440,8 @@ fn leave<W>(state: LeavingState, reply: TickReply<W>) -> TickNext<W>
     ensures asked { IsAsked result }
     ensures store { store_asked result ≡ store_after reply }
     ensures ticker { (runner : Option ℕ) (notified : Bool) → ticker_after runner result ≡ leads (State.Leaving state) reply (ticker_in runner notified (State.Leaving state)) }
+    ensures enabled { (runner : Option ℕ) (notified : Bool) → may_lead (State.Leaving state) reply (ticker_in runner notified (State.Leaving state)) ≡ true }
+    ensures table { IsRowIn (State.Leaving state) reply result }
     ensures course { KeepsCourse (course_in (State.Leaving state)) reply result }
 {
     match state {
