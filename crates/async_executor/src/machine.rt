@@ -10,6 +10,7 @@
 //! that owes its queue a fair part has no task to run before it took that. The machine of a tick
 //! decides by the same steps, and that of a run counts by the same calls on its `Runner`.
 
+mod count;
 mod run;
 mod run_steps;
 mod steps;

@@ -64,6 +64,7 @@ impl<H: Home> ExecutorIn<H> {
             return false;
         };
         drop(cells);
+        // Before the task is run, which may take long: somebody else may go on with the queue.
         announce!(state, notice);
         self.run_task(taken);
         true
@@ -87,6 +88,7 @@ impl<H: Home> ExecutorIn<H> {
         let Ok(ring) = Ring::new(state.alloc(), LOCAL_PLACES) else {
             return Err(RunError::OutOfMemory(future));
         };
+        // Before the runner's place: no number is given twice, so one that is refused later is lost.
         if state.reserve_sleeper().is_err() {
             return Err(RunError::OutOfMemory(future));
         }
@@ -152,6 +154,7 @@ impl<H: Home> ExecutorIn<H> {
             LeftOver::ToDrop(held) => self.drop_pending(id, held),
             LeftOver::Refused(held) => self.end_pending(id, held),
             LeftOver::Woken(held, notice) => {
+                // Its task is held until the next line, and whoever is notified searches for others.
                 announce!(self.home.state(), notice);
                 self.end_pending(id, held);
             }

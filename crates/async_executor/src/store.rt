@@ -278,6 +278,8 @@ impl<F: Drop, W: Wake, R: Wait + Clone + Drop, T: Drop> Store<F, Arc<State<W, R>
                 }
             }
             Ran::Ready(held, output) => {
+                // The table says whether a handle wants the output. Nobody else sees it before both
+                // agree: the store is locked.
                 let EndReady { awaiter, unwanted } = cells.end_ready(held, ());
                 let unwanted = match unwanted {
                     Some(()) => Some(output),

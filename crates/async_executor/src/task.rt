@@ -123,6 +123,7 @@ impl<H: Home> Drop for TaskIn<H> {
             return;
         }
         let (notice, _, awaiter) = cells.drop_handle(id);
+        // With the lock given up: a sleeper that is woken, or the awaiter's drop, may use the executor.
         drop(cells);
         if let Some(notice) = notice {
             announce!(state, notice);

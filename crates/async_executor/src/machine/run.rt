@@ -21,7 +21,8 @@ ghost use Rattle.async_executor.specs.Runs.Turns.{TurnGoesOn};
 ghost use Rattle.async_executor.specs.Ticks as ticks;
 ghost use Rattle.async_executor.specs.declared.machine.tick.LeavingState.TheVariants as LeavingState;
 
-use crate::limits::{FAIR, TURN};
+use crate::limits::FAIR;
+use crate::machine::count::{Count, count_up};
 use crate::machine::run_steps;
 use crate::machine::run_steps::{Begun, Dropped};
 use crate::machine::tick::{TickAction, TickEnd, TickMachine, TickNext, TickReply, TickRest};
@@ -46,27 +47,15 @@ pub struct RunRest {
 #[derive(Debug, Clone, Copy, PartialEq, Eq)]
 pub(crate) struct Runner {
     key: RunnerKey,
-    count: u32,
+    count: Count,
     found: u32,
-}
-
-// One more than so many, or none if that is the limit: then it is counted anew.
-#[inline(always)]
-fn count_up(count: u32, limit: u32) -> Option<u32>
-    requires { 0 < limit }
-    ensures { result ≡ cond (nat_lt (count + 1) limit) (Some (count + 1)) None }
-{
-    if count >= limit - 1 {
-        return None;
-    }
-    Some(count + 1)
 }
 
 impl Runner {
     /// Its key.
     #[inline(always)]
-    pub(in crate::machine) fn key(self) -> RunnerKey
-        ensures { result ≡ self.key }
+    pub(in crate::machine) fn key(&self) -> RunnerKey
+        ensures { result ≡ self.now.key }
     {
         self.key
     }
@@ -77,9 +66,14 @@ impl Runner {
     pub(in crate::machine) fn ran(self) -> Result<Runner, Runner>
         ensures { result ≡ cond (nat_lt (self.count + 1) turn) (Ok (record self { count = self.count + 1 })) (Err (record self { count = 0 })) }
     {
-        match count_up(self.count, TURN) {
-            Some(count) => Ok(Runner { count, ..self }),
-            None => Err(Runner { count: 0, ..self }),
+        let Runner { key, count, found } = self;
+        match count.more() {
+            Some(count) => Ok(Runner { key, count, found }),
+            None => Err(Runner {
+                key,
+                count: Count::zero(),
+                found,
+            }),
         }
     }
 
@@ -88,9 +82,17 @@ impl Runner {
     pub(in crate::machine) fn found(self) -> (Runner, bool)
         ensures { result ≡ cond (nat_lt (self.found + 1) fair) (record self { found = self.found + 1 }, false) (record self { found = 0 }, true) }
     {
-        match count_up(self.found, FAIR) {
-            Some(found) => (Runner { found, ..self }, false),
-            None => (Runner { found: 0, ..self }, true),
+        let Runner { key, count, found } = self;
+        match count_up(found, FAIR) {
+            Some(found) => (Runner { key, count, found }, false),
+            None => (
+                Runner {
+                    key,
+                    count,
+                    found: 0,
+                },
+                true,
+            ),
         }
     }
 }
@@ -106,15 +108,15 @@ enum Stage {
 
 impl RunRest {
     /// Whether the run has ended or was dropped. Nothing is left for it to do then.
-    pub fn is_ended(self) -> bool
-        ensures { result ≡ has_ended self }
+    pub fn is_ended(&self) -> bool
+        ensures { result ≡ has_ended self.now }
     {
         matches!(self.stage, Ended)
     }
 
     /// The key of its runner.
-    pub fn key(self) -> RunnerKey
-        ensures { result ≡ self.runner.key }
+    pub fn key(&self) -> RunnerKey
+        ensures { result ≡ self.now.runner.key }
     {
         self.runner.key
     }
@@ -354,7 +356,7 @@ impl RunMachine {
     {
         let runner = Runner {
             key,
-            count: 0,
+            count: Count::zero(),
             found: 0,
         };
         RunRest::of_new(runner)
@@ -386,7 +388,7 @@ impl RunMachine {
         ensures ticker { (notified : Bool) → ticker_after result ≡ leads self reply (ticker_of notified self) }
         ensures enabled { (notified : Bool) → may_lead self reply (ticker_of notified self) ≡ true }
         ensures table { IsRow self reply result }
-        ensures turn { self.runner.count < 200 → TurnGoesOn self result }
+        ensures turn { TurnGoesOn self result }
     {
         let RunMachine { runner, state } = self;
         match state {

@@ -132,6 +132,7 @@ impl<'x, 'y, H: Home, G: Drop> Driver<'x, 'y, H, G> {
             let ran = poll_taken::<H>(taken, &mut self.out);
             let searching = match under_way.ran() {
                 Ok(searching) => searching,
+                // The task is ended, and none is taken that would wait until the next poll.
                 Err(yielding) => {
                     self.executor.end(id, ran, &mut self.out);
                     return Err(yielding);
@@ -219,6 +220,7 @@ fn work<H: Home, G: Drop>(
             }
         };
         match sleep(state, going, w) {
+            // A task that was queued before the waker stood in the list woke nobody for it.
             Slept::Again(next, change) => {
                 searching = next;
                 again = Some(change);
@@ -260,6 +262,7 @@ fn end<H: Home>(executor: &ExecutorIn<H>, unregistering: Unregistering) -> RunRe
     if let Some(notice) = notice {
         announce!(state, notice);
     }
+    // After that notice, which may notify this very run: what it was notified of goes on to another.
     leave(state, &departing);
     state.release_sleeper();
     departing.departed()
@@ -275,6 +278,7 @@ fn poll_once<H: Home, G: Future<H::Waker>>(
     requires { has_ended rest ≡ false }
     ensures { has_ended result.0 ≡ is_ready result.1 }
 {
+    let key = rest.key();
     let polling = match rest.begin() {
         Begun::PollOwn(polling) => polling,
         Begun::Register(registering) => match register(executor, own, registering) {
@@ -286,9 +290,7 @@ fn poll_once<H: Home, G: Future<H::Waker>>(
         OwnPolled::Ready(output, unregistering) => {
             (end(executor, unregistering), Poll::Ready(output))
         }
-        OwnPolled::Pending(searching) => {
-            (work(executor, rest.key(), own, searching, w), Poll::Pending)
-        }
+        OwnPolled::Pending(searching) => { (work(executor, key, own, searching, w), Poll::Pending) }
     }
 }
 

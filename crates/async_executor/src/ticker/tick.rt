@@ -71,6 +71,8 @@ pub(crate) fn sleep<A, W: Wake, R: Wait + Clone + Drop>(
     let Ok(waker) = w.copy() else {
         return Slept::Rested(going.refused().wake(w));
     };
+    // The flag is stored under the guard under which the list was changed. Otherwise somebody might
+    // exchange it in between, and what it said of the new list would be overwritten.
     let mut guard = state.sleepers();
     let sleepers = &mut guard.sleepers;
     match going {
@@ -153,11 +155,13 @@ impl<H: Home> Future<H::Waker> for TickIn<'_, H> {
             if let Some((taken, notice)) = found {
                 let (taken, rest) = announce_found(state, searching.found(taken, notice)).run();
                 executor.run_task(taken);
+                // The place goes back last: while the tick is among the sleepers it needs it.
                 self.rest = rest;
                 state.release_sleeper();
                 return Poll::Ready(());
             }
             match sleep(state, searching.empty(), w) {
+                // A task that was queued before the waker stood in the list woke nobody for it.
                 Slept::Again(next, change) => {
                     searching = next;
                     again = Some(change);

@@ -1,4 +1,5 @@
-use Rattle.std.proofs.Common.{◌+◌, subst, sym, ap, ◌∙◌}
+use Rattle.std.proofs.Common.{◌+◌, ◌<◌, subst, sym, ap, ◌∙◌, rules}
+use Rattle.async_executor.specs.Runs.Decisions.{turn}
 use Rattle.async_executor.specs.Runs.Tickers.{ticker_after}
 use Rattle.async_executor.specs.Runs.Turns.{TurnFrom, under_way_in}
 use Rattle.async_executor.specs.declared.machine.run.State.TheVariants.{Ticking}
@@ -20,7 +21,8 @@ returns-in-Tick-clause-ticker g c notified =
     (ap ticker_after c.resume.ensures.decided ∙ resumed_seen c.args.self.runner c.in-Ticking.aim c.in-Ticking.tick c.in-Tick.reply c.next.result gate.0 gate.1 c.next.ensures.asked c.next.ensures.course c.next.ensures.ticker notified)
 
 pub returns-in-Tick-clause-turn : goal.returns-in-Tick-clause-turn
-returns-in-Tick-clause-turn g c within =
+returns-in-Tick-clause-turn g c =
+    let within : c.args.self.runner.count < turn = search rules in
     let gate = ticking_gate c.args.self.state c.in-Ticking.aim c.in-Ticking.tick c.args.reply c.in-Tick.reply c.in-Ticking.is c.in-Tick.is c.requires in
     subst (λ s. TurnFrom (c.args.self.runner.count + under_way_in s) c.resume.result) (sym c.in-Ticking.is)
     (subst (TurnFrom (c.args.self.runner.count + under_way_in (Ticking c.in-Ticking.aim c.in-Ticking.tick))) (sym c.resume.ensures.decided)
