@@ -154,7 +154,7 @@ impl<H: Home> ExecutorIn<H> {
             LeftOver::ToDrop(held) => self.drop_pending(id, held),
             LeftOver::Refused(held) => self.end_pending(id, held),
             LeftOver::Woken(held, notice) => {
-                // Its task is held until the next line, and whoever is notified searches for others.
+                // A held task gives none. What the type says may be there is spent all the same.
                 announce!(self.home.state(), notice);
                 self.end_pending(id, held);
             }

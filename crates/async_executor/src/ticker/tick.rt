@@ -155,7 +155,6 @@ impl<H: Home> Future<H::Waker> for TickIn<'_, H> {
             if let Some((taken, notice)) = found {
                 let (taken, rest) = announce_found(state, searching.found(taken, notice)).run();
                 executor.run_task(taken);
-                // The place goes back last: while the tick is among the sleepers it needs it.
                 self.rest = rest;
                 state.release_sleeper();
                 return Poll::Ready(());
