@@ -262,15 +262,18 @@ impl<F: Drop, W: Wake, R: Wait + Clone + Drop, T: Drop> Store<F, Arc<State<W, R>
     {
         match ran {
             Ran::Pending(held, ()) => {
-                let (is_kept, wake) = self.put_back(id, out);
-                // Before the task is ended: one that was woken meanwhile is queued again by its end.
-                if let Some(wake) = wake {
-                    if let Some(notice) = wake.make(cells) {
-                        return Err(LeftOver::Woken(held, notice));
+                // The wake comes before the end, which queues the task again if it was woken meanwhile.
+                let wake = match self.put_back(id, out) {
+                    Ok(wake) => wake,
+                    Err(wake) => {
+                        return Err(match wake.make(id, cells) {
+                            Some(notice) => LeftOver::Woken(held, notice),
+                            None => LeftOver::Refused(held),
+                        });
                     }
-                }
-                if !is_kept {
-                    return Err(LeftOver::Refused(held));
+                };
+                if let Some(notice) = wake.make(id, cells) {
+                    return Err(LeftOver::Woken(held, notice));
                 }
                 match cells.end_pending(held, ()) {
                     EndPending::Back(notice) => Ok(notice),
@@ -291,19 +294,19 @@ impl<F: Drop, W: Wake, R: Wait + Clone + Drop, T: Drop> Store<F, Arc<State<W, R>
         }
     }
 
-    // Puts a future that was out back, and says whether it has its place. The wake of the waker that
-    // it was lent comes out.
+    // Puts a future that was out back. An error says that it has no place, and is still out. The wake
+    // of the waker that it was lent comes out in both cases.
     #[inline(always)]
-    fn put_back(&mut self, id: TaskId, out: &mut Out<F, W, R>) -> (bool, Option<LentWake>) {
+    fn put_back(&mut self, id: TaskId, out: &mut Out<F, W, R>) -> Result<LentWake, LentWake> {
         let Some((future, waker)) = out.take() else {
-            return (true, None);
+            return Ok(LentWake::none());
         };
         let (state, wake) = waker.into_parts();
         match self.keep_future(id, future, state) {
-            None => (true, Some(wake)),
+            None => Ok(wake),
             Some((future, state)) => {
                 *out = Some((future, TaskWaker::lent(state, id)));
-                (false, Some(wake))
+                Err(wake)
             }
         }
     }

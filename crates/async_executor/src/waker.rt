@@ -42,32 +42,38 @@ impl<W: Wake, R: Wait + Clone + Drop> TaskWaker<W, R> {
     /// lent.
     pub(crate) fn into_parts(self) -> (Arc<State<W, R>>, LentWake)
         ensures state { result.0 ≡ self.state }
-        ensures id { result.1.id ≡ self.id }
         ensures copy { is_some self.mark ≡ false → result.1.is_woken ≡ false }
     {
-        let TaskWaker { state, id, mark } = self;
+        let TaskWaker { state, id: _, mark } = self;
         let is_woken = match mark {
             Some(mark) => mark.into_inner(),
             None => false,
         };
-        (state, LentWake { id, is_woken })
+        (state, LentWake { is_woken })
     }
 }
 
 /// Whether the waker that a poll was lent was woken: then its task is still to be woken. It can be
 /// neither copied nor dropped.
 pub(crate) struct LentWake {
-    id: TaskId,
     is_woken: bool,
 }
 
 impl LentWake {
-    /// Wakes the task, if the waker was woken.
+    /// That of a poll that was lent no waker.
     #[inline(always)]
-    pub(crate) fn make<W>(self, cells: &mut Cells<(), (), W>) -> Option<Notice>
-        ensures { cells.new ≡ cond self.is_woken (after_wake cells.old self.id) cells.old }
+    pub(crate) fn none() -> LentWake
+        ensures { result.is_woken ≡ false }
     {
-        let LentWake { id, is_woken } = self;
+        LentWake { is_woken: false }
+    }
+
+    /// Wakes the task of this id, which is that of the poll, if the waker was woken.
+    #[inline(always)]
+    pub(crate) fn make<W>(self, id: TaskId, cells: &mut Cells<(), (), W>) -> Option<Notice>
+        ensures { cells.new ≡ cond self.is_woken (after_wake cells.old id) cells.old }
+    {
+        let LentWake { is_woken } = self;
         if is_woken {
             return cells.wake(id);
         }
