@@ -44,18 +44,19 @@ impl<W: Wake, R: Wait + Clone + Drop> Future<TaskWaker<W, R>> for Yields {
     }
 }
 
+/// Where tasks leave their wakers.
+pub type LeftWakers<W, R> = Arc<Mutex<Vec<TaskWaker<W, R>>>>;
+
 /// Leaves a copy of its waker where others find it, once, and is never ready.
 #[derive(Drop)]
 pub struct LeavesWaker<W, R> {
-    place: Arc<Mutex<Option<TaskWaker<W, R>>>>,
+    place: LeftWakers<W, R>,
     is_left: bool,
 }
 
 impl<W: Wake, R: Wait + Clone + Drop> LeavesWaker<W, R> {
     /// The waker is left here.
-    pub fn at(
-        place: &Arc<Mutex<Option<TaskWaker<W, R>>>>,
-    ) -> Result<LeavesWaker<W, R>, AllocError> {
+    pub fn at(place: &LeftWakers<W, R>) -> Result<LeavesWaker<W, R>, AllocError> {
         Ok(LeavesWaker {
             place: Arc::try_clone(place)?,
             is_left: false,
@@ -70,11 +71,9 @@ impl<W: Wake, R: Wait + Clone + Drop> Future<TaskWaker<W, R>> for LeavesWaker<W,
         if self.is_left {
             return Poll::Pending;
         }
-        let before = match (w.copy(), self.place.try_lock()) {
-            (Ok(copy), Some(mut place)) => place.replace(copy),
-            _ => None,
-        };
-        drop(before);
+        if let (Ok(copy), Some(mut place)) = (w.copy(), self.place.try_lock()) {
+            let _ = place.push(copy);
+        }
         self.is_left = true;
         Poll::Pending
     }

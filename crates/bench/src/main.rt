@@ -2,26 +2,32 @@
 //!
 //! `bench NAME N R` runs the row NAME with N operations, R times over, and prints the name, N, and
 //! the seconds and the nanoseconds an operation of the fastest run. R is 5 where it is left out;
-//! unless it is 1, one run more goes before, to warm up. `bench list` prints the names. Without
-//! arguments each row is run once at a small N, and the number of its operations that did what they
-//! were to do is printed.
+//! unless it is 1, one run more goes before, to warm up. The time is that of the whole row, unless
+//! the row prepares more than an executor: that is left out then. `bench list` prints the names.
+//! Without arguments each row is run once at a small N, with few idle tasks, and the number of its
+//! operations that did what they were to do is printed.
 #![tactic(auto)]
 
+pub mod awaiting;
 pub mod futures;
+pub mod parking;
 pub mod rows;
 pub mod running;
 pub mod searching;
+pub mod sleeping;
 pub mod threads;
 pub mod ticking;
+pub mod timing;
+pub mod waking;
 
-use rows::Row;
+use rows::{ROWS, Row};
 use std::alloc::Global;
 use std::io;
 use std::process::ExitCode;
 use std::rt::Clock;
 use std::sync::Wait;
 use std::thread::Threads;
-use std::time::{Duration, Instant};
+use std::time::Duration;
 
 const SMALL: u64 = 10;
 
@@ -36,8 +42,8 @@ fn main(rt: HostRuntime) -> io::Result<ExitCode> {
         return print_counts(&rt, alloc);
     };
     if name.as_str() == "list" {
-        for row in Row::ALL {
-            println!(rt; "{}", row.name())?;
+        for (name, _) in ROWS {
+            println!(rt; "{name}")?;
         }
         return Ok(ExitCode::SUCCESS);
     }
@@ -47,9 +53,9 @@ fn main(rt: HostRuntime) -> io::Result<ExitCode> {
         println!(rt; "no row {name}")?;
         return Ok(ExitCode::FAILURE);
     };
-    match fastest(&rt, alloc, row, operations, runs)? {
-        Some(time) => print_time(&rt, row, operations, time)?,
-        None => return refused(&rt, row),
+    match fastest(&rt, alloc, row, operations, runs) {
+        Some(time) => print_time(&rt, name.as_str(), operations, time)?,
+        None => return refused(&rt, name.as_str()),
     }
     Ok(ExitCode::SUCCESS)
 }
@@ -61,33 +67,32 @@ fn number_or(argument: Option<String>, default: u64) -> u64 {
     }
 }
 
-fn refused(rt: &impl Print, row: Row) -> io::Result<ExitCode> {
-    println!(rt; "{} refused", row.name())?;
+fn refused(rt: &impl Print, name: &str) -> io::Result<ExitCode> {
+    println!(rt; "{name} refused")?;
     Ok(ExitCode::FAILURE)
 }
 
-fn print_counts<R: Wait + Clone + Drop + Send + Sync + Threads + Print>(
+fn print_counts<R: Wait + Clone + Drop + Send + Sync + Threads + Clock + Print>(
     rt: &R,
     alloc: Global,
 ) -> io::Result<ExitCode> {
-    for row in Row::ALL {
-        let Some(count) = row.run(rt, alloc, SMALL) else {
-            return refused(rt, row);
+    for (name, row) in ROWS {
+        let Some(ran) = row.small().run(rt, alloc, SMALL) else {
+            return refused(rt, name);
         };
-        println!(rt; "{} {SMALL} {count}", row.name())?;
+        println!(rt; "{name} {SMALL} {}", ran.count)?;
     }
     Ok(ExitCode::SUCCESS)
 }
 
-fn print_time(rt: &impl Print, row: Row, operations: u64, time: Duration) -> io::Result<()> {
+fn print_time(rt: &impl Print, name: &str, operations: u64, time: Duration) -> io::Result<()> {
     let nanos = time.as_nanos();
     let tenths = nanos
         .saturating_mul(10)
         .checked_div(u128::from(operations))
         .unwrap_or(0);
     println!(rt;
-        "{} {operations} {}.{:09} {}.{}",
-        row.name(),
+        "{name} {operations} {}.{:09} {}.{}",
         nanos / NANOS,
         nanos % NANOS,
         tenths / 10,
@@ -95,28 +100,24 @@ fn print_time(rt: &impl Print, row: Row, operations: u64, time: Duration) -> io:
     )
 }
 
-// The shortest time of the runs, or `None` where memory was refused.
+// The shortest time of the runs, or `None` where one was refused.
 fn fastest<R: Wait + Clone + Drop + Send + Sync + Threads + Clock>(
     rt: &R,
     alloc: Global,
     row: Row,
     operations: u64,
     runs: u64,
-) -> io::Result<Option<Duration>> {
-    let mut best: Option<Duration> = None;
-    if runs != 1 && row.run(rt, alloc, operations).is_none() {
-        return Ok(None);
+) -> Option<Duration> {
+    if runs != 1 {
+        row.run(rt, alloc, operations)?;
     }
+    let mut best: Option<Duration> = None;
     for _ in 0..runs {
-        let start = Instant::now(rt)?;
-        if row.run(rt, alloc, operations).is_none() {
-            return Ok(None);
-        }
-        let time = start.elapsed(rt)?;
+        let time = row.run(rt, alloc, operations)?.time;
         best = match best {
             Some(before) if before < time => Some(before),
             _ => Some(time),
         };
     }
-    Ok(best)
+    best
 }

@@ -1,13 +1,20 @@
 //! What is measured.
-use crate::futures::{IdleWaker, Large, LeavesWaker, Yields};
+use crate::awaiting::{spawn_all_await_run, spawn_await_run};
+use crate::futures::{IdleWaker, Large, Yields};
+use crate::parking::{one_spawner, parked_yield, wake_latency};
 use crate::running::{ping_pong, run_yields, threads_spawn, threads_yield};
 use crate::searching::{search_empty, search_own, search_steal};
+use crate::sleeping::{idle_run, yield_beside_runs};
 use crate::threads::threads_try_tick;
 use crate::ticking::{sleep_wake, spawn_tick, yield_tick};
-use async_executor::{Executor, Future, Poll, TaskWaker, Wake};
+use crate::timing::Ran;
+use crate::waking::{wake_idle, wake_one_of};
+use async_executor::{Executor, Future, Poll, TaskWaker};
 use std::alloc::Global;
-use std::sync::{Arc, Mutex, Wait};
+use std::rt::Clock;
+use std::sync::Wait;
 use std::thread::Threads;
+use std::time::Instant;
 
 /// One kind of measured operation.
 #[derive(Debug, Clone, Copy, PartialEq, Eq)]
@@ -28,6 +35,8 @@ pub enum Row {
     PollHandlePending,
     /// Wake an idle task, and run it.
     WakeIdle,
+    /// Wake one of so many idle tasks, at random, and run it.
+    WakeOneOf(usize),
     /// Spawn, detach and run a task, by a tick of its own.
     SpawnTick,
     /// Run one task that wakes itself, by a tick for each of its polls.
@@ -36,10 +45,16 @@ pub enum Row {
     SleepWake,
     /// Run one task that wakes itself, by a run.
     YieldRun,
-    /// Run 1,000 tasks that wake themselves, by a run.
-    ManyYield,
+    /// The same, while so many other runs sleep.
+    YieldBesideRuns(usize),
     /// Run two tasks that wake each other, by a run.
     PingPong,
+    /// Poll a run that finds nothing, while so many other runs sleep.
+    IdleRun(usize),
+    /// Spawn a task, which a run's own future awaits, one after another.
+    SpawnAwaitRun,
+    /// Spawn all tasks, then await them in the own future of a run.
+    SpawnAllAwaitRun,
     /// Search as a runner whose own queue has tasks.
     SearchOwn,
     /// Search as a runner that steals 300 tasks of another by halves.
@@ -50,105 +65,111 @@ pub enum Row {
     SpawnTryTick4k,
     /// The same, with the future in a box.
     SpawnTryTick4kBoxed,
-    /// Run 1,000 tasks that wake themselves, on one thread.
-    ThreadsTryTick1,
-    /// The same on two threads.
-    ThreadsTryTick2,
-    /// The same on four threads.
-    ThreadsTryTick4,
-    /// Run 1,000 tasks that wake themselves, by a run on one thread.
-    ThreadsYield1,
-    /// The same by a run on each of two threads.
-    ThreadsYield2,
-    /// The same by a run on each of four threads.
-    ThreadsYield4,
-    /// Spawn tasks, and run them by a run, on one thread.
-    ThreadsSpawn1,
-    /// The same on each of two threads.
-    ThreadsSpawn2,
-    /// The same on each of four threads.
-    ThreadsSpawn4,
+    /// Run 1,000 tasks that wake themselves, on so many threads.
+    ThreadsTryTick(u32),
+    /// The same by a run on each of so many threads, which never park.
+    ThreadsYield(u32),
+    /// Spawn tasks, and run them by a run, on each of so many threads.
+    ThreadsSpawn(u32),
+    /// Run 10,000 tasks that wake themselves, by a run on each of so many threads, which park.
+    ParkedYield(usize),
+    /// Spawn tasks on one thread, and run them by a run on each of so many others, which park.
+    OneSpawner(usize),
+    /// From a spawn to the poll of its task by a run on another thread, which was parked.
+    WakeLatency,
 }
 
+/// Each row, with its name on the command line.
+pub const ROWS: [(&str, Row); 44] = [
+    ("spawn_try_tick", Row::SpawnTryTick),
+    ("spawn_drain", Row::SpawnDrain),
+    ("yield_try_tick", Row::YieldTryTick),
+    ("empty_try_tick", Row::EmptyTryTick),
+    ("spawn_drop", Row::SpawnDrop),
+    ("spawn_cancel", Row::SpawnCancel),
+    ("poll_handle_pending", Row::PollHandlePending),
+    ("wake_idle", Row::WakeIdle),
+    ("idle_thousand", Row::WakeOneOf(1_000)),
+    ("idle_million", Row::WakeOneOf(1_000_000)),
+    ("spawn_tick", Row::SpawnTick),
+    ("yield_tick", Row::YieldTick),
+    ("sleep_wake", Row::SleepWake),
+    ("yield_run", Row::YieldRun),
+    ("yield_beside_15_runs", Row::YieldBesideRuns(15)),
+    ("many_yield", Row::ThreadsYield(1)),
+    ("ping_pong", Row::PingPong),
+    ("idle_run_0", Row::IdleRun(0)),
+    ("idle_run_1", Row::IdleRun(1)),
+    ("idle_run_3", Row::IdleRun(3)),
+    ("idle_run_15", Row::IdleRun(15)),
+    ("spawn_await_run", Row::SpawnAwaitRun),
+    ("spawn_all_await_run", Row::SpawnAllAwaitRun),
+    ("search_own", Row::SearchOwn),
+    ("search_steal", Row::SearchSteal),
+    ("search_empty_4", Row::SearchEmpty4),
+    ("spawn_try_tick_4k", Row::SpawnTryTick4k),
+    ("spawn_try_tick_4k_boxed", Row::SpawnTryTick4kBoxed),
+    ("threads_try_tick_1", Row::ThreadsTryTick(1)),
+    ("threads_try_tick_2", Row::ThreadsTryTick(2)),
+    ("threads_try_tick_4", Row::ThreadsTryTick(4)),
+    ("threads_yield_1", Row::ThreadsYield(1)),
+    ("threads_yield_2", Row::ThreadsYield(2)),
+    ("threads_yield_4", Row::ThreadsYield(4)),
+    ("threads_spawn_1", Row::ThreadsSpawn(1)),
+    ("threads_spawn_2", Row::ThreadsSpawn(2)),
+    ("threads_spawn_4", Row::ThreadsSpawn(4)),
+    ("parked_yield_1", Row::ParkedYield(1)),
+    ("parked_yield_2", Row::ParkedYield(2)),
+    ("parked_yield_4", Row::ParkedYield(4)),
+    ("one_spawner_1", Row::OneSpawner(1)),
+    ("one_spawner_3", Row::OneSpawner(3)),
+    ("one_spawner_4", Row::OneSpawner(4)),
+    ("wake_latency", Row::WakeLatency),
+];
+
 impl Row {
-    pub const ALL: [Row; 28] = [
-        Row::SpawnTryTick,
-        Row::SpawnDrain,
-        Row::YieldTryTick,
-        Row::EmptyTryTick,
-        Row::SpawnDrop,
-        Row::SpawnCancel,
-        Row::PollHandlePending,
-        Row::WakeIdle,
-        Row::SpawnTick,
-        Row::YieldTick,
-        Row::SleepWake,
-        Row::YieldRun,
-        Row::ManyYield,
-        Row::PingPong,
-        Row::SearchOwn,
-        Row::SearchSteal,
-        Row::SearchEmpty4,
-        Row::SpawnTryTick4k,
-        Row::SpawnTryTick4kBoxed,
-        Row::ThreadsTryTick1,
-        Row::ThreadsTryTick2,
-        Row::ThreadsTryTick4,
-        Row::ThreadsYield1,
-        Row::ThreadsYield2,
-        Row::ThreadsYield4,
-        Row::ThreadsSpawn1,
-        Row::ThreadsSpawn2,
-        Row::ThreadsSpawn4,
-    ];
-
-    /// The name on the command line.
-    pub fn name(self) -> &'static str {
-        match self {
-            Row::SpawnTryTick => "spawn_try_tick",
-            Row::SpawnDrain => "spawn_drain",
-            Row::YieldTryTick => "yield_try_tick",
-            Row::EmptyTryTick => "empty_try_tick",
-            Row::SpawnDrop => "spawn_drop",
-            Row::SpawnCancel => "spawn_cancel",
-            Row::PollHandlePending => "poll_handle_pending",
-            Row::WakeIdle => "wake_idle",
-            Row::SpawnTick => "spawn_tick",
-            Row::YieldTick => "yield_tick",
-            Row::SleepWake => "sleep_wake",
-            Row::YieldRun => "yield_run",
-            Row::ManyYield => "many_yield",
-            Row::PingPong => "ping_pong",
-            Row::SearchOwn => "search_own",
-            Row::SearchSteal => "search_steal",
-            Row::SearchEmpty4 => "search_empty_4",
-            Row::SpawnTryTick4k => "spawn_try_tick_4k",
-            Row::SpawnTryTick4kBoxed => "spawn_try_tick_4k_boxed",
-            Row::ThreadsTryTick1 => "threads_try_tick_1",
-            Row::ThreadsTryTick2 => "threads_try_tick_2",
-            Row::ThreadsTryTick4 => "threads_try_tick_4",
-            Row::ThreadsYield1 => "threads_yield_1",
-            Row::ThreadsYield2 => "threads_yield_2",
-            Row::ThreadsYield4 => "threads_yield_4",
-            Row::ThreadsSpawn1 => "threads_spawn_1",
-            Row::ThreadsSpawn2 => "threads_spawn_2",
-            Row::ThreadsSpawn4 => "threads_spawn_4",
-        }
-    }
-
     /// The row of this name.
     pub fn from_name(name: &str) -> Option<Row> {
-        for row in Row::ALL {
-            if row.name() == name {
+        for (known, row) in ROWS {
+            if known == name {
                 return Some(row);
             }
         }
         None
     }
 
-    /// Runs this many operations on a new executor, and counts those that did what they were to do.
-    /// `None` where memory was refused.
-    pub fn run<R: Wait + Clone + Drop + Send + Sync + Threads>(
+    /// The same, with no more than 1,000 idle tasks, so that it soon ends.
+    pub fn small(self) -> Row {
+        match self {
+            Row::WakeOneOf(_) => Row::WakeOneOf(1_000),
+            row => row,
+        }
+    }
+
+    /// Runs this many operations on a new executor. `None` where memory, a thread or the time was
+    /// refused.
+    pub fn run<R: Wait + Clone + Drop + Send + Sync + Threads + Clock>(
+        self,
+        rt: &R,
+        alloc: Global,
+        operations: u64,
+    ) -> Option<Ran> {
+        match self {
+            Row::WakeOneOf(tasks) => wake_one_of(rt, alloc, tasks, operations),
+            Row::ParkedYield(threads) => parked_yield(rt, alloc, threads, operations),
+            Row::OneSpawner(threads) => one_spawner(rt, alloc, threads, operations),
+            Row::WakeLatency => wake_latency(rt, alloc, operations),
+            _ => {
+                let start = Instant::now(rt).ok()?;
+                let count = self.run_whole(rt, alloc, operations)?;
+                Ran::since(rt, start, count)
+            }
+        }
+    }
+
+    // The rows that are measured as a whole. Gives the number of operations that did what they were
+    // to do.
+    fn run_whole<R: Wait + Clone + Drop + Send + Sync + Threads>(
         self,
         rt: &R,
         alloc: Global,
@@ -160,21 +181,19 @@ impl Row {
             Row::YieldTick => yield_tick(rt, alloc, operations),
             Row::SleepWake => sleep_wake(rt, alloc, operations),
             Row::YieldRun => run_yields(rt, alloc, 1, 1, operations),
-            Row::ManyYield | Row::ThreadsYield1 => threads_yield(rt, alloc, 1, operations),
+            Row::YieldBesideRuns(others) => yield_beside_runs(rt, alloc, others, operations),
             Row::PingPong => ping_pong(rt, alloc, operations),
+            Row::IdleRun(others) => idle_run(rt, alloc, others, operations),
+            Row::SpawnAwaitRun => spawn_await_run(rt, alloc, operations),
+            Row::SpawnAllAwaitRun => spawn_all_await_run(rt, alloc, operations),
             Row::SearchOwn => search_own(alloc, operations),
             Row::SearchSteal => search_steal(alloc, operations),
             Row::SearchEmpty4 => search_empty(alloc, operations),
             Row::SpawnTryTick4k => spawn_large(rt, alloc, operations),
             Row::SpawnTryTick4kBoxed => spawn_boxed(rt, alloc, operations),
-            Row::ThreadsTryTick1 => threads_try_tick(rt, alloc, 1, operations),
-            Row::ThreadsTryTick2 => threads_try_tick(rt, alloc, 2, operations),
-            Row::ThreadsTryTick4 => threads_try_tick(rt, alloc, 4, operations),
-            Row::ThreadsYield2 => threads_yield(rt, alloc, 2, operations),
-            Row::ThreadsYield4 => threads_yield(rt, alloc, 4, operations),
-            Row::ThreadsSpawn1 => threads_spawn(rt, alloc, 1, operations),
-            Row::ThreadsSpawn2 => threads_spawn(rt, alloc, 2, operations),
-            Row::ThreadsSpawn4 => threads_spawn(rt, alloc, 4, operations),
+            Row::ThreadsTryTick(threads) => threads_try_tick(rt, alloc, threads, operations),
+            Row::ThreadsYield(threads) => threads_yield(rt, alloc, threads, operations),
+            Row::ThreadsSpawn(threads) => threads_spawn(rt, alloc, threads, operations),
             _ => self.run_by_ticks(rt, alloc, operations),
         }
     }
@@ -289,30 +308,6 @@ fn poll_handle_pending<R: Wait + Clone + Drop + Send + Sync>(
     let mut count = 0u64;
     for _ in 0..operations {
         if task.poll(&IdleWaker) == Poll::Pending {
-            count = count.saturating_add(1);
-        }
-    }
-    Some(count)
-}
-
-fn wake_idle<R: Wait + Clone + Drop + Send + Sync>(
-    rt: &R,
-    alloc: Global,
-    operations: u64,
-) -> Option<u64> {
-    let place = Arc::new(alloc, Mutex::new(None)).ok()?;
-    let ex: Executor<LeavesWaker<_, R>, IdleWaker, R> = Executor::new(
-        rt.clone().ok()?,
-        alloc,
-    ).ok()?;
-    ex.spawn(LeavesWaker::at(&place).ok()?).ok()?.detach();
-    ex.try_tick();
-    let left = place.lock(rt).take();
-    let waker: TaskWaker<IdleWaker, R> = left?;
-    let mut count = 0u64;
-    for _ in 0..operations {
-        waker.wake();
-        if ex.try_tick() {
             count = count.saturating_add(1);
         }
     }

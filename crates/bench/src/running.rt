@@ -24,7 +24,7 @@ impl Wake for IdleRunner {
 
 /// Is never ready.
 #[derive(Drop)]
-struct Never;
+pub struct Never;
 
 impl<W> Future<W> for Never {
     type Output = ();
@@ -34,15 +34,16 @@ impl<W> Future<W> for Never {
     }
 }
 
-// Polls a run until all tasks have ended. `None` where memory was refused.
-fn run_all<F, R>(rt: &R, ex: &Executor<F, IdleRunner, R>) -> Option<()>
+/// Polls a run with this waker until all tasks have ended. `None` where memory was refused.
+pub fn run_all<F, W, R>(rt: &R, ex: &Executor<F, W, R>, w: &W) -> Option<()>
 where
-    F: Future<TaskWaker<IdleRunner, R>, Output = u64> + Send,
+    F: Future<TaskWaker<W, R>, Output = u64> + Send,
+    W: Wake + Send,
     R: Wait + Clone + Drop + Send + Sync,
 {
     let mut run = ex.run(Never).ok()?;
     for _ in rt.forever() {
-        run.poll(&IdleRunner);
+        run.poll(w);
         if ex.is_empty() {
             break;
         }
@@ -117,7 +118,7 @@ fn spawn_and_run<R: Wait + Clone + Drop + Send + Sync>(
     for _ in 0..spawns {
         ex.spawn(Yields::READY).ok()?.detach();
     }
-    run_all(rt, ex)
+    run_all(rt, ex, &IdleRunner)
 }
 
 /// Has a run run two tasks that wake each other. Gives the number of polls.
@@ -131,6 +132,6 @@ pub fn ping_pong<R: Wait + Clone + Drop + Send + Sync>(
     let (one, two) = Rally::pair(alloc, each).ok()?;
     ex.spawn(one).ok()?.detach();
     ex.spawn(two).ok()?.detach();
-    run_all(rt, &ex)?;
+    run_all(rt, &ex, &IdleRunner)?;
     Some(each.saturating_add(1).saturating_mul(2))
 }
