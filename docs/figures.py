@@ -15,7 +15,7 @@ CHART = "docs/benchmark.svg"
 HEADS = {
     "time": ("from a fresh clone", "what it does", "time"),
     "bench": ("row", "one operation", "instructions", "the Rust crate", "nanoseconds"),
-    "threads": ("row, on T threads", "one operation", "T = 1", "2", "4", "the Rust crate on 1, 2, 4"),
+    "threads": ("row, on T threads", "one operation", "T", "nanoseconds", "the Rust crate"),
     "exsim": ("lines", "milliseconds", "million instructions", "peak memory, MB"),
 }
 CODE = {"time", "bench"}
@@ -51,35 +51,29 @@ def page(text, found):
     )
 
 
-def bar(top, value, scale, colour):
-    """One bar, with its value behind it."""
-    width = round(int(value) * scale, 1)
-    return [
-        f'<rect x="140" y="{top}" width="{width}" height="15" fill="{colour}"/>',
-        f'<text x="{140 + width + 6:g}" y="{top + 12}">{value}</text>',
-    ]
-
-
 def chart(found):
-    """The rows of the benchmark as bars, beside those of the Rust crate."""
+    """The rows of the benchmark as bars, each as a part of the same row of the Rust crate."""
     rows = [row for row in found["bench"] if row[3].isdigit()]
-    scale = 520 / max(int(n) for row in rows for n in row[2:4])
-    height = 60 + 46 * len(rows)
+    scale = 460 / max(1, *(int(ours) / int(theirs) for _, _, ours, theirs, _ in rows))
+    height = 70 + 22 * len(rows)
+    all_of_it = round(160 + scale, 1)
     lines = [
         f'<svg xmlns="http://www.w3.org/2000/svg" width="720" height="{height}" '
         'font-family="sans-serif" font-size="13">',
         "<title>Instructions an operation, beside the Rust crate: fewer is better</title>",
         f'<rect width="720" height="{height}" fill="white"/>',
-        '<rect x="140" y="14" width="15" height="15" fill="#1f5fa8"/>',
-        '<text x="161" y="26">this executor</text>',
-        '<rect x="270" y="14" width="15" height="15" fill="#b8bec6"/>',
-        '<text x="291" y="26">the Rust crate</text>',
-        '<text x="400" y="26">instructions an operation: fewer is better</text>',
+        '<text x="10" y="22">Instructions an operation, here and in the Rust crate, which the line stands '
+        "for: fewer is better</text>",
+        f'<line x1="{all_of_it:g}" y1="34" x2="{all_of_it:g}" y2="{height - 14}" stroke="#b8bec6" stroke-width="3"/>',
     ]
     for place, (name, _, ours, theirs, _) in enumerate(rows):
-        top = 48 + 46 * place
-        lines.append(f'<text x="132" y="{top + 20}" text-anchor="end">{name}</text>')
-        lines += bar(top, ours, scale, "#1f5fa8") + bar(top + 17, theirs, scale, "#b8bec6")
+        top = 42 + 22 * place
+        width = round(scale * int(ours) / int(theirs), 1)
+        lines += [
+            f'<text x="152" y="{top + 12}" text-anchor="end">{name}</text>',
+            f'<rect x="160" y="{top}" width="{width:g}" height="15" fill="#1f5fa8"/>',
+            f'<text x="{160 + width + 6:g}" y="{top + 12}">{ours} to {theirs}</text>',
+        ]
     return "\n".join(lines + ["</svg>", ""])
 
 
