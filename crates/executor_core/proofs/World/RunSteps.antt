@@ -1,16 +1,14 @@
 -- A run registers its runner, takes its fair part, or unregisters.
-use Rattle.std.proofs.Common.{◌≡◌, ◌≢◌, ℕ, zero, suc, ◌+◌, ◌≤◌, Bool, true, false, not, ◌&&◌, cond, inl, inr, List, [], ◌∷◌, ◌++◌, length, drop, Option, Some, None, is_some, refl, sym, ap, subst, ◌∙◌, arith}
-use Rattle.std.proofs.lemmas.Bool.{cases_Bool, and_parts, eq-eqb, lt-ltb, true≢false, false≢true, cond-true, cond-false}
+use Rattle.std.proofs.Common.{◌≡◌, ◌≢◌, ℕ, zero, suc, ◌+◌, ◌≤◌, Bool, true, false, not, ◌&&◌, cond, inl, inr, List, [], ◌∷◌, ◌++◌, length, drop, Option, Some, None, is_some, refl, sym, ap, ◌∙◌, arith}
+use Rattle.std.proofs.lemmas.Bool.{cases_Bool, and_parts, lt-ltb, true≢false, false≢true, cond-true, cond-false}
 use Rattle.std.proofs.lemmas.List.{append-nil}
 use Rattle.std.proofs.lemmas.List.Sorted.{length_permutation}
 use Rattle.std.specs.List.Sorted.{IsPermutation}
-use Rattle.std.specs.Prelude.{nat_lt, ◌==◌, ◌↔◌, slice_get, slice_set, slice_index_or}
-use Rattle.std.specs.FinMap as map
+use Rattle.std.specs.Prelude.{nat_lt, ◌↔◌, slice_get, slice_set, slice_index_or}
 use Rattle.std.specs.Vec.{vec_capacity}
-use Rattle.executor_core.specs.Numbers.{times}
 use Rattle.executor_core.specs.Cells.{Table}
 use Rattle.executor_core.specs.Cells.Calls.{after_register, may_register, after_fair, after_unregister, unregister_queues}
-use Rattle.executor_core.specs.Cells.Law.{scheduled_in, LockLaw, queued_of, queues_of}
+use Rattle.executor_core.specs.Cells.Law.{queued_of, queues_of}
 use Rattle.executor_core.specs.Queues.{QueueLists, position_of, is_registered, entries_of, entries_at, local_entries_at, unregistered, unregistered_at, fair, fair_at, fair_count}
 use Rattle.executor_core.specs.Ring.{IdRing}
 use Rattle.executor_core.specs.World.{Execution}
@@ -18,7 +16,7 @@ use Rattle.executor_core.specs.World.Runners.{new_ring, RunnersTied}
 use Rattle.executor_core.specs.World.Steps.{local_places, ticker, notice_reply, register_row, fair_row, unregister_row}
 use Rattle.executor_core.specs.World.Tickers.{at_rest, in_store, has_ended, has_to_search, notices_in, is_run, runner_or, runner_of, has_queue, is_new_run, ticker_or, left}
 use Rattle.executor_core.specs.World.View.{execution_of, IsWorld}
-use Rattle.executor_core.proofs.ListLemmas.{length-slice_set, sum_by-at}
+use Rattle.executor_core.proofs.ListLemmas.{length-slice_set}
 use Rattle.executor_core.proofs.QueueLemmas.{registered-entries, fair-permutes, unregistered-permutes}
 use Rattle.executor_core.proofs.World.Agreement.{same_cells}
 use Rattle.executor_core.proofs.World.Notices.{Covers, no_notice_lost, notices_again, kept_is, covered_noticed, covered_quiet, flag_quiet}
