@@ -345,8 +345,8 @@ module _ {W : Type 0} {notified : Option ℕ} {pairs : List (ℕ × W)} {free : 
       remove-from_list (in_use notified pairs) (in_use notified left) id
       (λ n far. let e = times-in_use n notified pairs in let f = times-in_use n notified left in let kept = times-remove_other id n pairs far in omega arith)
       none in
-      ap (λ u. record { unnotified = left; used = u; free = free ++ id ∷ []; places = places; is_open = true }) used
-      ∙ ap (λ l. record { unnotified = left; used = set.remove s.used id; free = l; places = places; is_open = true }) (sym (cond-true (set.contains s.used id) _ free here))
+      let freed : free ++ id ∷ [] ≡ cond (set.contains s.used id) (free ++ id ∷ []) free = sym (cond-true (set.contains s.used id) _ free here) in
+      λ i. record { unnotified = left; used = used i; free = freed i; places = places; is_open = true }
 
   -- a number in the list is not the notified one
   pub removed_of_found : (is_open : Bool) (id : ℕ) (w : W) → lookup (λ k. k == id) pairs ≡ Some w
