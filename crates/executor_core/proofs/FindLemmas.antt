@@ -63,6 +63,12 @@ module _ {P T W : Type 0} where
         | inr far ↦ cell_at_none slots id (ap (is_numbered id.number) is ∙ far) ∙ ap (λ b. cond b (Some e.cell) None) (sym far)
       ]
 
+  -- what was read in the id's slot tells its cell
+  pub cell_at_read : {next capacity undropped : ℕ} {slots : List (Option (Numbered (Cell P T W)))} {ids : List TaskId} {table : Table P T W}
+      → IsSound next slots ids capacity undropped → (q : QueueState) → table_of next slots q ≡ table
+      → (id : TaskId) {read : Option (Numbered (Cell P T W))} → read ≡ get_or slots id.slot None → cell_in id.number read ≡ cell_at table id
+  cell_at_read sound q seen_is id is = ap (cell_in id.number) is ∙ sym (cell_at_is sound id) ∙ ap (λ s. cell_at s id) seen_is
+
   -- what a test finds at the id, it finds in the slot
   pub test_at : {next capacity undropped : ℕ} {slots : List (Option (Numbered (Cell P T W)))} {ids : List TaskId} {table : Table P T W}
       → IsSound next slots ids capacity undropped → (q : QueueState) → table_of next slots q ≡ table

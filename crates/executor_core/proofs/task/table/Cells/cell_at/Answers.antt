@@ -1,7 +1,7 @@
 use Rattle.std.proofs.Common.{Some, None, cond, sym, ap, ◌∙◌}
 use Rattle.std.proofs.lemmas.Bool.{ne_eqb}
 use Rattle.executor_core.specs.Cells.Calls.{cell_at}
-use Rattle.executor_core.proofs.FindLemmas.{cell_at_is, cell_at_entry, cell_in}
+use Rattle.executor_core.proofs.FindLemmas.{cell_at_entry, cell_at_read}
 use Rattle.executor_core.proofs.task.table.Cells.cell_at.Goals as goal
 use Rattle.executor_core.proofs.task.table.Cells.cell_at.Goals.{in_default-via-in-Some+else-entry-id, in_default-via-in_default}
 
@@ -11,10 +11,9 @@ returns-in-Some g c =
 
 pub returns-in_default : goal.returns-in_default
 returns-in_default g c =
-    let cell = cell_at_is c.self.invariant c.args.id in
     elim c.in_default.branch [
       | in_default-via-in-Some+else-entry-id w ↦
           ap (λ b. cond b (Some w.in-Some.entry.now.cell) None) (sym (ne_eqb _ _ w.if-entry-id.false))
-          ∙ sym (cell ∙ ap (cell_in c.args.id.number) (sym w.in-Some.ensures)) ∙ ap (λ s. cell_at s c.args.id) c.self.view_is
-      | in_default-via-in_default w ↦ sym (cell ∙ ap (cell_in c.args.id.number) (sym w.in_default.ensures)) ∙ ap (λ s. cell_at s c.args.id) c.self.view_is
+          ∙ cell_at_read c.self.invariant c.self.inside.queues c.self.view_is c.args.id w.in-Some.ensures
+      | in_default-via-in_default w ↦ cell_at_read c.self.invariant c.self.inside.queues c.self.view_is c.args.id w.in_default.ensures
     ]
