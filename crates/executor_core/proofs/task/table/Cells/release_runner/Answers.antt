@@ -1,6 +1,5 @@
-use Rattle.std.proofs.Common.{◌≡◌, Bool, true, false, cond, refl, sym, ap, ◌∙◌}
+use Rattle.std.proofs.Common.{◌≡◌, Bool, true, false, cond, refl}
 use Rattle.std.specs.Prelude.{◌-◌}
-use Rattle.executor_core.specs.Cells.Calls.{after_release_runner}
 use Rattle.executor_core.specs.Cells.View.{table_of}
 use Rattle.executor_core.specs.Queues.{is_registered}
 use Rattle.executor_core.proofs.QueueLemmas.{is_registered-map}
@@ -15,7 +14,4 @@ returns g c =
     let q = c.self.inside.queues in
     let released = record q { free_places = q.free_places - 1 } in
     let seen = table_of c.self.inside.next c.self.inside.cells.slots in
-    ap seen c.release_runner.ensures
-    ∙ ap_cond seen (is_registered c.args.key.number q.lists.locals) q released
-    ∙ ap (λ b. cond b (seen q) (seen released)) (sym (is_registered-map (λ id. id.number) c.args.key.number q.lists.locals))
-    ∙ ap (λ s. after_release_runner s c.args.key.number) c.self.view_is
+    rw (c.release_runner.ensures, ← c.self.view_is, is_registered-map (λ id. id.number) c.args.key.number q.lists.locals) (ap_cond seen (is_registered c.args.key.number q.lists.locals) q released)
