@@ -30,8 +30,7 @@ returns-clause-ok g c =
     ap (λ s. table_of (c.self.inside.next + 1) c.insert_reserved-slot.new.self.slots s) c.push-notice.ensures
     ∙ spawn_table (regrown c.self.invariant c.reserve.new.self.slots same) c.reserve_beside.new.self c.args.future _ c.insert_reserved-slot.result
     c.insert_reserved-slot.ensures.was_vacant (record { changed = updates.changed ∙ ap (λ k. Some (record { number = c.self.inside.next; cell = k })) c.new_cell-cell.ensures; others = updates.others })
-    ∙ ap (λ s. after_spawn (table_of c.self.inside.next c.reserve.new.self.slots s) c.insert_reserved-slot.result c.args.future) c.reserve_beside.ensures.same
-    ∙ ap (λ l. after_spawn (table_of c.self.inside.next l c.self.inside.queues) c.insert_reserved-slot.result c.args.future) same
+    ∙ (λ i. after_spawn (table_of c.self.inside.next (same i) (c.reserve_beside.ensures.same i)) c.insert_reserved-slot.result c.args.future)
     ∙ ap (λ s. after_spawn s c.insert_reserved-slot.result c.args.future) c.self.view_is
 
 pub returns-clause-free : goal.returns-clause-free
