@@ -1,9 +1,8 @@
-use Rattle.std.proofs.Common.{◌≡◌, Some, sym, ap, ◌∙◌}
+use Rattle.std.proofs.Common.{Some, sym, ap, ◌∙◌}
 use Rattle.std.specs.Prelude.{option_map}
 use Rattle.executor_core.specs.Cells.Calls.{after_search, search_in}
 use Rattle.executor_core.specs.Cells.View.{table_of}
 use Rattle.executor_core.specs.Queues.{map_queues, search}
-use Rattle.executor_core.specs.Queues.State.{with_lists}
 use Rattle.executor_core.proofs.OrderLemmas.{sound_permuted}
 use Rattle.executor_core.proofs.QueueLemmas.{search-permutes, search-none, search-map_found, search-map_lists}
 use Rattle.executor_core.proofs.TakeLemmas.{first_scheduled, take_sound, found_table, none_table, is_taken}
@@ -11,10 +10,8 @@ use Rattle.executor_core.proofs.task.table.Cells.search.Goals as goal
 
 pub invariant_of-self : goal.invariant_of-self
 invariant_of-self g c =
-    let q = c.self.inside.queues in
     let none = sym c.search.ensures.found ∙ c.in_default-search.is in
-    let same : c.search.new.self ≡ q = c.search.ensures.lists ∙ ap (λ l. with_lists l q) (search-none c.args.key.number c.args.word q.lists none) in
-    rw same c.self.invariant
+    rw (c.search.ensures.lists, search-none c.args.key.number c.args.word c.self.inside.queues.lists none) c.self.invariant
 
 pub returns-in_default-search-clause-table : goal.returns-in_default-search-clause-table
 returns-in_default-search-clause-table g c =
@@ -22,11 +19,9 @@ returns-in_default-search-clause-table g c =
     let seen = table_of c.self.inside.next c.self.inside.cells.slots in
     let none = sym c.search.ensures.found ∙ c.in_default-search.is in
     let left = search-none c.args.key.number c.args.word q.lists none in
-    ap seen (c.search.ensures.lists ∙ ap (λ l. with_lists l q) left)
-    ∙ none_table (seen q) (search_in (seen q) c.args.key.number c.args.word)
+    rw (c.search.ensures.lists, left, ← c.self.view_is) (none_table (seen q) (search_in (seen q) c.args.key.number c.args.word)
     (search-map_found (λ id. id.number) c.args.key.number c.args.word q.lists ∙ ap (option_map (λ id. id.number)) none)
-    (search-map_lists (λ id. id.number) c.args.key.number c.args.word q.lists ∙ ap (map_queues (λ id. id.number)) left)
-    ∙ ap (λ s. after_search s c.args.key.number c.args.word) c.self.view_is
+    (search-map_lists (λ id. id.number) c.args.key.number c.args.word q.lists ∙ ap (map_queues (λ id. id.number)) left))
 
 pub returns-in_default-search-clause-none : goal.returns-in_default-search-clause-none
 returns-in_default-search-clause-none g c =
