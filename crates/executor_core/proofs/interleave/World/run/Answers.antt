@@ -1,4 +1,4 @@
-use Rattle.std.proofs.Common.{◌≤◌, ◌+◌, refl, sym, ap, ◌∙◌, subst, length, ◌++◌, arith}
+use Rattle.std.proofs.Common.{◌+◌, refl, sym, ap, ◌∙◌, length, ◌++◌, arith}
 use Rattle.executor_core.specs.World.Steps.{StepTo}
 use Rattle.executor_core.proofs.World.Order.{lone_order}
 use Rattle.executor_core.proofs.World.Runs.{fold_on, snoc_rest}
@@ -10,8 +10,8 @@ loop-step-preserved g c =
     let h = c.loop-step.invariant in (
       rw c.push_reserved.ensures.items (fold_on StepTo c.args.self.now c.loop-step.yielded c.loop-step.replies.items c.loop-step.self c.in-Some.step c.step.result c.step.new.self h.0 c.step.ensures.step),
       snoc_rest c.loop-step.yielded c.in-Some.step c.next.new.self.rest.items ∙ ap (λ l. c.loop-step.yielded ++ l) (sym c.in-Some.ensures.steps.0) ∙ h.1,
-      ap length c.push_reserved.ensures.items ∙ length-push _ _ ∙ ap (λ k. k + 1) h.2 ∙ sym (length-push _ _),
-      subst (λ k. length c.args.steps.items ≤ k) (sym c.push_reserved.ensures.capacity) h.3,
+      rw c.push_reserved.ensures.items (length-push _ _ ∙ ap (λ k. k + 1) h.2 ∙ sym (length-push _ _)),
+      rw c.push_reserved.ensures.capacity h.3,
     )
 
 pub returns-clause-order : goal.returns-clause-order
