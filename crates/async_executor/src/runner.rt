@@ -15,10 +15,10 @@
 //!              └── ready, or the run is dropped ── unregister ── leave the sleepers ── return
 //! ```
 //!
-//! What it does next is decided by a `RunMachine`. Between two polls of its own future a run acts
-//! as one tick after another, each with a `TickMachine`, but that its searches are those of a
-//! runner. Once in 64 tasks it takes its part of the shared queue before it runs the task, so that
-//! tasks there are not left behind its own. After 200 tasks it lets others of its thread go on.
+//! What it does next is decided in `machine`. Between two polls of its own future a run goes the
+//! steps of one tick after another, but that its searches are those of a runner. Once in 64 tasks it
+//! takes its part of the shared queue before it runs the task, so that tasks there are not left
+//! behind its own. After 200 tasks it lets others of its thread go on.
 
 mod run;
 mod words;

@@ -10,7 +10,8 @@
 //! | spends the notice of its own queue, which has ended | a tick, and the number | pass on |
 //! | leaves the sleepers | a tick | leave |
 //!
-//! The table of decisions is `specs/Runs/Decisions.antt`.
+//! The table of decisions is `specs/Runs/Table.antt`, keyed by the reply. `specs/Runs/Decisions.antt`
+//! has it keyed by what the machine waits for.
 ghost use Rattle.std.specs.Prelude.{◌≡◌, ◌+◌, ◌<◌, nat_lt, cond, Bool, true, false, Ok, Err, Some, None};
 ghost use Rattle.async_executor.specs.Runs.{answers, asked, asked_in, has_ended, store_asked, store_after, AskFirst, IsAsked, IsFitNext};
 ghost use Rattle.async_executor.specs.Runs.Decisions.{turn, fair, ask, run_rest, run_ended, searching, dropping, after_task, found, working, passing_on, leaving, resumed, Decides};

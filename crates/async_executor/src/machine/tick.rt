@@ -10,7 +10,8 @@
 //!
 //! All else that must be spent goes out with the next action. So a path on which something is
 //! forgotten, as a search before the store or a rest with a notice, does not compile. What the types
-//! leave open is the table of `specs/Ticks/Decisions.antt`.
+//! leave open is the table of `specs/Ticks/Table.antt`, keyed by the reply. `specs/Ticks/Decisions.antt`
+//! has it keyed by what the machine waits for.
 //!
 //! It is awake exactly where its number is 0, which no sleeper has.
 ghost use Rattle.std.specs.Prelude.{◌≡◌, ℕ, Bool, true, false, Option, Some, None};
