@@ -88,7 +88,7 @@ def functions_of(text):
     """The functions of a file that is in rt fmt's layout, but for those without a body of lines."""
     found, function, block, at = [], None, "", 0
     for line in text.splitlines(keepends=True):
-        if not function and re.match(r" *(pub(\([a-z]+\))? )?fn ", line):
+        if not function and re.match(r" *(pub(\([a-z_: ]+\))? )?fn ", line):
             function = Function(line, at, *owner_of(block))
         at += len(line)
         if not function:
@@ -114,7 +114,7 @@ def owner_of(block):
     if not block.startswith("impl"):
         return "", not block
     given, rest = brackets(block.removeprefix("impl"))
-    type_name, rest = re.match(r"(\w+)(.*)", rest.split(" for ")[-1].strip(), re.S).groups()
+    type_name, rest = re.match(r"(?:\w+::)*(\w+)(.*)", rest.split(" for ")[-1].strip(), re.S).groups()
     is_of_trait = " for " in block
     return type_name, not is_of_trait and [it.split(":")[0] for it in given] == brackets(rest)[0]
 
