@@ -23,7 +23,7 @@ find_errors() {
     (cd "$copy/crates/$1" && timeout 600 "$rt" check --only= 2>&1) | sed '/^only=/q' > "$copy/log"
     sed -nE 's/^([^ :]*):([0-9]*):[0-9]*: error(\[([a-z-]*)\])?.*/\1 \2 \4/p' "$copy/log" |
         sort -u -k1,1 -k2,2n -k3 > "$copy/found"
-    is_cut=$(grep -c ' and [0-9]* more errors$' "$copy/log") || return 0
+    is_cut=$(grep -cE ' and [0-9]+ more errors?$' "$copy/log") || return 0
     awk '
         { place[NR] = $1 " " $2; line[NR] = $0 }
         END {
