@@ -1,13 +1,13 @@
 #!/bin/sh
-# No crate has unsafe code: by it a value that must be spent could be kept from its end.
-# Usage: checks/unsafe.sh, anywhere. Its last line counts the crates.
+# No crate and no test has unsafe code: by it a value that must be spent could be kept from its end.
+# Usage: checks/unsafe.sh, anywhere. Its last line counts the crates, and the folder of tests.
 # Runs beside the gate.
 set -u
-cd "$(dirname "$0")/../crates" || exit 1
+cd "$(dirname "$0")/.." || exit 1
 passed=0
 failed=0
-for crate in *; do
-    grep -rnw unsafe "$crate/src"
+for sources in crates/*/src tests; do
+    grep -rnw unsafe "$sources"
     # The status is 1 where all was read and the word is not there.
     if [ $? = 1 ]; then
         passed=$((passed + 1))
