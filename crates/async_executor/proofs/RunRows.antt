@@ -25,9 +25,9 @@ use Rattle.async_executor.specs.declared.machine.run.RunMachine.{RunMachine}
 use Rattle.async_executor.specs.declared.machine.run.RunNext.{RunNext}
 use Rattle.async_executor.specs.declared.machine.run.RunReply.{RunReply}
 use Rattle.async_executor.specs.declared.machine.run.RunReply.TheVariants.{Tick}
-use Rattle.async_executor.specs.declared.machine.run.State.TheVariants.{Ticking}
+use Rattle.async_executor.specs.declared.machine.run.RunState.TheVariants.{Ticking}
 use Rattle.async_executor.specs.declared.machine.tick.LeavingState.TheVariants.{Running}
-use Rattle.async_executor.specs.declared.machine.tick.State.TheVariants.{Leaving}
+use Rattle.async_executor.specs.declared.machine.tick.TickState.TheVariants.{Leaving}
 use Rattle.async_executor.specs.declared.machine.tick.TickAction.TheVariants.{Search, Insert, Update, Store, Remove, StoreRemoved, Exchange, Notify, Wake, Run}
 use Rattle.async_executor.specs.declared.machine.tick.TickEnd.TheVariants.{Park, Yield, Return}
 use Rattle.async_executor.specs.declared.machine.tick.TickMachine.{TickMachine}

@@ -26,11 +26,11 @@ use Rattle.async_executor.specs.declared.machine.run.RunReply.{RunReply}
 use Rattle.async_executor.specs.declared.machine.run.RunReply.TheVariants.{Tick}
 use Rattle.async_executor.specs.declared.machine.run.Stage.{Stage}
 use Rattle.async_executor.specs.declared.machine.run.Stage.TheVariants as stage
-use Rattle.async_executor.specs.declared.machine.run.State as run
-use Rattle.async_executor.specs.declared.machine.run.State.TheVariants.{Ticking}
+use Rattle.async_executor.specs.declared.machine.run.RunState as run
+use Rattle.async_executor.specs.declared.machine.run.RunState.TheVariants.{Ticking}
 use Rattle.async_executor.specs.declared.machine.tick.LeavingState.TheVariants.{Removing, StoringRemoved, Exchanging, Notifying, Waking, Running}
-use Rattle.async_executor.specs.declared.machine.tick.State.{State}
-use Rattle.async_executor.specs.declared.machine.tick.State.TheVariants.{Resting, Searching, Inserting, Updating, Storing, Leaving}
+use Rattle.async_executor.specs.declared.machine.tick.TickState.{TickState}
+use Rattle.async_executor.specs.declared.machine.tick.TickState.TheVariants.{Resting, Searching, Inserting, Updating, Storing, Leaving}
 use Rattle.async_executor.specs.declared.machine.tick.TickAction.{TickAction}
 use Rattle.async_executor.specs.declared.machine.tick.TickAction.TheVariants.{Search, Insert, Update, Store, Remove, StoreRemoved, Exchange, Notify, Wake, Run}
 use Rattle.async_executor.specs.declared.machine.tick.TickEnd.{TickEnd}
@@ -59,7 +59,7 @@ leaves Seeking fit = absurd (cc)
 leaves Departing fit = refl
 
 -- one that departs runs no task
-pub departs : (s : State) → course_in s ≡ Departing → under_way (ticks.asked_in s) ≡ 0
+pub departs : (s : TickState) → course_in s ≡ Departing → under_way (ticks.asked_in s) ≡ 0
 departs (Resting number) is = refl
 departs (Searching number) is = refl
 departs Inserting is = refl
@@ -104,7 +104,7 @@ module _ {W : Type 0} where
   dropping_both : (P : RunNext W → Type 0) (runner : Runner) (number : ℕ) → (number == 0 ≡ true → P (run_ended runner)) → (number == 0 ≡ false → P (ask runner (Ticking Leave (record { state = Leaving (Removing number None) })) (asks.Tick (Remove number)))) → P (dropping runner number)
   dropping_both P runner number awake asleep = cond_both _ _ _ P awake asleep
 
-  pub ticking_gate : (s : run.State) (aim : Aim) (machine : TickMachine) (given : RunReply W) (reply : TickReply W) → s ≡ Ticking aim machine → given ≡ Tick reply → answers (asked_in s) given ≡ true → (is_fit aim (course machine) ≡ true) × (ticks.answers (ticks.asked machine) reply ≡ true)
+  pub ticking_gate : (s : run.RunState) (aim : Aim) (machine : TickMachine) (given : RunReply W) (reply : TickReply W) → s ≡ Ticking aim machine → given ≡ Tick reply → answers (asked_in s) given ≡ true → (is_fit aim (course machine) ≡ true) × (ticks.answers (ticks.asked machine) reply ≡ true)
   ticking_gate s aim machine given reply is tick answered =
       gate (is_fit aim (course machine)) (ticks.asked machine) reply
       (subst (λ state. answers (asked_in state) (Tick reply) ≡ true) is (subst (λ r. answers (asked_in s) r ≡ true) tick answered))
@@ -169,7 +169,7 @@ module _ {W : Type 0} where
   keeps_fit aim Departing reply (Act machine action) fit kept = ap (is_fit aim) kept.0 ∙ fit
 
   -- a tick that seeks ends once its task was run
-  pub was_running : (s : State) (reply : TickReply W) → ends Seeking reply ≡ true → ticks.answers (ticks.asked_in s) reply ≡ true → s ≡ Leaving Running
+  pub was_running : (s : TickState) (reply : TickReply W) → ends Seeking reply ≡ true → ticks.answers (ticks.asked_in s) reply ≡ true → s ≡ Leaving Running
   was_running s Begin ending answered = absurd (cc)
   was_running s Dropped ending answered = absurd (cc)
   was_running s (Found taken notice) ending answered = absurd (cc)
@@ -199,7 +199,7 @@ module _ {W : Type 0} where
   was_running (Leaving Running) Ran ending answered = refl
 
   -- and it runs none before
-  pub runs_none : (s : State) (reply : TickReply W) → ends Seeking reply ≡ false → ticks.answers (ticks.asked_in s) reply ≡ true → under_way (ticks.asked_in s) ≡ 0
+  pub runs_none : (s : TickState) (reply : TickReply W) → ends Seeking reply ≡ false → ticks.answers (ticks.asked_in s) reply ≡ true → under_way (ticks.asked_in s) ≡ 0
   runs_none (Resting number) reply goes answered = refl
   runs_none (Searching number) reply goes answered = refl
   runs_none Inserting reply goes answered = refl
@@ -255,10 +255,10 @@ module _ {W : Type 0} where
   working_seen runner machine (Wake wakeup) = refl
 
   -- the run of a tick that works: the ticker after its decision
-  abbrev Working : Runner → State → TickReply W → Bool → TickNext W → Type 0
+  abbrev Working : Runner → TickState → TickReply W → Bool → TickNext W → Type 0
   Working runner s reply notified next = ticker_after (working runner next) ≡ worked runner.count s reply (ticks_seen.ticker_in (runner_in runner) notified s)
 
-  pub working_goes_on : (runner : Runner) (s : State) (reply : TickReply W) (machine : TickMachine) (action : TickAction W) → ends Seeking reply ≡ false → (notified : Bool) → ticks_seen.ticker_after (runner_in runner) (Act machine action) ≡ ticks_steps.leads s reply (ticks_seen.ticker_in (runner_in runner) notified s) → Working runner s reply notified (Act machine action)
+  pub working_goes_on : (runner : Runner) (s : TickState) (reply : TickReply W) (machine : TickMachine) (action : TickAction W) → ends Seeking reply ≡ false → (notified : Bool) → ticks_seen.ticker_after (runner_in runner) (Act machine action) ≡ ticks_steps.leads s reply (ticks_seen.ticker_in (runner_in runner) notified s) → Working runner s reply notified (Act machine action)
   working_goes_on runner s reply machine action goes notified led =
       working_seen runner machine action ∙ led ∙ sym (cond-false (ends Seeking reply) _ _ goes)
 
@@ -296,14 +296,14 @@ ran_in_turn W runner here within one =
     (λ full. (omega arith, sym (cond-true (runner.count + here == turn) _ _ (eq-eqb _ _ (last_of_turn runner here within one full)))))
 
 module _ {W : Type 0} where
-  pub working_ran : (runner : Runner) (s : State) (reply : TickReply W) (rest : TickRest) → ends Seeking reply ≡ true → s ≡ Leaving Running → (notified : Bool) → Working runner s reply notified (Rest rest Return)
+  pub working_ran : (runner : Runner) (s : TickState) (reply : TickReply W) (rest : TickRest) → ends Seeking reply ≡ true → s ≡ Leaving Running → (notified : Bool) → Working runner s reply notified (Rest rest Return)
   working_ran runner s reply rest ending is notified =
       let here : Ticker = ticks_seen.ticker_in (runner_in runner) notified s in
       let at_rest : here ≡ run_at runner phase.Rest 0 = ap (ticks_seen.ticker_in (runner_in runner) notified) is in
       let after : ticker_after (after_task runner) ≡ ran runner.count (run_at runner phase.Rest 0) = after_task_seen W runner in
       after ∙ sym (ap (ran runner.count) at_rest) ∙ sym (cond-true (ends Seeking reply) _ _ ending)
 
-  pub working_rests : (runner : Runner) (s : State) (reply : TickReply W) (rest : TickRest) → ends Seeking reply ≡ false → rest.ended ≡ false → (notified : Bool) → ticks_seen.rest_ticker (runner_in runner) rest ≡ ticks_steps.leads s reply (ticks_seen.ticker_in (runner_in runner) notified s) → run_at runner phase.Rest rest.number ≡ worked runner.count s reply (ticks_seen.ticker_in (runner_in runner) notified s)
+  pub working_rests : (runner : Runner) (s : TickState) (reply : TickReply W) (rest : TickRest) → ends Seeking reply ≡ false → rest.ended ≡ false → (notified : Bool) → ticks_seen.rest_ticker (runner_in runner) rest ≡ ticks_steps.leads s reply (ticks_seen.ticker_in (runner_in runner) notified s) → run_at runner phase.Rest rest.number ≡ worked runner.count s reply (ticks_seen.ticker_in (runner_in runner) notified s)
   working_rests runner s reply rest goes lasts notified led =
       ap (λ p. ticks_seen.ticker_at (runner_in runner) p rest.number) (sym (cond-false rest.ended phase.Ended phase.Rest lasts)) ∙ led ∙ sym (cond-false (ends Seeking reply) _ _ goes)
 
@@ -312,13 +312,13 @@ module _ {W : Type 0} where
   passed_goes_on runner number reply (Rest rest end) kept = dropping_seen W runner number ∙ sym (cond-true (ends Departing reply) _ _ kept.1)
 
   -- what a world sees of a run whose tick goes on
-  pub worked_on : (runner : Runner) (s : State) (reply : TickReply W) (next : TickNext W) → ticks.answers (ticks.asked_in s) reply ≡ true → ticks.IsAsked next → KeepsCourse Seeking reply next → (notified : Bool) → ticks_seen.ticker_after (runner_in runner) next ≡ ticks_steps.leads s reply (ticks_seen.ticker_in (runner_in runner) notified s) → Working runner s reply notified next
+  pub worked_on : (runner : Runner) (s : TickState) (reply : TickReply W) (next : TickNext W) → ticks.answers (ticks.asked_in s) reply ≡ true → ticks.IsAsked next → KeepsCourse Seeking reply next → (notified : Bool) → ticks_seen.ticker_after (runner_in runner) next ≡ ticks_steps.leads s reply (ticks_seen.ticker_in (runner_in runner) notified s) → Working runner s reply notified next
   worked_on runner s reply (Act machine action) answered is kept notified led = working_goes_on runner s reply machine action kept.1 notified led
   worked_on runner s reply (Rest rest Return) answered is kept notified led = working_ran runner s reply rest (sym kept) (was_running s reply (sym kept) answered) notified
   worked_on runner s reply (Rest rest Park) answered is kept notified led = working_rests runner s reply rest (sym kept) is notified led
   worked_on runner s reply (Rest rest Yield) answered is kept notified led = working_rests runner s reply rest (sym kept) is notified led
 
-  pub left_on : (runner : Runner) (s : State) (reply : TickReply W) (next : TickNext W) → KeepsCourse Departing reply next → (notified : Bool) → ticks_seen.ticker_after (runner_in runner) next ≡ ticks_steps.leads s reply (ticks_seen.ticker_in (runner_in runner) notified s) → ticker_after (leaving runner next) ≡ ticks_steps.leads s reply (ticks_seen.ticker_in (runner_in runner) notified s)
+  pub left_on : (runner : Runner) (s : TickState) (reply : TickReply W) (next : TickNext W) → KeepsCourse Departing reply next → (notified : Bool) → ticks_seen.ticker_after (runner_in runner) next ≡ ticks_steps.leads s reply (ticks_seen.ticker_in (runner_in runner) notified s) → ticker_after (leaving runner next) ≡ ticks_steps.leads s reply (ticks_seen.ticker_in (runner_in runner) notified s)
   left_on runner s reply (Act machine action) kept notified led = led
   left_on runner s reply (Rest rest end) kept notified led = sym (ap (ticks_seen.rest_ticker (runner_in runner)) kept.0) ∙ led
 
@@ -338,7 +338,7 @@ module _ {W : Type 0} where
       let runs : under_way (ticks.asked machine) ≡ runs_in (asks.Tick action) = ap under_way is ∙ runs_asked action in
       (within, omega arith)
 
-  pub worked_in_turn : (runner : Runner) (s : State) (reply : TickReply W) (next : TickNext W) → runner.count < turn → ticks.answers (ticks.asked_in s) reply ≡ true → ticks.IsAsked next → KeepsCourse Seeking reply next → TurnFrom (runner.count + under_way (ticks.asked_in s)) (working runner next)
+  pub worked_in_turn : (runner : Runner) (s : TickState) (reply : TickReply W) (next : TickNext W) → runner.count < turn → ticks.answers (ticks.asked_in s) reply ≡ true → ticks.IsAsked next → KeepsCourse Seeking reply next → TurnFrom (runner.count + under_way (ticks.asked_in s)) (working runner next)
   worked_in_turn runner s reply (Act machine (Run taken)) within answered is kept = found_in_turn W runner _ machine taken within (runs_none s reply kept.1 answered) is
   worked_in_turn runner s reply (Act machine (Search again)) within answered is kept = asks_in_turn runner _ Work machine (Search again) within (runs_none s reply kept.1 answered) is
   worked_in_turn runner s reply (Act machine Insert) within answered is kept = asks_in_turn runner _ Work machine Insert within (runs_none s reply kept.1 answered) is

@@ -1,5 +1,6 @@
 pub use Rattle.executor_core.specs.SpawnError
 pub mod Answers
+pub mod LeftOver
 pub mod Poller
 pub mod RunError
 pub mod Runs

@@ -13,8 +13,8 @@ use Rattle.async_executor.specs.Ticks as ticks
 use Rattle.async_executor.specs.Ticks.Courses.{Course, Waiting, Seeking, Departing, course}
 use Rattle.async_executor.specs.declared.machine.run.Aim.{Aim}
 use Rattle.async_executor.specs.declared.machine.run.Aim.TheVariants.{Work, PassOn, Leave}
-use Rattle.async_executor.specs.declared.machine.run.State.{State}
-use Rattle.async_executor.specs.declared.machine.run.State.TheVariants.{Starting, Resting, Registering, PollingOwn, Ticking, Sharing, Unregistering, Releasing}
+use Rattle.async_executor.specs.declared.machine.run.RunState.{RunState}
+use Rattle.async_executor.specs.declared.machine.run.RunState.TheVariants.{Starting, Resting, Registering, PollingOwn, Ticking, Sharing, Unregistering, Releasing}
 use Rattle.async_executor.specs.declared.machine.run.Stage.{Stage}
 use Rattle.async_executor.specs.declared.machine.run.Stage.TheVariants as stage
 use Rattle.async_executor.specs.declared.machine.run.RunAction.{RunAction}
@@ -49,7 +49,7 @@ is_fit Leave Departing = true
 is_fit Leave _ = false
 
 -- what a machine waits for: one whose tick does not what it acts for, for nothing
-abbrev pub asked_in : State → RunAsked
+abbrev pub asked_in : RunState → RunAsked
 asked_in Starting = AskFirst
 asked_in (Resting number) = AskFirst
 asked_in Registering = AskRegister

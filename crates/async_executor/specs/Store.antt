@@ -1,13 +1,7 @@
 use Rattle.std.specs.Prelude.{◌≡◌, ◌==◌, Bool, true, false, ℕ, Option, Some, None, cond, List, [], ◌∷◌, ◌++◌, slice_set, slice_get, length, nat_lt, vec_len, vec_capacity, ◌<◌}
 use Rattle.executor_core.specs.declared.task.id.TaskId.{TaskId}
-use Rattle.executor_core.specs.declared.task.polling.Ran.{Ran}
-use Rattle.executor_core.specs.declared.task.polling.Ran.TheVariants.{Pending, Ready, Dropped}
 use Rattle.async_executor.specs.declared.store.Kept.{Kept}
 use Rattle.async_executor.specs.declared.store.Kept.TheVariants.{Nothing, Future, Output}
-use Rattle.async_executor.specs.declared.store.EndThenSearch.{EndThenSearch}
-use Rattle.async_executor.specs.declared.store.EndThenSearch.TheVariants.{Searched, Left}
-use Rattle.async_executor.specs.declared.store.LeftOver.{LeftOver}
-use Rattle.async_executor.specs.declared.store.LeftOver.TheVariants.{Refused, Woken, ToDrop, Finished}
 use Rattle.async_executor.specs.declared.store.Place.{Place}
 use Rattle.async_executor.specs.declared.store.Store.{Store}
 
@@ -54,22 +48,3 @@ module _ {F S T : Type 0} where
   -- a place more needs no memory
   abbrev pub HasRoom : Store F S T → Type 0
   HasRoom store = vec_len store.places < vec_capacity store.places
-
-module _ {T : Type 0} where
-  -- what is held of a task that was run is to be dropped exactly where its future was
-  abbrev pub IsHeldRight : Ran (Unit {0}) T → Type 0
-  IsHeldRight (Pending held future) = held.to_drop ≡ false
-  IsHeldRight (Ready held output) = held.to_drop ≡ false
-  IsHeldRight (Dropped held) = held.to_drop ≡ true
-
-module _ {W T : Type 0} where
-  -- what is left to drop of a task
-  abbrev pub IsLeftRight : LeftOver W T → Type 0
-  IsLeftRight (Refused held) = held.to_drop ≡ false
-  IsLeftRight (Woken held notice) = held.to_drop ≡ false
-  IsLeftRight (ToDrop held) = held.to_drop ≡ true
-  IsLeftRight (Finished unwanted awaiter) = Unit {0}
-
-  abbrev pub IsEndRight : EndThenSearch W T → Type 0
-  IsEndRight (Searched notice found) = Unit {0}
-  IsEndRight (Left left) = IsLeftRight left

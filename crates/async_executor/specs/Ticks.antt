@@ -6,8 +6,8 @@ pub mod Steps
 pub mod Table
 pub mod Tickers
 use Rattle.std.specs.Prelude.{◌≡◌, ℕ, Bool, true, false, Option, Some, None}
-use Rattle.async_executor.specs.declared.machine.tick.State.{State}
-use Rattle.async_executor.specs.declared.machine.tick.State.TheVariants.{Resting, Searching, Inserting, Updating, Storing, Leaving}
+use Rattle.async_executor.specs.declared.machine.tick.TickState.{TickState}
+use Rattle.async_executor.specs.declared.machine.tick.TickState.TheVariants.{Resting, Searching, Inserting, Updating, Storing, Leaving}
 use Rattle.async_executor.specs.declared.machine.tick.LeavingState.TheVariants.{Removing, StoringRemoved, Exchanging, Notifying, Waking, Running}
 use Rattle.async_executor.specs.declared.machine.tick.TickAction.{TickAction}
 use Rattle.async_executor.specs.declared.machine.tick.TickAction.TheVariants.{Search, Insert, Update, Store, Remove, StoreRemoved, Exchange, Notify, Wake, Run}
@@ -34,7 +34,7 @@ pub data Asked : Type 0 where
   AskRun : Asked
 
 -- what a machine waits for
-abbrev pub asked_in : State → Asked
+abbrev pub asked_in : TickState → Asked
 asked_in (Resting number) = AskStart
 asked_in (Searching number) = AskSearch
 asked_in Inserting = AskInsert

@@ -1,11 +1,13 @@
 //! Where the futures and the outputs of an executor's tasks are kept.
 ghost use Rattle.std.specs.Prelude.{◌≡◌, IfErr};
 ghost use Rattle.executor_core.specs.SpawnError.{refused_future};
-ghost use Rattle.async_executor.specs.Store.{IsHeldRight, IsLeftRight, IsEndRight};
+ghost use Rattle.async_executor.specs.LeftOver.{IsHeldRight, IsLeftRight, IsEndRight};
 
+use crate::changes::Out;
+use crate::left_over::{EndThenSearch, LeftOver};
 use crate::lock::lock;
-use crate::state::{APART, CacheLine, State};
-use crate::store::{EndThenSearch, LeftOver, Out, Store};
+use crate::state::{APART, CacheLine, ExecutorState};
+use crate::store::Store;
 use crate::waker::TaskWaker;
 use executor_core::queue::RunnerKey;
 use executor_core::task::{
@@ -32,7 +34,7 @@ pub trait Home: Drop {
     /// Another share.
     fn share(&self) -> Result<Self, OutOfMemory>;
 
-    fn state(&self) -> &State<Self::Waker, Self::Runtime>;
+    fn state(&self) -> &ExecutorState<Self::Waker, Self::Runtime>;
 
     /// Makes a task of this future and keeps the future. Where that is refused, all is as before.
     fn spawn(&self, future: Self::Future) -> Result<(TaskId, Notice), SpawnError<Self::Future>>
@@ -95,10 +97,10 @@ pub type OutputIn<H> = <<H as Home>::Future as Future<
 
 #[derive(Drop)]
 struct Shared<F: Future<TaskWaker<W, R>>, W: Wake, R: Wait + Clone + Drop> {
-    state: Arc<State<W, R>>,
+    state: Arc<ExecutorState<W, R>>,
     // The lock of the store is not on the line of the counts of the shares.
     before_store: CacheLine,
-    store: Mutex<Store<F, Arc<State<W, R>>, F::Output>>,
+    store: Mutex<Store<F, Arc<ExecutorState<W, R>>, F::Output>>,
 }
 
 /// The home of an executor whose parts may go to other threads: the store has a lock.
@@ -115,7 +117,7 @@ impl<F: Future<TaskWaker<W, R>>, W: Wake, R: Wait + Clone + Drop> Home for Share
     type Runtime = R;
 
     fn new(rt: R, alloc: Global) -> Result<Self, OutOfMemory> {
-        let Ok(state) = Arc::new(alloc, State::new(rt, alloc)?) else {
+        let Ok(state) = Arc::new(alloc, ExecutorState::new(rt, alloc)?) else {
             return Err(OutOfMemory);
         };
         let store = Mutex::new(Store::new(alloc));
@@ -135,7 +137,7 @@ impl<F: Future<TaskWaker<W, R>>, W: Wake, R: Wait + Clone + Drop> Home for Share
         Ok(SharedHome { shared })
     }
 
-    fn state(&self) -> &State<W, R> {
+    fn state(&self) -> &ExecutorState<W, R> {
         &self.shared.state
     }
 

@@ -1,7 +1,7 @@
 //! Executors for futures that are written by hand.
 //!
-//! An executor, its handles and the wakers of its tasks share one `State`: the table of tasks of
-//! `executor_core` behind a lock, and the right to wait for that lock. The table holds no futures.
+//! An executor, its handles and the wakers of its tasks share one `ExecutorState`: the table of tasks
+//! of `executor_core` behind a lock, and the right to wait for that lock. The table holds no futures.
 //! The futures and the outputs of the tasks stand in a `Store`, each under the number of its task.
 //! There are two tables since a waker has a share of the state, and a future may keep its waker: a
 //! table with futures in it would be a part of itself.
@@ -13,8 +13,10 @@
 //! future is polled or dropped, an output is dropped, or a waker is copied, woken or dropped.
 #![tactic(auto)]
 
+pub(crate) mod changes;
 pub mod executor;
 pub(crate) mod home;
+pub(crate) mod left_over;
 pub(crate) mod limits;
 pub(crate) mod lock;
 pub(crate) mod machine;

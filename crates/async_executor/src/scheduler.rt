@@ -9,14 +9,14 @@ ghost use Rattle.std.specs.Prelude.{◌≡◌, true, false, IfOk, IfErr};
 ghost use Rattle.executor_core.specs.SpawnError.{refused_future};
 ghost use Rattle.async_executor.specs.RunError.{run_future};
 ghost use Rattle.async_executor.specs.Runs.{has_ended};
-ghost use Rattle.async_executor.specs.Store.{IsHeldRight, IsLeftRight};
+ghost use Rattle.async_executor.specs.LeftOver.{IsHeldRight, IsLeftRight};
 
 use crate::home::{Home, OutIn, OutputIn};
+use crate::left_over::LeftOver;
 use crate::limits::LOCAL_PLACES;
 use crate::poller::TaskPoller;
 use crate::runner::{RunError, RunIn};
-use crate::state::{State, announce};
-use crate::store::LeftOver;
+use crate::state::{ExecutorState, announce};
 use crate::task::TaskIn;
 use crate::ticker::TickIn;
 use executor_core::queue::Ring;
@@ -103,7 +103,7 @@ impl<H: Home> ExecutorIn<H> {
     }
 
     /// What the executor shares with its handles and its wakers.
-    pub(crate) fn state(&self) -> &State<H::Waker, H::Runtime> {
+    pub(crate) fn state(&self) -> &ExecutorState<H::Waker, H::Runtime> {
         self.home.state()
     }
 

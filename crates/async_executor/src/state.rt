@@ -31,7 +31,7 @@ pub(crate) use announce;
 /// threads write stands on cache lines of its own: the counts of the shares before the state, the
 /// cells with their lock, the sleepers with theirs, and the flag.
 #[derive(Drop)]
-pub struct State<W, R> {
+pub struct ExecutorState<W, R> {
     before_cells: CacheLine,
     pub(crate) cells: Mutex<Cells<(), (), W>>,
     before_sleepers: CacheLine,
@@ -47,10 +47,10 @@ pub(crate) type CacheLine = [u64; 8];
 
 pub(crate) const APART: CacheLine = [0; 8];
 
-impl<W: Wake, R: Wait + Clone + Drop> State<W, R> {
+impl<W: Wake, R: Wait + Clone + Drop> ExecutorState<W, R> {
     /// The state of an executor that has no tasks.
-    pub(crate) fn new(rt: R, alloc: Global) -> Result<State<W, R>, OutOfMemory> {
-        Ok(State {
+    pub(crate) fn new(rt: R, alloc: Global) -> Result<ExecutorState<W, R>, OutOfMemory> {
+        Ok(ExecutorState {
             before_cells: APART,
             cells: Mutex::new(Cells::new(alloc)?),
             before_sleepers: APART,

@@ -7,7 +7,7 @@ ghost use Rattle.std.specs.Prelude.{◌≡◌, true, false, is_some, cond};
 ghost use Rattle.executor_core.specs.Cells.Calls.{after_wake};
 
 use crate::lock::lock;
-use crate::state::{State, announce};
+use crate::state::{ExecutorState, announce};
 use executor_core::task::{Cells, Notice, OutOfMemory, TaskId, Wake};
 use std::sync::atomic::{AtomicBool, Ordering};
 use std::sync::{Arc, Wait};
@@ -21,7 +21,7 @@ use std::sync::{Arc, Wait};
 /// Example: `uses::receives`.
 #[derive(Drop)]
 pub struct TaskWaker<W, R> {
-    state: Arc<State<W, R>>,
+    state: Arc<ExecutorState<W, R>>,
     id: TaskId,
     // Whether the waker was woken, where it is lent. Other threads may wake it by reference.
     mark: Option<AtomicBool>,
@@ -29,7 +29,7 @@ pub struct TaskWaker<W, R> {
 
 impl<W: Wake, R: Wait + Clone + Drop> TaskWaker<W, R> {
     /// The waker that is lent to a poll of the task of this id.
-    pub(crate) fn lent(state: Arc<State<W, R>>, id: TaskId) -> TaskWaker<W, R>
+    pub(crate) fn lent(state: Arc<ExecutorState<W, R>>, id: TaskId) -> TaskWaker<W, R>
         ensures state { result.state ≡ state }
         ensures id { result.id ≡ id }
         ensures lent { is_some result.mark ≡ true }
@@ -40,7 +40,7 @@ impl<W: Wake, R: Wait + Clone + Drop> TaskWaker<W, R> {
 
     /// The share of the state that the waker was made of, and the wake that it owes its task if it is
     /// lent.
-    pub(crate) fn into_parts(self) -> (Arc<State<W, R>>, LentWake)
+    pub(crate) fn into_parts(self) -> (Arc<ExecutorState<W, R>>, LentWake)
         ensures state { result.0 ≡ self.state }
         ensures copy { is_some self.mark ≡ false → result.1.is_woken ≡ false }
     {
@@ -92,7 +92,7 @@ impl<W: Wake, R: Wait + Clone + Drop> Wake for TaskWaker<W, R> {
             mark.store(true, Ordering::SeqCst);
             return;
         }
-        // In place of `State::cells`, since a call that may wait costs its caller a test.
+        // In place of `ExecutorState::cells`, since a call that may wait costs its caller a test.
         let mut cells = lock!(self.state.cells, self.state.rt());
         if let Some(notice) = cells.wake(self.id) {
             drop(cells);

@@ -7,8 +7,8 @@ use Rattle.async_executor.specs.declared.machine.run.Aim.TheVariants.{Work, Pass
 use Rattle.async_executor.specs.declared.machine.run.Runner.{Runner}
 use Rattle.async_executor.specs.declared.machine.run.Stage.{Stage}
 use Rattle.async_executor.specs.declared.machine.run.Stage.TheVariants as stage
-use Rattle.async_executor.specs.declared.machine.run.State.{State}
-use Rattle.async_executor.specs.declared.machine.run.State.TheVariants.{Starting, Resting, Registering, PollingOwn, Ticking, Sharing, Unregistering, Releasing}
+use Rattle.async_executor.specs.declared.machine.run.RunState.{RunState}
+use Rattle.async_executor.specs.declared.machine.run.RunState.TheVariants.{Starting, Resting, Registering, PollingOwn, Ticking, Sharing, Unregistering, Releasing}
 use Rattle.async_executor.specs.declared.machine.run.RunAction.{RunAction}
 use Rattle.async_executor.specs.declared.machine.run.RunAction.TheVariants as asks
 use Rattle.async_executor.specs.declared.machine.run.RunMachine.{RunMachine}
@@ -17,7 +17,7 @@ use Rattle.async_executor.specs.declared.machine.run.RunNext.TheVariants.{Act, R
 use Rattle.async_executor.specs.declared.machine.run.RunReply.{RunReply}
 use Rattle.async_executor.specs.declared.machine.run.RunReply.TheVariants.{Begin, Dropped, Registered, NotRegistered, OwnPending, OwnReady, Tick, Moved, Unregistered, Released}
 use Rattle.async_executor.specs.declared.machine.tick.LeavingState.TheVariants.{Removing, Exchanging}
-use Rattle.async_executor.specs.declared.machine.tick.State.TheVariants as tick
+use Rattle.async_executor.specs.declared.machine.tick.TickState.TheVariants as tick
 use Rattle.async_executor.specs.declared.machine.tick.TickAction.TheVariants.{Search, Remove, Exchange, Run}
 use Rattle.async_executor.specs.declared.machine.tick.TickEnd.{TickEnd}
 use Rattle.async_executor.specs.declared.machine.tick.TickEnd.TheVariants.{Yield, Return}
@@ -33,7 +33,7 @@ abbrev pub fair : ℕ
 fair = 64
 
 module _ {W : Type 0} where
-  abbrev pub ask : Runner → State → RunAction W → RunNext W
+  abbrev pub ask : Runner → RunState → RunAction W → RunNext W
   ask runner state action = Act (record { runner = runner; state = state }) action
 
   -- the run goes on at its next poll
@@ -87,7 +87,7 @@ module _ {W : Type 0} where
   resumed runner Leave decision = leaving runner decision
 
   -- the decision is the table's
-  abbrev pub DecidesIn : Runner → State → RunReply W → RunNext W → Type 0
+  abbrev pub DecidesIn : Runner → RunState → RunReply W → RunNext W → Type 0
   DecidesIn runner Starting Begin next = next ≡ ask runner Registering asks.Register
   DecidesIn runner Starting Dropped next = next ≡ ask runner Releasing asks.Release
   DecidesIn runner Starting _ next = Unit {0}

@@ -14,14 +14,14 @@ use Rattle.async_executor.specs.declared.machine.run.RunNext.TheVariants.{Act, R
 use Rattle.async_executor.specs.declared.machine.run.RunReply.{RunReply}
 use Rattle.async_executor.specs.declared.machine.run.Stage.{Stage}
 use Rattle.async_executor.specs.declared.machine.run.Stage.TheVariants as stage
-use Rattle.async_executor.specs.declared.machine.run.State.{State}
-use Rattle.async_executor.specs.declared.machine.run.State.TheVariants.{Starting, Resting, Registering, PollingOwn, Ticking, Sharing, Unregistering, Releasing}
+use Rattle.async_executor.specs.declared.machine.run.RunState.{RunState}
+use Rattle.async_executor.specs.declared.machine.run.RunState.TheVariants.{Starting, Resting, Registering, PollingOwn, Ticking, Sharing, Unregistering, Releasing}
 
 -- what a runner keeps beside its tick, by whether it is registered and what number it removes later
 abbrev pub keeps : Runner → Bool → Option ℕ → tick.Kept → Kept
 keeps runner registered later kept = record { tick = kept; count = runner.count; found = runner.found; registered = registered; later = later }
 
-abbrev pub kept_in : Runner → State → Kept
+abbrev pub kept_in : Runner → RunState → Kept
 kept_in runner Starting = keeps runner false None tick.nothing
 kept_in runner (Resting number) = keeps runner true None (tick.keeps number)
 kept_in runner Registering = keeps runner false None tick.nothing
@@ -52,7 +52,7 @@ module _ {W : Type 0} where
   IsRowFrom asked here row next =
       (asked ≡ row.answers) × (next_of next ≡ row.next) × (kept_after next ≡ row.kept) × ((notified : Bool) → ticker_after next ≡ row.step (here notified))
 
-  abbrev pub IsRowIn : Runner → State → RunReply W → RunNext W → Type 0
+  abbrev pub IsRowIn : Runner → RunState → RunReply W → RunNext W → Type 0
   IsRowIn runner state reply next =
       IsRowFrom (asked_in state) (λ notified. ticker_in runner notified state) (table (asked_in state) (kept_in runner state) reply) next
 

@@ -6,13 +6,13 @@ use Rattle.async_executor.specs.Runs.Decisions.{turn}
 use Rattle.async_executor.specs.Ticks.Courses.{Seeking, Departing, ends}
 use Rattle.async_executor.specs.Ticks.Steps as ticks
 use Rattle.async_executor.specs.declared.machine.run.Aim.TheVariants.{Work, PassOn, Leave}
-use Rattle.async_executor.specs.declared.machine.run.State.TheVariants.{Ticking}
+use Rattle.async_executor.specs.declared.machine.run.RunState.TheVariants.{Ticking}
 use Rattle.async_executor.specs.declared.machine.run.RunMachine.{RunMachine}
-use Rattle.async_executor.specs.declared.machine.run.State.{State}
+use Rattle.async_executor.specs.declared.machine.run.RunState.{RunState}
 use Rattle.async_executor.specs.declared.machine.run.RunReply.{RunReply}
 use Rattle.async_executor.specs.declared.machine.run.RunReply.TheVariants.{Begin, Dropped, Registered, NotRegistered, OwnPending, OwnReady, Tick, Moved, Unregistered, Released}
 use Rattle.async_executor.specs.declared.machine.tick.TickReply.{TickReply}
-use Rattle.async_executor.specs.declared.machine.tick.State as tick
+use Rattle.async_executor.specs.declared.machine.tick.TickState as tick
 
 -- drop of one that is awake: it ends, and another one has still to remove its number
 abbrev pub left_awake : Ticker → Ticker
@@ -24,14 +24,14 @@ ran count t = cond (nat_lt (count + 1) turn) (polled t) t
 
 module _ {W : Type 0} where
   -- the steps of the tick that acts for it
-  abbrev pub worked : ℕ → tick.State → TickReply W → Ticker → Ticker
+  abbrev pub worked : ℕ → tick.TickState → TickReply W → Ticker → Ticker
   worked count state reply t = cond (ends Seeking reply) (ran count t) (ticks.leads state reply t)
 
   -- its notice is spent, and then it is dropped
   abbrev pub passed_on : TickReply W → Ticker → Ticker
   passed_on reply t = cond (ends Departing reply) (left_awake t) t
 
-  abbrev pub ticked : ℕ → State → TickReply W → Ticker → Ticker
+  abbrev pub ticked : ℕ → RunState → TickReply W → Ticker → Ticker
   ticked count (Ticking Work machine) reply t = worked count machine.state reply t
   ticked count (Ticking (PassOn number) machine) reply t = passed_on reply t
   ticked count (Ticking Leave machine) reply t = ticks.leads machine.state reply t
@@ -52,10 +52,10 @@ module _ {W : Type 0} where
   leads machine Released t = ended t
 
   -- the run is where these steps are enabled, but for who holds the sleepers' lock
-  abbrev pub may_work : tick.State → TickReply W → Ticker → Bool
+  abbrev pub may_work : tick.TickState → TickReply W → Ticker → Bool
   may_work state reply t = cond (ends Seeking reply) (at_rest t.phase) (ticks.may_lead state reply t)
 
-  abbrev pub may_tick : State → TickReply W → Ticker → Bool
+  abbrev pub may_tick : RunState → TickReply W → Ticker → Bool
   may_tick (Ticking Work machine) reply t = may_work machine.state reply t
   may_tick (Ticking (PassOn number) machine) reply t = in_leaving t.phase
   may_tick (Ticking Leave machine) reply t = ticks.may_lead machine.state reply t

@@ -8,8 +8,8 @@ use Rattle.async_executor.specs.declared.machine.run.Aim.TheVariants.{Work, Pass
 use Rattle.async_executor.specs.declared.machine.run.Runner.{Runner}
 use Rattle.async_executor.specs.declared.machine.run.Stage.{Stage}
 use Rattle.async_executor.specs.declared.machine.run.Stage.TheVariants as stage
-use Rattle.async_executor.specs.declared.machine.run.State.{State}
-use Rattle.async_executor.specs.declared.machine.run.State.TheVariants.{Starting, Resting, Registering, PollingOwn, Ticking, Sharing, Unregistering, Releasing}
+use Rattle.async_executor.specs.declared.machine.run.RunState.{RunState}
+use Rattle.async_executor.specs.declared.machine.run.RunState.TheVariants.{Starting, Resting, Registering, PollingOwn, Ticking, Sharing, Unregistering, Releasing}
 use Rattle.async_executor.specs.declared.machine.run.RunAction.{RunAction}
 use Rattle.async_executor.specs.declared.machine.run.RunAction.TheVariants as asks
 use Rattle.async_executor.specs.declared.machine.run.RunMachine.{RunMachine}
@@ -25,7 +25,7 @@ abbrev pub run_at : Runner → Phase → ℕ → Ticker
 run_at runner phase number = ticks.ticker_at (runner_in runner) phase number
 
 -- the ticker of a machine, by the action that it asked for last; after the removal of its number, by whether that was notified
-abbrev pub ticker_in : Runner → Bool → State → Ticker
+abbrev pub ticker_in : Runner → Bool → RunState → Ticker
 ticker_in runner notified Starting = run_at runner phase.Rest 0
 ticker_in runner notified (Resting number) = run_at runner phase.Rest number
 ticker_in runner notified Registering = run_at runner phase.Rest 0

@@ -3,8 +3,8 @@ use Rattle.std.specs.Prelude.{◌≡◌, ◌<◌, ℕ, ◌+◌, ◌==◌, cond}
 use Rattle.async_executor.specs.Runs.Decisions.{turn}
 use Rattle.async_executor.specs.Ticks.{Asked, AskRun}
 use Rattle.async_executor.specs.Ticks as ticks
-use Rattle.async_executor.specs.declared.machine.run.State.{State}
-use Rattle.async_executor.specs.declared.machine.run.State.TheVariants.{Ticking}
+use Rattle.async_executor.specs.declared.machine.run.RunState.{RunState}
+use Rattle.async_executor.specs.declared.machine.run.RunState.TheVariants.{Ticking}
 use Rattle.async_executor.specs.declared.machine.run.RunAction.{RunAction}
 use Rattle.async_executor.specs.declared.machine.run.RunAction.TheVariants as asks
 use Rattle.async_executor.specs.declared.machine.run.RunMachine.{RunMachine}
@@ -17,7 +17,7 @@ abbrev pub under_way : Asked → ℕ
 under_way AskRun = 1
 under_way _ = 0
 
-abbrev pub under_way_in : State → ℕ
+abbrev pub under_way_in : RunState → ℕ
 under_way_in (Ticking aim machine) = under_way (ticks.asked machine)
 under_way_in _ = 0
 

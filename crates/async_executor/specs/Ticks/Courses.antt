@@ -1,8 +1,8 @@
 -- What a tick is after: a task, or its own end.
 use Rattle.std.specs.Prelude.{◌≡◌, Bool, true, false, Some, None}
 use Rattle.async_executor.specs.Ticks.{is_return}
-use Rattle.async_executor.specs.declared.machine.tick.State.{State}
-use Rattle.async_executor.specs.declared.machine.tick.State.TheVariants.{Resting, Searching, Inserting, Updating, Storing, Leaving}
+use Rattle.async_executor.specs.declared.machine.tick.TickState.{TickState}
+use Rattle.async_executor.specs.declared.machine.tick.TickState.TheVariants.{Resting, Searching, Inserting, Updating, Storing, Leaving}
 use Rattle.async_executor.specs.declared.machine.tick.LeavingState.TheVariants.{Removing, StoringRemoved, Exchanging, Notifying, Waking, Running}
 use Rattle.async_executor.specs.declared.machine.tick.TickMachine.{TickMachine}
 use Rattle.async_executor.specs.declared.machine.tick.TickNext.{TickNext}
@@ -16,7 +16,7 @@ pub data Course : Type 0 where
   Seeking : Course
   Departing : Course
 
-abbrev pub course_in : State → Course
+abbrev pub course_in : TickState → Course
 course_in (Resting number) = Waiting
 course_in (Searching number) = Seeking
 course_in Inserting = Seeking

@@ -3,8 +3,8 @@ use Rattle.std.specs.Prelude.{◌≡◌, ℕ, ◌==◌, true, false, Option, Som
 use Rattle.executor_core.specs.declared.task.values.Notice.{Notice}
 use Rattle.executor_core.specs.declared.task.values.Taken.{Taken}
 use Rattle.async_executor.specs.declared.machine.tick.LeavingState.{LeavingState}
-use Rattle.async_executor.specs.declared.machine.tick.State.{State}
-use Rattle.async_executor.specs.declared.machine.tick.State.TheVariants.{Resting, Searching, Inserting, Updating, Storing, Leaving}
+use Rattle.async_executor.specs.declared.machine.tick.TickState.{TickState}
+use Rattle.async_executor.specs.declared.machine.tick.TickState.TheVariants.{Resting, Searching, Inserting, Updating, Storing, Leaving}
 use Rattle.async_executor.specs.declared.machine.tick.LeavingState.TheVariants.{Removing, StoringRemoved, Exchanging, Notifying, Waking, Running}
 use Rattle.async_executor.specs.declared.machine.steps.Found.{Found}
 use Rattle.async_executor.specs.declared.machine.steps.Found.TheVariants as found
@@ -23,7 +23,7 @@ use Rattle.async_executor.specs.declared.machine.tick.TickReply.TheVariants as r
 use Rattle.async_executor.specs.declared.machine.tick.TickReply.TheVariants.{Begin, Dropped, Empty, NoWaker, NoPlace, Inserted, Asleep, WasNotified, Unknown, Stored, RemovedIt, StoredRemoved, Exchanged, Notified, Woken, Ran}
 
 module _ {W : Type 0} where
-  abbrev pub act : State → TickAction W → TickNext W
+  abbrev pub act : TickState → TickAction W → TickNext W
   act state action = Act (record { state = state }) action
 
   abbrev pub leave_by : LeavingState → TickAction W → TickNext W
@@ -62,7 +62,7 @@ module _ {W : Type 0} where
   after_removal None None = returned
 
   -- the decision is the table's
-  abbrev pub DecidesIn : State → TickReply W → TickNext W → Type 0
+  abbrev pub DecidesIn : TickState → TickReply W → TickNext W → Type 0
   DecidesIn (Resting number) Begin next = next ≡ act (Searching number) (Search None)
   DecidesIn (Resting number) Dropped next = next ≡ cond (number == 0) returned (leave_by (Removing number None) (Remove number))
   DecidesIn (Resting number) _ next = Unit {0}

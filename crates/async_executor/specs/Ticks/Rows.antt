@@ -6,8 +6,8 @@ use Rattle.async_executor.specs.Ticks.{asked_in}
 use Rattle.async_executor.specs.Ticks.Table.{Kept, keeps, nothing, Next, Ask, End, Row, table}
 use Rattle.async_executor.specs.Ticks.Tickers.{ticker_in, ticker_after}
 use Rattle.async_executor.specs.declared.machine.tick.LeavingState.TheVariants.{Removing, StoringRemoved, Exchanging, Notifying, Waking, Running}
-use Rattle.async_executor.specs.declared.machine.tick.State.{State}
-use Rattle.async_executor.specs.declared.machine.tick.State.TheVariants.{Resting, Searching, Inserting, Updating, Storing, Leaving}
+use Rattle.async_executor.specs.declared.machine.tick.TickState.{TickState}
+use Rattle.async_executor.specs.declared.machine.tick.TickState.TheVariants.{Resting, Searching, Inserting, Updating, Storing, Leaving}
 use Rattle.async_executor.specs.declared.machine.tick.TickMachine.{TickMachine}
 use Rattle.async_executor.specs.declared.machine.tick.TickNext.{TickNext}
 use Rattle.async_executor.specs.declared.machine.tick.TickNext.TheVariants.{Act, Rest}
@@ -20,7 +20,7 @@ abbrev pub keeps_found : ℕ → Option (Taken (Unit {0}) × Notice) → Kept
 keeps_found number (Some (taken, notice)) = record { number = number; task = Some taken; notice = Some notice }
 keeps_found number None = keeps number
 
-abbrev pub kept_in : State → Kept
+abbrev pub kept_in : TickState → Kept
 kept_in (Resting number) = keeps number
 kept_in (Searching number) = keeps number
 kept_in Inserting = nothing
@@ -44,7 +44,7 @@ module _ {W : Type 0} where
 
   -- the reply answers what the row says, and what is asked next and kept is the row's, and so is the step of the ticker, be it
   -- a tick or the run for which the tick acts
-  abbrev pub IsRowIn : State → TickReply W → TickNext W → Type 0
+  abbrev pub IsRowIn : TickState → TickReply W → TickNext W → Type 0
   IsRowIn state reply next =
       let row : Row W = table (asked_in state) (kept_in state) reply in
       (asked_in state ≡ row.answers) × (next_of next ≡ row.next) × (kept_after next ≡ row.kept) × ((runner : Option ℕ) (notified : Bool) → ticker_after runner next ≡ row.step (ticker_in runner notified state))

@@ -2,14 +2,14 @@
 use Rattle.std.specs.Prelude.{Bool, true, false, ◌&&◌, cond, is_some}
 use Rattle.executor_core.specs.World.Tickers.{at_rest, in_search, in_sleep, in_wake, in_store, in_leaving, is_awake, is_run, polled, searched, slept, rested, woke, dropped, ended, stored, left}
 use Rattle.executor_core.specs.declared.interleave.ticker.Ticker.{Ticker}
-use Rattle.async_executor.specs.declared.machine.tick.State.{State}
-use Rattle.async_executor.specs.declared.machine.tick.State.TheVariants.{Leaving}
+use Rattle.async_executor.specs.declared.machine.tick.TickState.{TickState}
+use Rattle.async_executor.specs.declared.machine.tick.TickState.TheVariants.{Leaving}
 use Rattle.async_executor.specs.declared.machine.tick.LeavingState.TheVariants.{Removing}
 use Rattle.async_executor.specs.declared.machine.tick.TickReply.{TickReply}
 use Rattle.async_executor.specs.declared.machine.tick.TickReply.TheVariants.{Begin, Dropped, Found, Empty, NoWaker, NoPlace, Inserted, Asleep, WasNotified, Unknown, Stored, RemovedIt, StoredRemoved, Exchanged, Notified, Woken, Ran}
 
 -- its number is removed since it has a task, or else since it is dropped
-abbrev pub has_task : State → Bool
+abbrev pub has_task : TickState → Bool
 has_task (Leaving (Removing number found)) = is_some found
 has_task _ = false
 
@@ -20,7 +20,7 @@ departed t = cond (is_run t) (left t) t
 -- what the steps make of the ticker; the values that a reply gives out to be spent are spent by no step of the ticker's own.
 -- Two rows are no step of a world if the tick acts for a run: `Ran`, since a run is then at rest and no step ends it, and
 -- `Dropped` of one that has a number, since a run leaves by the end of its queue. No machine of a run comes to them
-abbrev pub leads : {W : Type 0} → State → TickReply W → Ticker → Ticker
+abbrev pub leads : {W : Type 0} → TickState → TickReply W → Ticker → Ticker
 leads state Begin t = polled t
 leads state Dropped t = cond (is_awake t) (ended t) (departed t)
 leads state (Found taken notice) t = searched true t
@@ -40,7 +40,7 @@ leads state Woken t = t
 leads state Ran t = ended t
 
 -- the ticker is where these steps are enabled, but for who holds the sleepers' lock
-abbrev pub may_lead : {W : Type 0} → State → TickReply W → Ticker → Bool
+abbrev pub may_lead : {W : Type 0} → TickState → TickReply W → Ticker → Bool
 may_lead state Begin t = at_rest t.phase
 may_lead state Dropped t = at_rest t.phase
 may_lead state (Found taken notice) t = in_search t.phase

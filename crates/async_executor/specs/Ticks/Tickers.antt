@@ -5,8 +5,8 @@ use Rattle.executor_core.specs.declared.interleave.ticker.ListChange.TheVariants
 use Rattle.executor_core.specs.declared.interleave.ticker.Phase.{Phase}
 use Rattle.executor_core.specs.declared.interleave.ticker.Phase.TheVariants as phase
 use Rattle.executor_core.specs.declared.interleave.ticker.Ticker.{Ticker}
-use Rattle.async_executor.specs.declared.machine.tick.State.{State}
-use Rattle.async_executor.specs.declared.machine.tick.State.TheVariants.{Resting, Searching, Inserting, Updating, Storing, Leaving}
+use Rattle.async_executor.specs.declared.machine.tick.TickState.{TickState}
+use Rattle.async_executor.specs.declared.machine.tick.TickState.TheVariants.{Resting, Searching, Inserting, Updating, Storing, Leaving}
 use Rattle.async_executor.specs.declared.machine.tick.LeavingState.TheVariants.{Removing, StoringRemoved, Exchanging, Notifying, Waking, Running}
 use Rattle.async_executor.specs.declared.machine.tick.TickAction.{TickAction}
 use Rattle.async_executor.specs.declared.machine.tick.TickAction.TheVariants.{StoreRemoved}
@@ -28,7 +28,7 @@ abbrev pub dropped_phase : Option ℕ → Phase
 dropped_phase runner = cond (is_some runner) phase.Leaving phase.Rest
 
 -- the ticker of a machine, by the action that it asked for last; after the removal of its number, by whether that was notified
-abbrev pub ticker_in : Option ℕ → Bool → State → Ticker
+abbrev pub ticker_in : Option ℕ → Bool → TickState → Ticker
 ticker_in runner notified (Resting number) = ticker_at runner phase.Rest number
 ticker_in runner notified (Searching number) = ticker_at runner phase.Search number
 ticker_in runner notified Inserting = ticker_at runner phase.Sleep 0

@@ -29,10 +29,10 @@ use crate::machine::run_steps::{Begun, Dropped};
 use crate::machine::tick::{TickAction, TickEnd, TickMachine, TickNext, TickReply, TickRest};
 use Aim::{Leave, PassOn, Work};
 use RunAction::{Fair, PollOwn, Register, Release, Tick, Unregister};
-use Stage::{Ended, Joined, New};
-use State::{
+use RunState::{
     PollingOwn, Registering, Releasing, Resting, Sharing, Starting, Ticking, Unregistering,
 };
+use Stage::{Ended, Joined, New};
 use executor_core::queue::RunnerKey;
 use executor_core::task::{Notice, Taken};
 
@@ -227,7 +227,7 @@ pub enum RunNext<W> {
 
 // What a machine waits for, with what it keeps meanwhile: the number under which the run sleeps, or
 // the machine of a tick that acts for it.
-enum State {
+enum RunState {
     Starting,
     Resting(usize),
     Registering,
@@ -249,7 +249,7 @@ enum Aim {
 
 // Asks for an action.
 #[inline(always)]
-fn ask<W>(runner: Runner, state: State, action: RunAction<W>) -> RunNext<W>
+fn ask<W>(runner: Runner, state: RunState, action: RunAction<W>) -> RunNext<W>
     ensures { result ≡ ask runner state action }
 {
     RunNext::Act(RunMachine { runner, state }, action)
@@ -347,7 +347,7 @@ fn go_on_leaving<W>(runner: Runner, next: TickNext<W>) -> RunNext<W>
 /// with its actions.
 pub struct RunMachine {
     runner: Runner,
-    state: State,
+    state: RunState,
 }
 
 impl RunMachine {

@@ -25,7 +25,6 @@ ghost use Rattle.async_executor.specs.Ticks.Steps.{leads, may_lead};
 use crate::machine::steps;
 use crate::machine::steps::{Announcing, Departing, GoingToSleep, Rested, Yielding, joined};
 use LeavingState::{Exchanging, Notifying, Removing, Running, StoringRemoved, Waking};
-use State::{Inserting, Leaving, Resting, Searching, Storing, Updating};
 use TickAction::{
     Exchange, Insert, Notify, Remove, Run, Search, Store, StoreRemoved, Update, Wake,
 };
@@ -34,6 +33,7 @@ use TickReply::{
     Asleep, Begin, Dropped, Empty, Exchanged, Found, Inserted, NoPlace, NoWaker, Notified, Ran,
     RemovedIt, Stored, StoredRemoved, Unknown, WasNotified, Woken,
 };
+use TickState::{Inserting, Leaving, Resting, Searching, Storing, Updating};
 use executor_core::sleepers::Removed;
 use executor_core::task::{Again, Change, Notice, Pick, Taken, Wakeup};
 
@@ -227,7 +227,7 @@ pub enum TickNext<W> {
 }
 
 // What a machine waits for, with what it keeps meanwhile: the number under which the tick sleeps.
-enum State {
+enum TickState {
     Resting(usize),
     Searching(usize),
     Inserting,
@@ -248,7 +248,7 @@ enum LeavingState {
 
 // Asks for an action.
 #[inline(always)]
-fn act<W>(state: State, action: TickAction<W>) -> TickNext<W>
+fn act<W>(state: TickState, action: TickAction<W>) -> TickNext<W>
     ensures { result ≡ act state action }
 {
     TickNext::Act(TickMachine { state }, action)
@@ -314,7 +314,7 @@ fn go_to_sleep<W>(going: GoingToSleep<Alone>) -> TickNext<W>
 // The list was changed by going to sleep.
 #[inline(always)]
 fn slept<W>(storing: steps::Storing<Alone>, change: Change<Again>) -> TickNext<W>
-    ensures { result ≡ act (State.Storing storing.number) (TickAction.Store change) }
+    ensures { result ≡ act (TickState.Storing storing.number) (TickAction.Store change) }
 {
     let steps::Storing { actor: _, number } = storing;
     act(Storing(number), Store(change))
@@ -332,7 +332,7 @@ fn yielded<W>(yielding: Yielding<Alone>) -> TickNext<W>
 /// Decides what a tick does next. It has the task that the tick has taken and the notice that it
 /// keeps, and what else must be spent goes out with its actions.
 pub struct TickMachine {
-    state: State,
+    state: TickState,
 }
 
 impl TickMachine {
@@ -355,7 +355,7 @@ impl TickMachine {
     #[inline(always)]
     pub fn start(rest: TickRest) -> TickMachine
         requires { rest.ended ≡ false }
-        ensures machine { result ≡ record { state = State.Resting rest.number } }
+        ensures machine { result ≡ record { state = TickState.Resting rest.number } }
         ensures asked { asked result ≡ AskStart }
         ensures ticker { (runner : Option ℕ) (notified : Bool) → ticker_of runner notified result ≡ rest_ticker runner rest }
     {
@@ -436,14 +436,14 @@ impl TickMachine {
 // What comes after this reply for a tick that has a task or is dropped.
 #[inline(always)]
 fn leave<W>(state: LeavingState, reply: TickReply<W>) -> TickNext<W>
-    requires { answers (asked_in (State.Leaving state)) reply ≡ true }
-    ensures decided { DecidesIn (State.Leaving state) reply result }
+    requires { answers (asked_in (TickState.Leaving state)) reply ≡ true }
+    ensures decided { DecidesIn (TickState.Leaving state) reply result }
     ensures asked { IsAsked result }
     ensures store { store_asked result ≡ store_after reply }
-    ensures ticker { (runner : Option ℕ) (notified : Bool) → ticker_after runner result ≡ leads (State.Leaving state) reply (ticker_in runner notified (State.Leaving state)) }
-    ensures enabled { (runner : Option ℕ) (notified : Bool) → may_lead (State.Leaving state) reply (ticker_in runner notified (State.Leaving state)) ≡ true }
-    ensures table { IsRowIn (State.Leaving state) reply result }
-    ensures course { KeepsCourse (course_in (State.Leaving state)) reply result }
+    ensures ticker { (runner : Option ℕ) (notified : Bool) → ticker_after runner result ≡ leads (TickState.Leaving state) reply (ticker_in runner notified (TickState.Leaving state)) }
+    ensures enabled { (runner : Option ℕ) (notified : Bool) → may_lead (TickState.Leaving state) reply (ticker_in runner notified (TickState.Leaving state)) ≡ true }
+    ensures table { IsRowIn (TickState.Leaving state) reply result }
+    ensures course { KeepsCourse (course_in (TickState.Leaving state)) reply result }
 {
     match state {
         Removing(_, found) => match reply {

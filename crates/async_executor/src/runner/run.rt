@@ -9,9 +9,10 @@ ghost use Rattle.async_executor.specs.declared.machine.run.Stage.TheVariants as 
 ghost use Rattle.async_executor.specs.RunError.{run_cause, run_future};
 ghost use Rattle.async_executor.specs.Answers.{is_ready};
 ghost use Rattle.async_executor.specs.Runs.{has_ended, ids_in};
-ghost use Rattle.async_executor.specs.Store.{IsHeldRight};
+ghost use Rattle.async_executor.specs.LeftOver.{IsHeldRight};
 
 use crate::home::{Home, OutIn, OutputIn};
+use crate::left_over::EndThenSearch;
 use crate::machine::{
     Begun, Dropped, GoingToSleep, NotRegistered, OwnPolled, PollingOwn, Registering, RunMachine,
     RunRest, Runner, Running, Searching, Started, UnderWay, Unregistering, Yielding,
@@ -19,7 +20,6 @@ use crate::machine::{
 use crate::runner::words::Words;
 use crate::scheduler::{ExecutorIn, poll_taken};
 use crate::state::announce;
-use crate::store::EndThenSearch;
 use crate::ticker::{Slept, announce_found, leave, sleep};
 use executor_core::queue::{Ring, RunnerError, RunnerKey};
 use executor_core::task::{Again, Future, Notice, Poll, Ran, Taken, TaskId, Wake};

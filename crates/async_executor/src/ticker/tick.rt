@@ -11,7 +11,7 @@ use crate::machine::{
     Departing, Found, GoingToSleep, Rested, Running, Searching, TickMachine, TickRest,
 };
 use crate::scheduler::ExecutorIn;
-use crate::state::{State, announce};
+use crate::state::{ExecutorState, announce};
 use executor_core::sleepers::{Removed, Update};
 use executor_core::task::{Again, Future, Notice, Poll, Wake};
 use std::sync::Wait;
@@ -38,7 +38,7 @@ impl<'a, H: Home> TickIn<'a, H> {
 /// before. Then the task is run.
 #[inline(always)]
 pub(crate) fn announce_found<A, W: Wake, R: Wait + Clone + Drop>(
-    state: &State<W, R>,
+    state: &ExecutorState<W, R>,
     found: Found<A>,
 ) -> Running<A> {
     let (announcing, notice) = match found {
@@ -64,7 +64,7 @@ pub(crate) enum Slept<A> {
 /// Puts a copy of the waker into the list, in place of an earlier one, and stores the flag where the
 /// list was changed. Where the copy is refused, the waker itself is woken.
 pub(crate) fn sleep<A, W: Wake, R: Wait + Clone + Drop>(
-    state: &State<W, R>,
+    state: &ExecutorState<W, R>,
     going: GoingToSleep<A>,
     w: &W,
 ) -> Slept<A> {
@@ -110,7 +110,10 @@ pub(crate) fn sleep<A, W: Wake, R: Wait + Clone + Drop>(
 
 // Takes the sleeper of this number out of the list, and stores the flag before the list's lock is
 // given up. There is a notice if it was notified.
-fn remove<W: Wake, R: Wait + Clone + Drop>(state: &State<W, R>, number: usize) -> Option<Notice> {
+fn remove<W: Wake, R: Wait + Clone + Drop>(
+    state: &ExecutorState<W, R>,
+    number: usize,
+) -> Option<Notice> {
     let mut guard = state.sleepers();
     let sleepers = &mut guard.sleepers;
     let change = sleepers.remove(number);
@@ -122,7 +125,7 @@ fn remove<W: Wake, R: Wait + Clone + Drop>(state: &State<W, R>, number: usize) -
 
 /// Leaves the sleepers for good. What a number was notified of is passed on.
 pub(crate) fn leave<A, W: Wake, R: Wait + Clone + Drop>(
-    state: &State<W, R>,
+    state: &ExecutorState<W, R>,
     departing: &Departing<A>,
 ) {
     if let Some(number) = departing.number() {

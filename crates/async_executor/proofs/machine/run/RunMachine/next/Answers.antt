@@ -2,7 +2,7 @@ use Rattle.std.proofs.Common.{◌+◌, ◌<◌, subst, sym, ap, ◌∙◌, rules
 use Rattle.async_executor.specs.Runs.Decisions.{turn}
 use Rattle.async_executor.specs.Runs.Tickers.{ticker_after}
 use Rattle.async_executor.specs.Runs.Turns.{TurnFrom, under_way_in}
-use Rattle.async_executor.specs.declared.machine.run.State.TheVariants.{Ticking}
+use Rattle.async_executor.specs.declared.machine.run.RunState.TheVariants.{Ticking}
 use Rattle.async_executor.proofs.RunRows.{ticked_row}
 use Rattle.async_executor.proofs.Runs.{ticking_gate, keeps_fit, resumed_seen, resumed_in_turn, ticked_next, may_by_aim, may_next}
 use Rattle.async_executor.proofs.machine.run.RunMachine.next.Goals as goal

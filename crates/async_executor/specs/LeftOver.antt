@@ -1,0 +1,26 @@
+use Rattle.std.specs.Prelude.{◌≡◌, true, false}
+use Rattle.executor_core.specs.declared.task.polling.Ran.{Ran}
+use Rattle.executor_core.specs.declared.task.polling.Ran.TheVariants.{Pending, Ready, Dropped}
+use Rattle.async_executor.specs.declared.left_over.EndThenSearch.{EndThenSearch}
+use Rattle.async_executor.specs.declared.left_over.EndThenSearch.TheVariants.{Searched, Left}
+use Rattle.async_executor.specs.declared.left_over.LeftOver.{LeftOver}
+use Rattle.async_executor.specs.declared.left_over.LeftOver.TheVariants.{Refused, Woken, ToDrop, Finished}
+
+module _ {T : Type 0} where
+  -- what is held of a task that was run is to be dropped exactly where its future was
+  abbrev pub IsHeldRight : Ran (Unit {0}) T → Type 0
+  IsHeldRight (Pending held future) = held.to_drop ≡ false
+  IsHeldRight (Ready held output) = held.to_drop ≡ false
+  IsHeldRight (Dropped held) = held.to_drop ≡ true
+
+module _ {W T : Type 0} where
+  -- what is left to drop of a task
+  abbrev pub IsLeftRight : LeftOver W T → Type 0
+  IsLeftRight (Refused held) = held.to_drop ≡ false
+  IsLeftRight (Woken held notice) = held.to_drop ≡ false
+  IsLeftRight (ToDrop held) = held.to_drop ≡ true
+  IsLeftRight (Finished unwanted awaiter) = Unit {0}
+
+  abbrev pub IsEndRight : EndThenSearch W T → Type 0
+  IsEndRight (Searched notice found) = Unit {0}
+  IsEndRight (Left left) = IsLeftRight left

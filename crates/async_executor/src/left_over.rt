@@ -1,0 +1,40 @@
+//! What the end of a task leaves to do once no lock is held.
+ghost use Rattle.std.specs.Prelude.{IfErr};
+ghost use Rattle.async_executor.specs.LeftOver.{IsLeftRight};
+
+use executor_core::task::{Held, Notice, Taken, Wakeup};
+
+/// What the end of a task leaves to do.
+pub enum LeftOver<W, T> {
+    /// The future has no place. It is to be dropped, and then the task is to be ended.
+    Refused(Held),
+    /// The task was woken during its poll, and the notice of that is to be spent. Then the task is
+    /// to be ended.
+    Woken(Held, Notice),
+    /// The task was cancelled meanwhile. The future is to be dropped.
+    ToDrop(Held),
+    /// The output is to be dropped, and the awaiter to be woken.
+    Finished(Option<T>, Option<Wakeup<W>>),
+}
+
+/// What came of the end of a task and of a search after it, made as one change.
+pub enum EndThenSearch<W, T> {
+    /// The task was ended, with a notice where it was queued. This is what the search found.
+    Searched(Option<Notice>, Option<(Taken<()>, Notice)>),
+    /// The end leaves something to do first, so nothing was searched.
+    Left(LeftOver<W, T>),
+}
+
+/// What is left to do of a task that has ended.
+#[inline(always)]
+pub(crate) fn finished<W, T>(
+    unwanted: Option<T>,
+    awaiter: Option<Wakeup<W>>,
+) -> Result<Option<Notice>, LeftOver<W, T>>
+    ensures { IfErr result (λ left. IsLeftRight left) }
+{
+    match (unwanted, awaiter) {
+        (None, None) => Ok(None),
+        (unwanted, awaiter) => Err(LeftOver::Finished(unwanted, awaiter)),
+    }
+}
