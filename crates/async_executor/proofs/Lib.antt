@@ -1,3 +1,4 @@
+mod Handles
 mod Places
 mod RunRows
 mod Runs

@@ -4,6 +4,7 @@ pub mod LeftOver
 pub mod Poller
 pub mod RunError
 pub mod Runs
+pub mod SpawnMany
 pub mod Steps
 pub mod Store
 pub mod Ticks

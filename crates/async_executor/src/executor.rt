@@ -3,9 +3,11 @@
 //! Each of them has what is written once for every home, at the shared one. It is a type of its own,
 //! so that a caller meets the bounds of its future, its waker and its right to wait, and no home.
 ghost use Rattle.std.specs.Prelude.{◌≡◌, false, IfOk, IfErr};
+ghost use Rattle.std.specs.Iterator.{IsFinite};
 ghost use Rattle.executor_core.specs.SpawnError.{refused_future};
 ghost use Rattle.async_executor.specs.RunError.{run_future};
 ghost use Rattle.async_executor.specs.Runs.{has_ended};
+ghost use Rattle.async_executor.specs.SpawnMany.{spawned, SpawnsInTurn, AddsHandles};
 
 mod handles;
 mod tickers;
@@ -13,8 +15,10 @@ mod tickers;
 use crate::home::SharedHome;
 pub use crate::runner::RunError;
 use crate::scheduler::ExecutorIn;
+pub use crate::scheduler::SpawnMany;
 pub use crate::task::Cancelled;
 pub use crate::waker::TaskWaker;
+pub use executor_core::queue::RunnerError;
 use executor_core::task::{Future, OutOfMemory, SpawnError, Wake};
 pub use handles::{Cancel, FallibleTask, Task};
 use std::alloc::Global;
@@ -74,6 +78,32 @@ where
             Ok(inner) => Ok(Task { inner }),
             Err(error) => Err(error),
         }
+    }
+
+    /// Schedules each future that the iterator gives as a new task, in turn, and puts its handle at
+    /// the end of the Vec. For each of them the place of its handle is reserved first, then the
+    /// iterator is asked, and then it is spawned as by `spawn`: no lock is held while the iterator is
+    /// asked, so it may use the executor, and a sleeper is notified once a task is queued. It answers
+    /// how many were spawned.
+    ///
+    /// # Errors
+    ///
+    /// Where memory is refused, or no number is left for a task. Those that were spawned before
+    /// stay, with their handles in the Vec. The future that was refused is given back; there is none
+    /// where the place of its handle was refused.
+    ///
+    /// Example: `uses::spawns_many`.
+    pub fn spawn_many<I: Iterator<Item = F>>(
+        &self,
+        futures: I,
+        handles: &mut Vec<Task<F, W, R>>,
+    ) -> Result<usize, SpawnMany<F>>
+        requires can { I.can_next futures }
+        requires ends { IsFinite (I.remaining futures) }
+        ensures futures { SpawnsInTurn I.next_gives futures result }
+        ensures handles { AddsHandles (λ task. task.inner.answered) handles.old.items (spawned result) handles.new.items }
+    {
+        self.inner.spawn_many(futures, handles)
     }
 }
 

@@ -30,6 +30,7 @@ pub mod ticker;
 pub(crate) mod waker;
 
 pub use executor::{
-    Cancel, Cancelled, Executor, FallibleTask, Run, RunError, Task, TaskWaker, Tick,
+    Cancel, Cancelled, Executor, FallibleTask, Run, RunError, RunnerError, SpawnMany, Task,
+    TaskWaker, Tick,
 };
 pub use executor_core::task::{Future, OutOfMemory, Poll, SpawnError, Wake};

@@ -11,6 +11,8 @@ ghost use Rattle.async_executor.specs.RunError.{run_future};
 ghost use Rattle.async_executor.specs.Runs.{has_ended};
 ghost use Rattle.async_executor.specs.LeftOver.{IsHeldRight, IsLeftRight};
 
+mod many;
+
 use crate::home::{Home, OutIn, OutputIn};
 use crate::left_over::LeftOver;
 use crate::limits::LOCAL_PLACES;
@@ -23,6 +25,8 @@ use executor_core::queue::Ring;
 use executor_core::task::{
     EndPending, Future, Held, OutOfMemory, Ran, SpawnError, Taken, TaskId, run_taken,
 };
+pub(crate) use many::Handle;
+pub use many::SpawnMany;
 use std::alloc::Global;
 
 /// A share of an executor, which spawns tasks and runs them.

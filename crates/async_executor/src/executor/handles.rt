@@ -4,6 +4,7 @@ ghost use Rattle.async_executor.specs.Answers.{is_ready, IsReadyErr, IsReadyNone
 
 use crate::executor::TaskWaker;
 use crate::home::SharedHome;
+use crate::scheduler::Handle;
 use crate::task::{Cancelled, TaskIn, some_if_ok};
 use executor_core::task::{Future, Poll, Wake};
 use std::sync::Wait;
@@ -67,6 +68,21 @@ where
         ensures { IsTrue self.now.inner.answered → IsTrue result }
     {
         self.inner.is_finished()
+    }
+}
+
+impl<F, W, R> Handle<SharedHome<F, W, R>> for Task<F, W, R>
+where
+    F: Future<TaskWaker<W, R>>,
+    W: Wake,
+    R: Wait + Clone + Drop,
+{
+    ghost answered = { λ task. task.inner.answered };
+
+    fn of(inner: TaskIn<SharedHome<F, W, R>>) -> Self
+        ensures { result.inner.answered ≡ inner.answered }
+    {
+        Task { inner }
     }
 }
 

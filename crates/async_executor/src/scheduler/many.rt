@@ -1,0 +1,95 @@
+//! Spawns the futures that an iterator gives.
+ghost use Rattle.std.specs.Prelude.{◌≡◌, Bool, Some};
+ghost use Rattle.std.specs.Iterator.{IsFinite};
+ghost use Rattle.executor_core.specs.SpawnError.{refused_future};
+ghost use Rattle.async_executor.specs.SpawnMany.{spawn_cause, spawned, SpawnsInTurn, AddsHandles};
+
+use crate::home::Home;
+use crate::scheduler::ExecutorIn;
+use crate::task::TaskIn;
+use executor_core::queue::RunnerError;
+use executor_core::task::SpawnError;
+use thiserror::Error;
+
+/// Why not every future was spawned. Those that were stay, and their handles are in the Vec.
+#[derive(Debug, PartialEq, Eq, Drop, Error)]
+#[error("no more than {spawned} tasks were spawned")]
+pub struct SpawnMany<F> {
+    /// How many were spawned.
+    pub spawned: usize,
+    /// The future that was refused. `None` where the place for its handle was refused, before the
+    /// iterator was asked for it.
+    pub refused: Option<F>,
+    /// What there was none of: memory, or a number for the task.
+    pub cause: RunnerError,
+}
+
+impl<F> SpawnMany<F> {
+    // What is said of a future that was refused after so many were spawned.
+    fn of(error: SpawnError<F>, spawned: usize) -> SpawnMany<F>
+        ensures spawned { result.spawned ≡ spawned }
+        ensures refused { result.refused ≡ Some (refused_future error) }
+        ensures cause { result.cause ≡ spawn_cause error }
+    {
+        let cause = match &error {
+            SpawnError::OutOfMemory(_) => RunnerError::OutOfMemory,
+            SpawnError::Exhausted(_) => RunnerError::Exhausted,
+        };
+        SpawnMany {
+            spawned,
+            refused: Some(error.into_inner()),
+            cause,
+        }
+    }
+
+    /// The future that was refused.
+    pub fn into_inner(self) -> Option<F>
+        ensures { result ≡ self.refused }
+    {
+        let SpawnMany { refused, .. } = self;
+        refused
+    }
+}
+
+/// A handle that callers see, which is made of what is written once for every home.
+pub trait Handle<H: Home>: Drop {
+    ghost answered: { Self → Bool };
+
+    /// The handle of this task.
+    fn of(task: TaskIn<H>) -> Self
+        ensures { answered result ≡ task.answered };
+}
+
+impl<H: Home> ExecutorIn<H> {
+    /// Schedules each future that the iterator gives as a new task, and puts its handle at the end
+    /// of the Vec. No lock is held while the iterator is asked.
+    pub(crate) fn spawn_many<T: Handle<H>, I: Iterator<Item = H::Future>>(
+        &self,
+        mut futures: I,
+        handles: &mut Vec<T>,
+    ) -> Result<usize, SpawnMany<H::Future>>
+        requires can { I.can_next futures }
+        requires ends { IsFinite (I.remaining futures) }
+        ensures futures { SpawnsInTurn I.next_gives futures result }
+        ensures handles { AddsHandles T.answered handles.old.items (spawned result) handles.new.items }
+    {
+        let before = handles.len();
+        loop {
+            let spawned = handles.len() - before;
+            if handles.try_reserve(1).is_err() {
+                return Err(SpawnMany {
+                    spawned,
+                    refused: None,
+                    cause: RunnerError::OutOfMemory,
+                });
+            }
+            let Some(future) = futures.next() else {
+                return Ok(spawned);
+            };
+            match self.spawn(future) {
+                Ok(task) => handles.push_reserved(T::of(task)),
+                Err(error) => return Err(SpawnMany::of(error, spawned)),
+            }
+        }
+    }
+}
