@@ -16,7 +16,7 @@ use Rattle.executor_core.specs.declared.task.cell.Numbered.{Numbered}
 use Rattle.executor_core.specs.declared.task.id.TaskId.{TaskId}
 
 module _ {P T W : Type 0} where
-  settled_cancelled : (c : Cell P T W) → Settled c → Settled (cancelled_cell c)
+  pub settled_cancelled : (c : Cell P T W) → Settled c → Settled (cancelled_cell c)
   settled_cancelled c settled dropped = settled (sym (undropped-state_woken c.state) ∙ dropped)
 
   -- the id's cell, whose cancel changes no queue
@@ -36,15 +36,15 @@ module _ {P T W : Type 0} where
       loud_write sound id e (cancelled_cell e.cell) there number refl (settled_cancelled e.cell (sound.settled id.slot e there)) idle room same_room longer
 
   -- what a cancel gives
-  pub cancel_table : {next capacity undropped : ℕ} {slots : List (Option (Numbered (Cell P T W)))} {ids : List TaskId}
+  pub cancel_table : {closed : Bool} {next capacity undropped : ℕ} {slots : List (Option (Numbered (Cell P T W)))} {ids : List TaskId}
       → IsSound next slots ids capacity undropped
       → (q : QueueState) (id : TaskId) (e : Numbered (Cell P T W)) (later : List TaskId) → get_or slots id.slot None ≡ Some e → e.number ≡ id.number → e.cell.has_handle ≡ true
       → numbers_of later ≡ cond (is_idle e.cell.state) (numbers_of q.lists.global ++ id.number ∷ []) (numbers_of q.lists.global)
-      → table_of next (set slots id.slot (Some (record { number = e.number; cell = cancelled_cell e.cell }))) (with_global later q) ≡ after_cancel (table_of next slots q) id
-  cancel_table {next} {slots = slots} sound q id e later there number handle lists =
+      → table_of next (set slots id.slot (Some (record { number = e.number; cell = cancelled_cell e.cell }))) (with_global later q) closed ≡ after_cancel (table_of next slots q closed) id
+  cancel_table {closed} {next} {slots = slots} sound q id e later there number handle lists =
       table_set next slots (with_global later q) id e (cancelled_cell e.cell) _ sound.distinct there number lists
-      ∙ sym (ap (cancel_at (table_of next slots q) id) (cell_at_entry sound id e there number)
-      ∙ ap (λ b. cond b (queued_if (is_idle e.cell.state) (with_cell (table_of next slots q) id (cancelled_cell e.cell)) id) (table_of next slots q)) handle)
+      ∙ sym (ap (cancel_at (table_of next slots q closed) id) (cell_at_entry sound id e there number)
+      ∙ ap (λ b. cond b (queued_if (is_idle e.cell.state) (with_cell (table_of next slots q closed) id (cancelled_cell e.cell)) id) (table_of next slots q closed)) handle)
 
   pub cancel_queues_is : {next capacity undropped : ℕ} {slots : List (Option (Numbered (Cell P T W)))} {ids : List TaskId}
       → IsSound next slots ids capacity undropped → (id : TaskId) (e : Numbered (Cell P T W)) {b : Bool}

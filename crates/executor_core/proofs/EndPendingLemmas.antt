@@ -1,5 +1,5 @@
 -- What the end of a poll that was pending keeps and gives.
-use Rattle.std.proofs.Common.{◌≡◌, ℕ, ◌||◌, true, false, List, [], ◌∷◌, ◌++◌, set, get_or, Option, Some, None, cond, refl, sym, ap, ◌∙◌}
+use Rattle.std.proofs.Common.{◌≡◌, ℕ, Bool, ◌||◌, true, false, List, [], ◌∷◌, ◌++◌, set, get_or, Option, Some, None, cond, refl, sym, ap, ◌∙◌}
 use Rattle.executor_core.specs.Cells.{Table}
 use Rattle.executor_core.specs.Cell.{is_idle, is_held, is_scheduled, is_undropped}
 use Rattle.executor_core.specs.Cells.View.{numbers_of, table_of, IsSound}
@@ -41,15 +41,15 @@ module _ {P T W : Type 0} where
       (λ dropped. absurd (cc (ap (λ b. is_undropped {P = P} {T = T} (cond b (Scheduled p) (Idle p))) woken, dropped)))
       room same_room longer
 
-  pub end_pending_table : {next capacity undropped : ℕ} {slots : List (Option (Numbered (Cell P T W)))} {ids : List TaskId}
+  pub end_pending_table : {closed : Bool} {next capacity undropped : ℕ} {slots : List (Option (Numbered (Cell P T W)))} {ids : List TaskId}
       → IsSound next slots ids capacity undropped
       → (q : QueueState) (id : TaskId) (e : Numbered (Cell P T W)) (p : P) (later : List TaskId) → get_or slots id.slot None ≡ Some e → e.number ≡ id.number → takes_back e.cell ≡ true
       → numbers_of later ≡ cond e.cell.woken (numbers_of q.lists.global ++ id.number ∷ []) (numbers_of q.lists.global)
-      → table_of next (set slots id.slot (Some (record { number = e.number; cell = pended e.cell p }))) (with_global later q) ≡ after_end_pending (table_of next slots q) id p
-  end_pending_table {next} {slots = slots} sound q id e p later there number out lists =
+      → table_of next (set slots id.slot (Some (record { number = e.number; cell = pended e.cell p }))) (with_global later q) closed ≡ after_end_pending (table_of next slots q closed) id p
+  end_pending_table {closed} {next} {slots = slots} sound q id e p later there number out lists =
       table_set next slots (with_global later q) id e (pended e.cell p) _ sound.distinct there number lists
-      ∙ sym (ap (end_pending_at (table_of next slots q) id p) (cell_at_entry sound id e there number)
-      ∙ ap (λ b. cond b (queued_if e.cell.woken (with_cell (table_of next slots q) id (pended e.cell p)) id) (table_of next slots q)) out)
+      ∙ sym (ap (end_pending_at (table_of next slots q closed) id p) (cell_at_entry sound id e there number)
+      ∙ ap (λ b. cond b (queued_if e.cell.woken (with_cell (table_of next slots q closed) id (pended e.cell p)) id) (table_of next slots q closed)) out)
 
   -- nothing is out for the id
   pub after_end_pending-absent : (table : Table P T W) (id : TaskId) (p : P) (o : Option (Cell P T W)) → takes_back_in o ≡ false → end_pending_at table id p o ≡ table

@@ -108,11 +108,11 @@ module _ {P T W : Type 0} where
   pub poll_some : (w : W) (c : Cell P T W) {b : Bool} → c.has_handle ≡ true → is_undropped c.state ≡ b → poll_answer w (Some c) ≡ cond b (Pending c.awaiter) (ended_answer w (output_of c.state))
   poll_some w c handle undropped = rw (handle, undropped) refl
 
-  pub set_table : {next capacity undropped : ℕ} {slots : List (Option (Numbered (Cell P T W)))} {ids : List TaskId}
+  pub set_table : {closed : Bool} {next capacity undropped : ℕ} {slots : List (Option (Numbered (Cell P T W)))} {ids : List TaskId}
       → IsSound next slots ids capacity undropped
       → (q : QueueState) (id : TaskId) (e : Numbered (Cell P T W)) (c : Cell P T W) → get_or slots id.slot None ≡ Some e → e.number ≡ id.number
-      → table_of next (set slots id.slot (Some (record { number = e.number; cell = c }))) q ≡ with_cell (table_of next slots q) id c
-  set_table {next} {slots = slots} sound q id e c there number = table_set next slots q id e c (numbers_of q.lists.global) sound.distinct there number refl
+      → table_of next (set slots id.slot (Some (record { number = e.number; cell = c }))) q closed ≡ with_cell (table_of next slots q closed) id c
+  set_table {closed} {next} {slots = slots} sound q id e c there number = table_set next slots q id e c (numbers_of q.lists.global) sound.distinct there number refl
 
   pub answer_kept : (t : T) (c : Cell P T W) → is_held c.state ≡ true → c.has_handle ≡ true → ready_answer t (Some c) ≡ record { awaiter = wakeup_of c.awaiter; unwanted = cond c.cancelled (Some t) None }
   answer_kept t c held handle = answer_some t c held handle ∙ by c.cancelled

@@ -64,14 +64,14 @@ module _ {P T W : Type 0} where
       ]
 
   -- what was read in the id's slot tells its cell
-  pub cell_at_read : {next capacity undropped : ℕ} {slots : List (Option (Numbered (Cell P T W)))} {ids : List TaskId} {table : Table P T W}
-      → IsSound next slots ids capacity undropped → (q : QueueState) → table_of next slots q ≡ table
+  pub cell_at_read : {closed : Bool} {next capacity undropped : ℕ} {slots : List (Option (Numbered (Cell P T W)))} {ids : List TaskId} {table : Table P T W}
+      → IsSound next slots ids capacity undropped → (q : QueueState) → table_of next slots q closed ≡ table
       → (id : TaskId) {read : Option (Numbered (Cell P T W))} → read ≡ get_or slots id.slot None → cell_in id.number read ≡ cell_at table id
   cell_at_read sound q seen_is id is = ap (cell_in id.number) is ∙ sym (cell_at_is sound id) ∙ ap (λ s. cell_at s id) seen_is
 
   -- what a test finds at the id, it finds in the slot
-  pub test_at : {next capacity undropped : ℕ} {slots : List (Option (Numbered (Cell P T W)))} {ids : List TaskId} {table : Table P T W}
-      → IsSound next slots ids capacity undropped → (q : QueueState) → table_of next slots q ≡ table
+  pub test_at : {closed : Bool} {next capacity undropped : ℕ} {slots : List (Option (Numbered (Cell P T W)))} {ids : List TaskId} {table : Table P T W}
+      → IsSound next slots ids capacity undropped → (q : QueueState) → table_of next slots q closed ≡ table
       → (F : Option (Cell P T W) → Bool) (id : TaskId) {b : Bool} → b ≡ F (cell_at table id) → F (cell_in id.number (get_or slots id.slot None)) ≡ b
   test_at sound q seen_is F id is = sym (is ∙ ap (λ s. F (cell_at s id)) (sym seen_is) ∙ ap F (cell_at_is sound id))
 
@@ -81,8 +81,8 @@ module _ {P T W : Type 0} where
     pub there : get_or slots id.slot None ≡ Some entry
     pub passes : F (Some entry.cell) ≡ true
 
-  pub passes_at : {next capacity undropped : ℕ} {slots : List (Option (Numbered (Cell P T W)))} {ids : List TaskId} {table : Table P T W}
-      → IsSound next slots ids capacity undropped → (q : QueueState) → table_of next slots q ≡ table
+  pub passes_at : {closed : Bool} {next capacity undropped : ℕ} {slots : List (Option (Numbered (Cell P T W)))} {ids : List TaskId} {table : Table P T W}
+      → IsSound next slots ids capacity undropped → (q : QueueState) → table_of next slots q closed ≡ table
       → (F : Option (Cell P T W) → Bool) → F None ≡ false → (id : TaskId) {b : Bool} → b ≡ F (cell_at table id) → b ≡ true → PassesAt F slots id
   passes_at {slots = slots} sound q seen_is F none id {b} is passed = by_slot (get_or slots id.slot None) refl (test_at sound q seen_is F id is ∙ passed)
     where

@@ -1,3 +1,4 @@
+pub mod AllTasksLemmas
 pub mod BoolLemmas
 pub mod CancelLemmas
 pub mod CountLemmas
@@ -5,6 +6,7 @@ pub mod DetachLemmas
 pub mod EndPendingLemmas
 pub mod EndReadyLemmas
 pub mod FindLemmas
+pub mod GatherLemmas
 pub mod ListLemmas
 pub mod OrderLemmas
 pub mod QueueLemmas
@@ -13,6 +15,7 @@ pub mod QueuePlaceLemmas
 pub mod QueueSearchLemmas
 pub mod QueueStateLemmas
 pub mod RemoveLemmas
+pub mod RisingLemmas
 pub mod SleeperCallLemmas
 pub mod SleeperListLemmas
 pub mod SleeperNumberLemmas
@@ -25,5 +28,6 @@ pub mod TableLemmas
 pub mod TakeLemmas
 pub mod UndroppedLemmas
 pub mod WakeLemmas
+pub mod WalkLemmas
 pub mod World
 pub mod WriteLemmas

@@ -220,7 +220,7 @@ module _ {X Y : Type 0} (f : X → Y) where
   pub unregistered-map : (k : ℕ) (q : QueueLists X) → unregistered k (map_queues f q) ≡ map_queues f (unregistered k q)
   unregistered-map k q = ap (λ o. unregistered_at o (map_queues f q)) (position_of-map f k q.locals) ∙ unregistered_at-map (position_of k q.locals) q
 
-  local_entries-map : (locals : List (RunnerQueue X)) → flat_map (λ (l : RunnerQueue Y). l.entries) (map (map_local f) locals) ≡ map f (flat_map (λ (l : RunnerQueue X). l.entries) locals)
+  pub local_entries-map : (locals : List (RunnerQueue X)) → flat_map (λ (l : RunnerQueue Y). l.entries) (map (map_local f) locals) ≡ map f (flat_map (λ (l : RunnerQueue X). l.entries) locals)
   local_entries-map [] = refl
   local_entries-map (l ∷ rest) = ap (λ es. map f l.entries ++ es) (local_entries-map rest) ∙ sym (map-append f l.entries (flat_map (λ (l : RunnerQueue X). l.entries) rest))
 

@@ -54,7 +54,7 @@ runners_written (x ∷ xs) zero l ring is = let same : x ≡ l = cc in ap (λ (y
 runners_written (x ∷ xs) (suc r) l ring is = ap (λ n. x.runner ∷ n) (runners_written xs r l ring is)
 
 -- the runners stand where they stood
-sound_same : (g h : IdRing) (items others : List LocalQueue) (next free capacity : ℕ) → runners_of (map local_of others) ≡ runners_of (map local_of items) → IsQueues (state_of g items next free) capacity → IsQueues (state_of h others next free) capacity
+pub sound_same : (g h : IdRing) (items others : List LocalQueue) (next free capacity : ℕ) → runners_of (map local_of others) ≡ runners_of (map local_of items) → IsQueues (state_of g items next free) capacity → IsQueues (state_of h others next free) capacity
 sound_same g h items others next free capacity runners sound =
     let long : length (map local_of others) ≡ length (map local_of items) = sym (length-map (map local_of others) (λ (q : RunnerQueue TaskId). q.runner)) ∙ ap length runners ∙ length-map (map local_of items) (λ (q : RunnerQueue TaskId). q.runner) in
     record {

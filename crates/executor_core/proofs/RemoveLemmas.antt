@@ -123,13 +123,13 @@ module _ {P T W : Type 0} where
         | inr far ↦ sym (changes.others k far) ∙ found
       ]
 
-  pub remove_table : {next capacity undropped : ℕ} {slots : List (Option (Numbered (Cell P T W)))} {ids : List TaskId}
+  pub remove_table : {closed : Bool} {next capacity undropped : ℕ} {slots : List (Option (Numbered (Cell P T W)))} {ids : List TaskId}
       → IsSound next slots ids capacity undropped
       → (q : QueueState) (id : TaskId) (e : Numbered (Cell P T W)) → get_or slots id.slot None ≡ Some e → e.number ≡ id.number
       → (new : List (Option (Numbered (Cell P T W)))) → Changes slots new id.slot None
-      → table_of next new q ≡ without_cell (table_of next slots q) id
-  remove_table {next} {slots = slots} sound q id e there number new changes =
-      same_table (table_of next slots q) _ _ _ _ (cells_of-removed slots new id.slot e sound.distinct there changes ∙ ap (map.remove (cells_of slots)) number) refl
+      → table_of next new q closed ≡ without_cell (table_of next slots q closed) id
+  remove_table {closed} {next} {slots = slots} sound q id e there number new changes =
+      same_table (table_of next slots q closed) _ _ _ _ (cells_of-removed slots new id.slot e sound.distinct there changes ∙ ap (map.remove (cells_of slots)) number) refl
 
   -- a cell whose future is out is counted
   pub counted_one : {next capacity undropped : ℕ} {slots : List (Option (Numbered (Cell P T W)))} {ids : List TaskId}

@@ -1,5 +1,5 @@
 -- What a spawn keeps and gives.
-use Rattle.std.proofs.Common.{◌≡◌, ◌≢◌, ℕ, ◌+◌, ◌≤◌, List, [], ◌∷◌, ◌++◌, length, get_or, Option, Some, None, cond, refl, sym, ap, subst, ◌∙◌, inl, inr, arith, length-append}
+use Rattle.std.proofs.Common.{◌≡◌, ◌≢◌, ℕ, Bool, false, ◌+◌, ◌≤◌, List, [], ◌∷◌, ◌++◌, length, get_or, Option, Some, None, cond, refl, sym, ap, subst, ◌∙◌, inl, inr, arith, length-append}
 use Rattle.std.specs.FinMap as map
 use Rattle.std.specs.Ordering.{nat_cmp}
 use Rattle.executor_core.specs.Cells.{Slotted}
@@ -115,20 +115,20 @@ module _ {P T W : Type 0} where
         ];
       }
 
-  pub spawn_table : {next capacity undropped : ℕ} {slots : List (Option (Numbered (Cell P T W)))} {ids : List TaskId}
+  pub spawn_table : {closed : Bool} {next capacity undropped : ℕ} {slots : List (Option (Numbered (Cell P T W)))} {ids : List TaskId}
       → IsSound next slots ids capacity undropped
       → (q : QueueState) (p : P) (new : List (Option (Numbered (Cell P T W)))) (key : ℕ) → get_or slots key None ≡ None
       → Changes slots new key (Some (record { number = next; cell = new_cell p }))
-      → table_of (next + 1) new (with_lists (pushed (record { number = next; slot = key }) q.lists) q) ≡ after_spawn (table_of next slots q) key p
-  spawn_table {next} {slots = slots} sound q p new key vacant changes =
-      same_table (table_of (next + 1) slots q) _ _ _ _
+      → table_of (next + 1) new (with_lists (pushed (record { number = next; slot = key }) q.lists) q) closed ≡ after_spawn (table_of next slots q closed) key p
+  spawn_table {closed} {next} {slots = slots} sound q p new key vacant changes =
+      same_table (table_of (next + 1) slots q closed) _ _ _ _
       (cells_of-put slots new key (record { number = next; cell = new_cell p }) sound.distinct (new_fits sound key vacant) changes)
       (numbers_of-push q.lists.global (record { number = next; slot = key }))
 
   pub spawn_free : {next capacity undropped : ℕ} {slots : List (Option (Numbered (Cell P T W)))} {ids : List TaskId}
       → IsSound next slots ids capacity undropped
-      → (q : QueueState) (key : ℕ) → get_or slots key None ≡ None → IsFree (table_of next slots q) key
-  spawn_free {slots = slots} sound q key vacant n s found taken =
+      → (q : QueueState) (closed : Bool) (key : ℕ) → get_or slots key None ≡ None → IsFree (table_of next slots q closed) key
+  spawn_free {slots = slots} sound q closed key vacant n s found taken =
       let sees = get_sees slots n s found in
       let zero_at : 0 + sees.at ≡ sees.at = omega arith in
       let place : sees.at ≡ key = sym (ap (λ x. x.slot) sees.is ∙ zero_at) ∙ taken in
@@ -148,7 +148,7 @@ module _ {P T W : Type 0} where
         settled = λ i c found. absurd (cc);
       }
 
-  pub empty_is : (first : ℕ) → table_of {P = P} {T = T} {W = W} first [] no_queues ≡ empty_table first
+  pub empty_is : (first : ℕ) → table_of {P = P} {T = T} {W = W} first [] no_queues false ≡ empty_table first
   unfolding cells_of
   empty_is first = refl
 

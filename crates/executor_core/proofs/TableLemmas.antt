@@ -1,5 +1,5 @@
 -- What keeps `IsSound`, and what is then seen.
-use Rattle.std.proofs.Common.{◌≡◌, ◌≢◌, ℕ, ◌+◌, ◌<◌, ◌≤◌, ◌==◌, ◌||◌, false, List, [], ◌∷◌, ◌++◌, length, set, get_or, Option, Some, None, cond, refl, sym, ap, subst, ◌∙◌, inl, inr, arith}
+use Rattle.std.proofs.Common.{◌≡◌, ◌≢◌, ℕ, Bool, ◌+◌, ◌<◌, ◌≤◌, ◌==◌, ◌||◌, false, List, [], ◌∷◌, ◌++◌, length, set, get_or, Option, Some, None, cond, refl, sym, ap, subst, ◌∙◌, inl, inr, arith}
 use Rattle.std.proofs.lemmas.Bool.{cases_eq, eq-eqb, ne_eqb}
 use Rattle.std.proofs.lemmas.List.{get_or-set_same, get_or-set_other, get_or_past}
 use Rattle.std.proofs.lemmas.List.Sums.{sum_by-set, sum_by-append}
@@ -117,11 +117,11 @@ module _ {P T W : Type 0} where
   same_table t m n xs ys p q = λ i. record t { cells = p i; global = q i }
 
   -- what is seen after a write of one cell
-  pub table_set : (next : ℕ) (slots : List (Option (Numbered (Cell P T W)))) (later : QueueState) (id : TaskId) (e : Numbered (Cell P T W)) (c : Cell P T W) (xs : List ℕ)
+  pub table_set : {closed : Bool} (next : ℕ) (slots : List (Option (Numbered (Cell P T W)))) (later : QueueState) (id : TaskId) (e : Numbered (Cell P T W)) (c : Cell P T W) (xs : List ℕ)
       → Distinct slots → get_or slots id.slot None ≡ Some e → e.number ≡ id.number → numbers_of later.lists.global ≡ xs
-      → table_of next (set slots id.slot (Some (record { number = e.number; cell = c }))) later ≡ record (with_cell (table_of next slots later) id c) { global = xs }
-  table_set next slots later id e c xs distinct there number lists =
-      same_table (table_of next slots later) _ _ _ _ (cells_of-set slots id.slot e c distinct there ∙ ap (λ n. map.insert (cells_of slots) n (seen id.slot c)) number) lists
+      → table_of next (set slots id.slot (Some (record { number = e.number; cell = c }))) later closed ≡ record (with_cell (table_of next slots later closed) id c) { global = xs }
+  table_set {closed} next slots later id e c xs distinct there number lists =
+      same_table (table_of next slots later closed) _ _ _ _ (cells_of-set slots id.slot e c distinct there ∙ ap (λ n. map.insert (cells_of slots) n (seen id.slot c)) number) lists
 
 pub numbers_of-push : (ids : List TaskId) (id : TaskId) → numbers_of (ids ++ id ∷ []) ≡ numbers_of ids ++ id.number ∷ []
 numbers_of-push [] id = refl

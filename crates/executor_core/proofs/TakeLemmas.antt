@@ -1,5 +1,5 @@
 -- What a take keeps and gives.
-use Rattle.std.proofs.Common.{◌≡◌, ℕ, true, List, [], ◌∷◌, get_or, Option, Some, None, refl, sym, ap, subst, ◌∙◌}
+use Rattle.std.proofs.Common.{◌≡◌, ℕ, Bool, true, List, [], ◌∷◌, get_or, Option, Some, None, refl, sym, ap, subst, ◌∙◌}
 use Rattle.std.specs.FinMap as map
 use Rattle.executor_core.specs.Cell.{is_scheduled}
 use Rattle.executor_core.specs.Cells.{Slotted, Table}
@@ -46,23 +46,23 @@ module _ {P T W : Type 0} where
       (unqueued_sound sound id e (taken e.cell) takes.there (taken_number sound takes) scheduled refl (scheduled_state e.cell.state scheduled) refl (λ dropped. absurd (cc (dropped))) capacity refl refl)
 
   -- what is seen after a take, where these are the queues then
-  take_table : {next capacity undropped : ℕ} {slots new : List (Option (Numbered (Cell P T W)))} {later : List TaskId} {id : TaskId} {task : Taken P}
+  take_table : {closed : Bool} {next capacity undropped : ℕ} {slots new : List (Option (Numbered (Cell P T W)))} {later : List TaskId} {id : TaskId} {task : Taken P}
       → IsSound next slots (id ∷ later) capacity undropped → (takes : TakesOut slots new id task) → (q : QueueState)
-      → table_of next new q ≡ with_cell (table_of next slots q) id (taken takes.entry.cell)
-  take_table {next} {slots = slots} {id = id} sound takes q =
-      ap (λ l. table_of next l q) takes.written
+      → table_of next new q closed ≡ with_cell (table_of next slots q closed) id (taken takes.entry.cell)
+  take_table {closed} {next} {slots = slots} {id = id} sound takes q =
+      ap (λ l. table_of next l q closed) takes.written
       ∙ table_set next slots q id takes.entry (taken takes.entry.cell) (numbers_of q.lists.global) sound.distinct takes.there (taken_number sound takes) refl
 
   -- a search found the task, and left these queues
-  pub found_table : {next capacity undropped : ℕ} {slots new : List (Option (Numbered (Cell P T W)))} {later : List TaskId} {id : TaskId} {task : Taken P}
+  pub found_table : {closed : Bool} {next capacity undropped : ℕ} {slots new : List (Option (Numbered (Cell P T W)))} {later : List TaskId} {id : TaskId} {task : Taken P}
       → IsSound next slots (id ∷ later) capacity undropped → (takes : TakesOut slots new id task)
       → (q : QueueState) (lists : QueueLists TaskId) (found : Option ℕ × QueueLists ℕ) → found.0 ≡ Some id.number → found.1 ≡ map_queues (λ i. i.number) lists
-      → table_of next new (with_lists lists q) ≡ search_to found (table_of next slots q)
-  found_table {next} {slots = slots} {id = id} sound takes q lists found number left =
+      → table_of next new (with_lists lists q) closed ≡ search_to found (table_of next slots q closed)
+  found_table {closed} {next} {slots = slots} {id = id} sound takes q lists found number left =
       take_table sound takes (with_lists lists q)
-      ∙ sym (ap (λ o. search_to (o, found.1) (table_of next slots q)) number
-      ∙ ap (λ l. search_to (Some id.number, l) (table_of next slots q)) left
-      ∙ ap (λ (o : Option (Slotted P T W)). with_queues (map_queues (λ i. i.number) lists) (with_taken_at (table_of next slots q) id.number o)) (taken_get sound takes))
+      ∙ sym (ap (λ o. search_to (o, found.1) (table_of next slots q closed)) number
+      ∙ ap (λ l. search_to (Some id.number, l) (table_of next slots q closed)) left
+      ∙ ap (λ (o : Option (Slotted P T W)). with_queues (map_queues (λ i. i.number) lists) (with_taken_at (table_of next slots q closed) id.number o)) (taken_get sound takes))
 
   -- it found none
   pub none_table : (table : Table P T W) (found : Option ℕ × QueueLists ℕ) → found.0 ≡ None → found.1 ≡ queues_of table → table ≡ search_to found table
@@ -81,8 +81,8 @@ module _ {P T W : Type 0} where
       by_global [] = refl
       by_global (n ∷ rest) = by_cell n rest (map.get table.cells n)
 
-  pub is_taken : {next capacity undropped : ℕ} {slots new : List (Option (Numbered (Cell P T W)))} {later : List TaskId} {id : TaskId} {task : Taken P}
-      → IsSound next slots (id ∷ later) capacity undropped → (takes : TakesOut slots new id task) → (q : QueueState) → IsTaken (table_of next slots q) task
+  pub is_taken : {closed : Bool} {next capacity undropped : ℕ} {slots new : List (Option (Numbered (Cell P T W)))} {later : List TaskId} {id : TaskId} {task : Taken P}
+      → IsSound next slots (id ∷ later) capacity undropped → (takes : TakesOut slots new id task) → (q : QueueState) → IsTaken (table_of next slots q closed) task
   is_taken {slots = slots} sound takes q =
       record {
         cell = takes.entry.cell;

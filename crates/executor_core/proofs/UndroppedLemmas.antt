@@ -37,11 +37,11 @@ no_one true h = absurd (omega arith)
 no_one false h = refl
 
 -- no key occurs twice
-abbrev AllFresh : {X : Type 0} → List (ℕ × X) → Type 0
+abbrev pub AllFresh : {X : Type 0} → List (ℕ × X) → Type 0
 AllFresh [] = Unit {0}
 AllFresh (e ∷ rest) = (find nat_cmp e.0 rest ≡ None) × AllFresh rest
 
-no_entries : {X : Type 0} (es : List X) → length es ≡ 0 → es ≡ []
+pub no_entries : {X : Type 0} (es : List X) → length es ≡ 0 → es ≡ []
 no_entries [] none = refl
 no_entries (e ∷ rest) none = absurd (omega arith)
 
@@ -127,7 +127,7 @@ module _ {P T W : Type 0} where
   distinct_tail : (s : Option (Numbered (Cell P T W))) (rest : List (Option (Numbered (Cell P T W)))) → Distinct (s ∷ rest) → Distinct rest
   distinct_tail s rest distinct i j c d at_i at_j same = let both = distinct (suc i) (suc j) c d at_i at_j same in omega arith
 
-  all_fresh : (first : ℕ) (slots : List (Option (Numbered (Cell P T W)))) → Distinct slots → AllFresh (by_number first slots)
+  pub all_fresh : (first : ℕ) (slots : List (Option (Numbered (Cell P T W)))) → Distinct slots → AllFresh (by_number first slots)
   all_fresh first [] distinct = tt
   all_fresh first (None ∷ rest) distinct = all_fresh (first + 1) rest (distinct_tail None rest distinct)
   all_fresh first (Some e ∷ rest) distinct = (none (find nat_cmp e.number (by_number (first + 1) rest)) refl, all_fresh (first + 1) rest (distinct_tail (Some e) rest distinct))
@@ -204,8 +204,8 @@ module _ {P T W : Type 0} where
 
   -- nothing is undropped where the count is zero
   pub all_dropped : {next capacity : ℕ} {slots : List (Option (Numbered (Cell P T W)))} {ids : List TaskId}
-      → IsSound next slots ids capacity 0 → (q : QueueState) → AllDropped (table_of next slots q)
-  all_dropped {slots = slots} {ids = ids} sound q n s found =
+      → IsSound next slots ids capacity 0 → (q : QueueState) (closed : Bool) → AllDropped (table_of next slots q closed)
+  all_dropped {slots = slots} {ids = ids} sound q closed n s found =
       let sees = get_sees slots n s found in
       let part : cond (is_queueable (get_or slots sees.at None)) 1 0 ≤ count_by is_queueable slots = at_least (λ o. cond (is_queueable o) 1 0) refl slots sees.at in
       let counted = sound.counted in
@@ -218,8 +218,8 @@ module _ {P T W : Type 0} where
       ap (λ x. is_undropped x.cell.state) sees.is ∙ undropped_by sees.cell.cell.state may (no_one _ queued)
 
   pub none_undropped : {next capacity undropped : ℕ} {slots : List (Option (Numbered (Cell P T W)))} {ids : List TaskId}
-      → IsSound next slots ids capacity undropped → (q : QueueState) → AllDropped (table_of next slots q) → undropped ≡ 0
-  none_undropped {slots = slots} {ids = ids} sound q dropped =
+      → IsSound next slots ids capacity undropped → (q : QueueState) (closed : Bool) → AllDropped (table_of next slots q closed) → undropped ≡ 0
+  none_undropped {slots = slots} {ids = ids} sound q closed dropped =
       let empty : length ids ≡ 0 = no_ids ids refl in
       let none : count_by is_queueable slots ≡ 0 = sum_by_zero (λ o. cond (is_queueable o) 1 0) None slots (λ k. by_slot k (get_or slots k None) refl) in
       let counted = sound.counted in

@@ -15,7 +15,7 @@ use Rattle.executor_core.specs.declared.task.cell.Numbered.{Numbered}
 use Rattle.executor_core.specs.declared.task.id.TaskId.{TaskId}
 
 module _ {P T W : Type 0} where
-  settled_woken : (c : Cell P T W) → Settled c → Settled (woken c)
+  pub settled_woken : (c : Cell P T W) → Settled c → Settled (woken c)
   settled_woken c settled dropped = settled (sym (undropped-state_woken c.state) ∙ dropped)
 
   -- a write of the state after a wake, which changes no queue
@@ -53,14 +53,14 @@ module _ {P T W : Type 0} where
       loud_write sound id e (woken e.cell) there number refl (settled_woken e.cell (sound.settled id.slot e there)) idle room same_room longer
 
   -- what a wake gives
-  pub wake_table : {next capacity undropped : ℕ} {slots : List (Option (Numbered (Cell P T W)))} {ids : List TaskId}
+  pub wake_table : {closed : Bool} {next capacity undropped : ℕ} {slots : List (Option (Numbered (Cell P T W)))} {ids : List TaskId}
       → IsSound next slots ids capacity undropped
       → (q : QueueState) (later : List TaskId) (id : TaskId) (e : Numbered (Cell P T W)) → get_or slots id.slot None ≡ Some e → e.number ≡ id.number
       → numbers_of later ≡ cond (is_idle e.cell.state) (numbers_of q.lists.global ++ id.number ∷ []) (numbers_of q.lists.global)
-      → table_of next (set slots id.slot (Some (record { number = e.number; cell = woken e.cell }))) (with_global later q) ≡ after_wake (table_of next slots q) id
-  wake_table {next} {slots = slots} sound q later id e there number lists =
+      → table_of next (set slots id.slot (Some (record { number = e.number; cell = woken e.cell }))) (with_global later q) closed ≡ after_wake (table_of next slots q closed) id
+  wake_table {closed} {next} {slots = slots} sound q later id e there number lists =
       table_set next slots (with_global later q) id e (woken e.cell) _ sound.distinct there number lists
-      ∙ sym (ap (wake_at (table_of next slots q) id) (cell_at_entry sound id e there number))
+      ∙ sym (ap (wake_at (table_of next slots q closed) id) (cell_at_entry sound id e there number))
 
   pub wakes_at : {next capacity undropped : ℕ} {slots : List (Option (Numbered (Cell P T W)))} {ids : List TaskId}
       → IsSound next slots ids capacity undropped → (id : TaskId) (e : Numbered (Cell P T W)) {b : Bool}

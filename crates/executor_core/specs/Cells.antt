@@ -18,7 +18,8 @@ pub record Slotted (P T W : Type 0) : Type 0 where
   pub cell : Cell P T W
 
 -- the number that the next task gets, the cells by number, the global queue, those of the registered runners in order of
--- registration, the number that the next runner gets, and how many reserved places for runners are free
+-- registration, the number that the next runner gets, how many reserved places for runners are free, and whether the cells
+-- were closed
 pub record Table (P T W : Type 0) : Type 0 where
   pub next : ℕ
   pub cells : map.FinMap nat_cmp (Slotted P T W)
@@ -26,6 +27,7 @@ pub record Table (P T W : Type 0) : Type 0 where
   pub locals : List (RunnerQueue ℕ)
   pub next_runner : ℕ
   pub free_places : ℕ
+  pub closed : Bool
 
 module _ {P T : Type 0} where
   pub state_cases : CellState P T → P ⊎ (P ⊎ (T ⊎ Bool))
@@ -66,8 +68,8 @@ module _ {P T W : Type 0} (p : Coded P) (t : Coded T) (w : Coded W) where
   abbrev pub table_code : Coded (Table P T W)
   table_code =
       code_by
-      (ℕ × (map.FinMap nat_cmp (Slotted P T W) × (List ℕ × (List (RunnerQueue ℕ) × (ℕ × ℕ)))))
-      (coded× coded_ℕ (coded× (map.code coded_ℕ slotted_code) (coded× (coded_list coded_ℕ) (coded× (coded_list (runner_queue_code coded_ℕ)) (coded× coded_ℕ coded_ℕ)))))
-      (λ s. (s.next, (s.cells, (s.global, (s.locals, (s.next_runner, s.free_places))))))
-      (λ q. record { next = q.0; cells = q.1.0; global = q.1.1.0; locals = q.1.1.1.0; next_runner = q.1.1.1.1.0; free_places = q.1.1.1.1.1 })
+      (ℕ × (map.FinMap nat_cmp (Slotted P T W) × (List ℕ × (List (RunnerQueue ℕ) × (ℕ × (ℕ × Bool))))))
+      (coded× coded_ℕ (coded× (map.code coded_ℕ slotted_code) (coded× (coded_list coded_ℕ) (coded× (coded_list (runner_queue_code coded_ℕ)) (coded× coded_ℕ (coded× coded_ℕ coded_bool))))))
+      (λ s. (s.next, (s.cells, (s.global, (s.locals, (s.next_runner, (s.free_places, s.closed)))))))
+      (λ q. record { next = q.0; cells = q.1.0; global = q.1.1.0; locals = q.1.1.1.0; next_runner = q.1.1.1.1.0; free_places = q.1.1.1.1.1.0; closed = q.1.1.1.1.1.1 })
       (λ _. refl)

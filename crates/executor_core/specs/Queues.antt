@@ -191,6 +191,19 @@ module _ {X : Type 0} where
   abbrev pub entries_of : ℕ → List (RunnerQueue X) → List X
   entries_of k locals = local_entries_at (position_of k locals) locals
 
+-- a close
+module _ {X : Type 0} where
+  abbrev pub emptied : RunnerQueue X → RunnerQueue X
+  emptied q = record q { entries = [] }
+
+  -- what stands in the runners' queues, in order of registration
+  abbrev pub local_entries : List (RunnerQueue X) → List X
+  local_entries locals = flat_map (λ local. local.entries) locals
+
+  -- it goes to the global end, and the queues stay, empty
+  abbrev pub gathered : QueueLists X → QueueLists X
+  gathered q = record { global = q.global ++ local_entries q.locals; locals = map emptied q.locals }
+
 -- the same queues with other entries
 module _ {X Y : Type 0} (f : X → Y) where
   abbrev pub map_local : RunnerQueue X → RunnerQueue Y

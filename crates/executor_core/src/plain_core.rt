@@ -7,7 +7,7 @@
 //! in between, any other party may take its own. Each contract is one equation: the state with the
 //! part that the step is about changed.
 ghost use Rattle.std.specs.Prelude.{◌≡◌, ◌↔◌, [], None, true, false, not, is_some, IsErr, IsOk, IfOk, IfErr, OnOk, OnErr, IfNone, IfSome};
-ghost use Rattle.executor_core.specs.Cells.Calls.{empty_table, after_spawn, IsFree, wakes, after_wake, after_cancel, cancel_queues, after_detach, detach_answer, after_poll_handle, poll_answer, after_end_pending, EndsPending, after_end_ready, ready_answer, after_end_dropped, dropped_answer, after_take, TakesFront, cell_at, after_search, search_in, TakesFound, after_fair, after_reserve_runner, after_release_runner, may_register, after_register, after_unregister, unregister_queues};
+ghost use Rattle.executor_core.specs.Cells.Calls.{empty_table, after_spawn, IsFree, wakes, after_wake, after_cancel, cancel_queues, after_detach, detach_answer, after_poll_handle, poll_answer, after_end_pending, EndsPending, after_end_ready, ready_answer, after_end_dropped, dropped_answer, after_take, TakesFront, cell_at, after_search, search_in, TakesFound, after_fair, after_reserve_runner, after_release_runner, may_register, after_register, after_unregister, unregister_queues, SlotsDiffer, after_wake_all, wake_all_queues, after_close, close_queues, after_drain_next, draining};
 ghost use Rattle.executor_core.specs.Cells.Law.{queues_of};
 ghost use Rattle.executor_core.specs.Queues.{fair_count};
 ghost use Rattle.executor_core.specs.SpawnError.{last_number, Refuses};
@@ -95,6 +95,24 @@ impl<P, T, W> Core<P, T, W> {
         self.cells.wake(id)
     }
 
+    /// `Cells::wake_all`, with its answer.
+    pub fn wake_all(&mut self) -> Option<Notice>
+        ensures state { self.new ≡ record self.old { cells = after_wake_all self.old.cells } }
+        ensures notice { is_some result ≡ wake_all_queues self.old.cells }
+        ensures slots { SlotsDiffer self.old.cells }
+    {
+        self.cells.wake_all()
+    }
+
+    /// `Cells::close`, with its answer.
+    pub fn close(&mut self) -> Option<Notice>
+        ensures state { self.new ≡ record self.old { cells = after_close self.old.cells } }
+        ensures notice { is_some result ≡ close_queues self.old.cells }
+        ensures slots { SlotsDiffer self.old.cells }
+    {
+        self.cells.close()
+    }
+
     /// `Cells::cancel`, with its answer.
     pub fn cancel(&mut self, id: TaskId) -> Option<Notice>
         ensures state { self.new ≡ record self.old { cells = after_cancel self.old.cells id } }
@@ -162,6 +180,15 @@ impl<P, T, W> Core<P, T, W> {
         ensures some { IfSome result (λ r. TakesFront self.old.cells self.new.cells.global r.0) }
     {
         self.cells.take_global(again)
+    }
+
+    /// `Cells::drain_next`, with its answer.
+    pub fn drain_next(&mut self) -> Option<Taken<P>>
+        ensures state { self.new ≡ record self.old { cells = after_drain_next self.old.cells } }
+        ensures none { IfNone result (draining self.old.cells ≡ []) }
+        ensures some { IfSome result (λ task. (self.old.cells.closed ≡ true) × TakesFront self.old.cells self.new.cells.global task) }
+    {
+        self.cells.drain_next()
     }
 
     /// `Cells::search`, with its answer.

@@ -10,7 +10,7 @@ ghost use Rattle.executor_core.specs.SpawnError.{last_number};
 ghost use Rattle.executor_core.specs.Queues.{entries_at, fair_count, is_registered};
 ghost use Rattle.executor_core.specs.Cells.Law.{queues_of};
 ghost use Rattle.executor_core.specs.Cells.View.{scheduled_slot, TakesOut};
-ghost use Rattle.executor_core.specs.Cells.Calls.{after_take, TakesFront, after_search, search_in, TakesFound, after_fair, after_reserve_runner, after_release_runner, may_register, after_register, after_unregister, unregister_queues};
+ghost use Rattle.executor_core.specs.Cells.Calls.{after_take, TakesFront, after_search, search_in, TakesFound, after_drain_next, draining, after_fair, after_reserve_runner, after_release_runner, may_register, after_register, after_unregister, unregister_queues};
 
 pub(crate) mod queues;
 pub(crate) mod ring;
@@ -39,6 +39,23 @@ impl<P, T, W> Cells<P, T, W> {
         };
         let taken = take_out(&mut self.cells, id);
         Some((taken, Notice { unspent: () }))
+    }
+
+    /// Takes the task at the global front once the cells were closed. None before, and where the
+    /// queue is empty. It takes no memory.
+    ///
+    /// Nobody else is to hear of it, so there is no notice.
+    pub fn drain_next(&mut self) -> Option<Taken<P>>
+        ensures table { self.new ≡ after_drain_next self.old }
+        ensures none { IfNone result (draining self.old ≡ []) }
+        ensures some { IfSome result (λ task. (self.old.closed ≡ true) × TakesFront self.old self.new.global task) }
+    {
+        if !self.closed {
+            return None;
+        }
+        let (taken, notice) = self.take_global(None)?;
+        notice.keep();
+        Some(taken)
     }
 
     /// Takes a task for a runner, with a word that says where the walk over the other queues starts:

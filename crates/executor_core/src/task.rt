@@ -36,6 +36,7 @@
 //! | `Again` | the list of sleepers grew, and a search is to be made | the next take |
 //! | `Change` | the list of sleepers changed, and the flag is to be stored | the store of the flag |
 
+pub(crate) mod all_tasks;
 pub(crate) mod cell;
 pub(crate) mod error;
 pub(crate) mod future;

@@ -1,9 +1,11 @@
 -- What each call makes of the table, and what it answers.
-use Rattle.std.specs.Prelude.{◌≡◌, ◌≢◌, ℕ, ◌+◌, ◌-◌, ◌==◌, nat_lt, Bool, true, false, List, [], ◌∷◌, ◌++◌, length, Option, Some, None, cond, is_some, count_by, ◌&&◌, ◌||◌, not}
+use Rattle.std.specs.Prelude.{◌≡◌, ◌≢◌, ℕ, ◌+◌, ◌-◌, ◌==◌, nat_lt, Bool, true, false, List, [], ◌∷◌, ◌++◌, length, Option, Some, None, cond, is_some, count_by, ◌&&◌, ◌||◌, not, ◌<◌, slice_get, map as list_map}
+use Rattle.std.specs.List.{filter}
 use Rattle.std.specs.FinMap as map
+use Rattle.std.specs.Ordering.{nat_cmp}
 use Rattle.executor_core.specs.Cells.{Slotted, Table}
 use Rattle.executor_core.specs.Cells.Law.{queues_of}
-use Rattle.executor_core.specs.Queues.{QueueLists, search, fair, registered, unregistered, is_registered, entries_of}
+use Rattle.executor_core.specs.Queues.{QueueLists, emptied, local_entries, search, fair, registered, unregistered, is_registered, entries_of}
 use Rattle.executor_core.specs.Cell.{is_idle, is_held, is_scheduled, is_undropped}
 use Rattle.executor_core.specs.Cell.Changes.{new_cell, woken, taken, pended, readied, awaited, cancelled_cell, detached, disposed, takes_back, output_of, is_finished_state, wakeup_of}
 use Rattle.executor_core.specs.declared.task.cell.Cell.{Cell}
@@ -20,7 +22,7 @@ use Rattle.executor_core.specs.declared.task.table.EndPending.TheVariants.{Back,
 
 -- no task, the next one getting this number
 abbrev pub empty_table : {P T W : Type 0} → ℕ → Table P T W
-empty_table next = record { next = next; cells = map.empty; global = []; locals = []; next_runner = 0; free_places = 0 }
+empty_table next = record { next = next; cells = map.empty; global = []; locals = []; next_runner = 0; free_places = 0; closed = false }
 
 -- the cell of an id, and what is read of it
 module _ {P T W : Type 0} where
@@ -280,3 +282,74 @@ module _ {P T W : Type 0} where
   abbrev pub dropped_answer : Option (Cell P T W) → Option (Wakeup W)
   dropped_answer None = None
   dropped_answer (Some c) = cond (is_held c.state) (wakeup_of c.awaiter) None
+
+-- all tasks at once: the numbers and cells of the map
+module _ {P T W : Type 0} where
+  -- the entry goes before the first of a higher slot
+  abbrev pub insert_by_slot : ℕ × Slotted P T W → List (ℕ × Slotted P T W) → List (ℕ × Slotted P T W)
+  insert_by_slot e [] = e ∷ []
+  insert_by_slot e (f ∷ rest) = cond (nat_lt e.1.slot f.1.slot) (e ∷ f ∷ rest) (f ∷ insert_by_slot e rest)
+
+  -- these entries by rising slot
+  abbrev pub by_slot : List (ℕ × Slotted P T W) → List (ℕ × Slotted P T W)
+  by_slot [] = []
+  by_slot (e ∷ rest) = insert_by_slot e (by_slot rest)
+
+  -- the numbers of the cells that pass the test, by rising slot
+  abbrev pub rising : (Cell P T W → Bool) → map.FinMap nat_cmp (Slotted P T W) → List ℕ
+  rising test cells = list_map (λ e. e.0) (filter (λ e. test e.1.cell) (by_slot (map.entries cells)))
+
+  -- the idle tasks by rising slot
+  abbrev pub rising_idle : Table P T W → List ℕ
+  rising_idle table = rising (λ c. is_idle c.state) table.cells
+
+  -- each cell changed so, in its slot
+  abbrev pub each_changed : (Cell P T W → Cell P T W) → map.FinMap nat_cmp (Slotted P T W) → map.FinMap nat_cmp (Slotted P T W)
+  each_changed change cells = map.from_entries (list_map (λ e. (e.0, record e.1 { cell = change e.1.cell })) (map.entries cells))
+
+  -- no two cells have one slot
+  abbrev pub SlotsDiffer : Table P T W → Type 0
+  SlotsDiffer table = (n k : ℕ) (s t : Slotted P T W) → map.get table.cells n ≡ Some s → map.get table.cells k ≡ Some t → s.slot ≡ t.slot → n ≡ k
+
+  -- of two numbers in the list, the later one has the higher slot
+  abbrev pub SlotsRise : map.FinMap nat_cmp (Slotted P T W) → List ℕ → Type 0
+  SlotsRise cells numbers = (i j n k : ℕ) (s t : Slotted P T W) → i < j → slice_get numbers i ≡ Some n → slice_get numbers j ≡ Some k → map.get cells n ≡ Some s → map.get cells k ≡ Some t → s.slot < t.slot
+
+-- wake_all
+module _ {P T W : Type 0} where
+  -- every task is woken, and the idle ones go to the global end
+  abbrev pub after_wake_all : Table P T W → Table P T W
+  after_wake_all table = record table { cells = each_changed woken table.cells; global = table.global ++ rising_idle table }
+
+  -- a task is idle
+  abbrev pub wake_all_queues : Table P T W → Bool
+  wake_all_queues table = nat_lt 0 (length (rising_idle table))
+
+-- close
+module _ {P T W : Type 0} where
+  -- what goes to the global end: the idle tasks, and then what stands in the runners' queues
+  abbrev pub closing : Table P T W → List ℕ
+  closing table = rising_idle table ++ local_entries table.locals
+
+  -- every task is cancelled, and all that is undropped and not held stands in the global queue
+  abbrev pub after_close : Table P T W → Table P T W
+  after_close table =
+      record table {
+        cells = each_changed cancelled_cell table.cells;
+        global = table.global ++ closing table;
+        locals = list_map emptied table.locals;
+        closed = true;
+      }
+
+  -- the global queue grows
+  abbrev pub close_queues : Table P T W → Bool
+  close_queues table = nat_lt 0 (length (closing table))
+
+-- drain_next
+module _ {P T W : Type 0} where
+  -- what may be drained: nothing before a close
+  abbrev pub draining : Table P T W → List ℕ
+  draining table = cond table.closed table.global []
+
+  abbrev pub after_drain_next : Table P T W → Table P T W
+  after_drain_next table = cond table.closed (after_take table) table

@@ -1,13 +1,13 @@
 -- How the fields of `Cells` are seen, and what holds of them.
-use Rattle.std.specs.Prelude.{◌≡◌, ℕ, ◌+◌, ◌<◌, ◌≤◌, Bool, true, false, ◌||◌, List, [], ◌∷◌, length, map, Option, Some, None, count_by, slice_index_or, slice_set}
+use Rattle.std.specs.Prelude.{◌≡◌, ℕ, ◌+◌, ◌<◌, ◌≤◌, Bool, true, false, ◌||◌, List, [], ◌∷◌, length, map, Option, Some, None, cond, count_by, slice_index_or, slice_set}
 use Rattle.std.specs.Ordering.{nat_cmp}
 use Rattle.std.specs.FinMap as fin_map
-use Rattle.std.specs.List.{All}
+use Rattle.std.specs.List.{All, cons_option}
 use Rattle.executor_core.specs.Queues.{map_local}
 use Rattle.executor_core.specs.Queues.State.{QueueState}
 use Rattle.executor_core.specs.Cells.{Slotted, Table}
 use Rattle.executor_core.specs.Cell.{is_idle, is_held, is_scheduled, is_undropped}
-use Rattle.executor_core.specs.Cell.Changes.{taken}
+use Rattle.executor_core.specs.Cell.Changes.{taken, woken, cancelled_cell}
 use Rattle.executor_core.specs.Cells.Law.{ScheduledOnce}
 use Rattle.executor_core.specs.declared.task.cell.Cell.{Cell}
 use Rattle.executor_core.specs.declared.task.cell.Numbered.{Numbered}
@@ -32,8 +32,8 @@ module _ {P T W : Type 0} where
   unfoldable pub cells_of : List (Option (Numbered (Cell P T W))) → fin_map.FinMap nat_cmp (Slotted P T W)
   cells_of slots = fin_map.from_entries (by_number 0 slots)
 
-  abbrev pub table_of : ℕ → List (Option (Numbered (Cell P T W))) → QueueState → Table P T W
-  table_of next slots q =
+  abbrev pub table_of : ℕ → List (Option (Numbered (Cell P T W))) → QueueState → Bool → Table P T W
+  table_of next slots q closed =
       record {
         next = next;
         cells = cells_of slots;
@@ -41,12 +41,32 @@ module _ {P T W : Type 0} where
         locals = map (map_local (λ id. id.number)) q.lists.locals;
         next_runner = q.next_runner;
         free_places = q.free_places;
+        closed = closed;
       }
 
   -- the future is there and not queued, or out: so it may be queued later
   abbrev pub is_queueable : Option (Numbered (Cell P T W)) → Bool
   is_queueable None = false
   is_queueable (Some e) = is_idle e.cell.state || is_held e.cell.state
+
+  -- what becomes of a cell where every task is cancelled, or woken
+  abbrev pub change_by : Bool → Cell P T W → Cell P T W
+  change_by true c = cancelled_cell c
+  change_by false c = woken c
+
+  abbrev pub changed_slot : (Cell P T W → Cell P T W) → Option (Numbered (Cell P T W)) → Option (Numbered (Cell P T W))
+  changed_slot change None = None
+  changed_slot change (Some e) = Some (record { number = e.number; cell = change e.cell })
+
+  -- the id of the task in this slot, if it is idle
+  abbrev pub idle_id : ℕ → Option (Numbered (Cell P T W)) → Option TaskId
+  idle_id slot None = None
+  idle_id slot (Some e) = cond (is_idle e.cell.state) (Some (record { number = e.number; slot = slot })) None
+
+  -- the ids of the idle tasks in these slots, the first of which is this one
+  abbrev pub idle_ids : ℕ → List (Option (Numbered (Cell P T W))) → List TaskId
+  idle_ids slot [] = []
+  idle_ids slot (s ∷ rest) = cons_option (idle_id slot s) (idle_ids (slot + 1) rest)
 
   -- there is such a cell, and it is scheduled
   abbrev pub scheduled_slot : Option (Numbered (Cell P T W)) → Bool

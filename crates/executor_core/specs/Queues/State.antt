@@ -33,3 +33,7 @@ with_lists lists q = record q { lists = lists }
 -- the id at the global end
 abbrev pub pushed : TaskId → QueueLists TaskId → QueueLists TaskId
 pushed id q = record q { global = q.global ++ id ∷ [] }
+
+-- these ids at the global end
+abbrev pub pushed_all : List TaskId → QueueLists TaskId → QueueLists TaskId
+pushed_all ids q = record q { global = q.global ++ ids }

@@ -7,10 +7,10 @@
 //! A runner finds its queue where it stood the last time: `positions` keeps that for each runner,
 //! and is only a hint. Where the queue stands there no more, since another runner left, it is looked
 //! for.
-ghost use Rattle.std.specs.Prelude.{◌≡◌, ◌≢◌, ◌+◌, ◌-◌, ◌<◌, ◌≤◌, ◌↔◌, ◌&&◌, nat_lt, not, true, false, is_some, cond, [], ◌==◌, map, drop, IfOk, IfErr, IsOk, IsErr, OnOk, OnErr, length, option_map, unwrap_or, slice_get};
+ghost use Rattle.std.specs.Prelude.{◌≡◌, ◌≢◌, ◌+◌, ◌-◌, ◌<◌, ◌≤◌, ◌↔◌, ◌&&◌, ◌++◌, nat_lt, not, true, false, is_some, cond, [], ◌==◌, map, drop, IfOk, IfErr, IsOk, IsErr, OnOk, OnErr, length, option_map, unwrap_or, slice_get};
 ghost use Rattle.std.specs.List.{position, find, range_with_len};
 ghost use Rattle.executor_core.specs.SpawnError.{last_number};
-ghost use Rattle.executor_core.specs.Queues.{all_entries, position_of, is_registered, search_global, search, gives, victim, fair, fair_count, registered, unregistered, unregistered_at, stolen_between, stolen_locals, global_stolen, stolen, with_entries, entries_at, capacity_at, entries_of};
+ghost use Rattle.executor_core.specs.Queues.{all_entries, position_of, is_registered, search_global, search, gives, victim, fair, fair_count, registered, unregistered, unregistered_at, stolen_between, stolen_locals, global_stolen, stolen, with_entries, entries_at, capacity_at, entries_of, emptied, local_entries, gathered};
 ghost use Rattle.executor_core.specs.Queues.View.{local_of};
 ghost use Rattle.executor_core.specs.Queues.State.{no_queues, with_lists, pushed};
 
@@ -157,6 +157,19 @@ fn steal_within(locals: &mut [LocalQueue], from: usize, to: usize)
     }
 }
 
+// Moves all that stands in these queues to the end of the target, one queue after another.
+fn move_all(locals: &mut [LocalQueue], target: &mut Ring)
+    requires { length target.old.ids + length (local_entries (map local_of locals.old)) ≤ target.old.capacity }
+    ensures locals { map local_of locals.new ≡ map emptied (map local_of locals.old) }
+    ensures target { target.new ≡ record target.old { ids = target.old.ids ++ local_entries (map local_of locals.old) } }
+{
+    for position in 0..locals.len() {
+        let ring = &mut locals[position].ring;
+        let count = ring.len();
+        move_first(ring, target, count);
+    }
+}
+
 // The places of the runners.
 impl Queues {
     // One place more, and the key of a new runner.
@@ -247,6 +260,18 @@ impl Queues {
         let count = ring.len();
         move_first(&mut ring, &mut self.global, count);
         count
+    }
+
+    // All that stands in the runners' queues goes to the global end, in order of registration. Says
+    // whether there was something.
+    pub(crate) fn gather(&mut self) -> bool
+        requires { length (all_entries self.old.lists) ≤ self.old.room }
+        ensures lists { self.new ≡ with_lists (gathered self.old.lists) self.old }
+        ensures moved { result ≡ nat_lt 0 (length (local_entries self.old.lists.locals)) }
+    {
+        let before = self.global.len();
+        move_all(&mut self.locals, &mut self.global);
+        self.global.len() > before
     }
 
     // At which position the runner's queue stands.

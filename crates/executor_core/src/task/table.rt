@@ -43,6 +43,7 @@ pub struct Cells<P, T, W> {
     pub(crate) cells: Slab<Numbered<Cell<P, T, W>>>,
     pub(crate) queues: Queues,
     pub(crate) undropped: usize,
+    pub(crate) closed: bool,
 }
 
 impl<P, T, W> Model for Cells<P, T, W> {
@@ -55,7 +56,7 @@ impl<P, T, W> Model for Cells<P, T, W> {
     ghost use Rattle.executor_core.specs.Cells.View.{table_of, IsSound};
     ghost use Rattle.executor_core.specs.Queues.{all_entries};
 
-    ghost view = { λ a. table_of a.next a.cells.slots a.queues };
+    ghost view = { λ a. table_of a.next a.cells.slots a.queues a.closed };
 
     ghost invariant = { λ a. IsSound a.next a.cells.slots (all_entries a.queues.lists) a.queues.room a.undropped };
 }
@@ -82,6 +83,7 @@ impl<P, T, W> Cells<P, T, W> {
             cells: Slab::new(alloc),
             queues,
             undropped: 0,
+            closed: false,
         })
     }
 

@@ -1,5 +1,5 @@
 //! The values that must be spent.
-ghost use Rattle.std.specs.Prelude.{◌≡◌, false};
+ghost use Rattle.std.specs.Prelude.{◌≡◌, false, is_some};
 
 use crate::task::future::Wake;
 use crate::task::id::TaskId;
@@ -15,7 +15,20 @@ impl Notice {
         let Notice { unspent: () } = other;
         self
     }
-    // A world keeps its notices as a count.
+
+    // One notice of all that was queued in a call, if something was.
+    pub(crate) fn of(queued: bool) -> Option<Notice>
+        ensures { is_some result ≡ queued }
+    {
+        if queued {
+            Some(Notice { unspent: () })
+        } else {
+            None
+        }
+    }
+
+    // A world keeps its notices as a count. A call that queues many tasks gives one notice, and a drain
+    // gives none.
     pub(crate) fn keep(self) {
         let Notice { unspent: () } = self;
     }

@@ -13,7 +13,7 @@ invariant_of-self g c =
 
 pub returns-clause-table : goal.returns-clause-table
 returns-clause-table g c =
-    let table = table_of c.self.inside.next c.self.inside.cells.slots c.self.inside.queues in
+    let table = table_of c.self.inside.next c.self.inside.cells.slots c.self.inside.queues c.self.inside.closed in
     rw (c.fair.ensures.lists, ← c.self.view_is) (ap (λ l. with_queues l table) (sym (fair-map (λ id. id.number) c.args.key.number c.self.inside.queues.lists)))
 
 pub returns-clause-count : goal.returns-clause-count

@@ -2,6 +2,7 @@ use Rattle.std.proofs.Common.{◌≡◌, Bool, true, false, cond, refl}
 use Rattle.std.specs.Prelude.{◌-◌}
 use Rattle.executor_core.specs.Cells.View.{table_of}
 use Rattle.executor_core.specs.Queues.{is_registered}
+use Rattle.executor_core.specs.Queues.State.{QueueState}
 use Rattle.executor_core.proofs.QueueLemmas.{is_registered-map}
 use Rattle.executor_core.proofs.task.table.Cells.release_runner.Goals as goal
 
@@ -13,5 +14,5 @@ pub returns : goal.returns
 returns g c =
     let q = c.self.inside.queues in
     let released = record q { free_places = q.free_places - 1 } in
-    let seen = table_of c.self.inside.next c.self.inside.cells.slots in
+    let seen = λ (s : QueueState). table_of c.self.inside.next c.self.inside.cells.slots s c.self.inside.closed in
     rw (c.release_runner.ensures, ← c.self.view_is, is_registered-map (λ id. id.number) c.args.key.number q.lists.locals) (ap_cond seen (is_registered c.args.key.number q.lists.locals) q released)

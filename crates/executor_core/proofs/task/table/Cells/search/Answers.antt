@@ -3,6 +3,7 @@ use Rattle.std.specs.Prelude.{option_map}
 use Rattle.executor_core.specs.Cells.Calls.{after_search, search_in}
 use Rattle.executor_core.specs.Cells.View.{table_of}
 use Rattle.executor_core.specs.Queues.{map_queues, search}
+use Rattle.executor_core.specs.Queues.State.{QueueState}
 use Rattle.executor_core.proofs.OrderLemmas.{sound_permuted}
 use Rattle.executor_core.proofs.QueueLemmas.{search-permutes, search-none, search-map_found, search-map_lists}
 use Rattle.executor_core.proofs.TakeLemmas.{first_scheduled, take_sound, found_table, none_table, is_taken}
@@ -16,7 +17,7 @@ invariant_of-self g c =
 pub returns-in_default-search-clause-table : goal.returns-in_default-search-clause-table
 returns-in_default-search-clause-table g c =
     let q = c.self.inside.queues in
-    let seen = table_of c.self.inside.next c.self.inside.cells.slots in
+    let seen = λ (s : QueueState). table_of c.self.inside.next c.self.inside.cells.slots s c.self.inside.closed in
     let none = sym c.search.ensures.found ∙ c.in_default-search.is in
     let left = search-none c.args.key.number c.args.word q.lists none in
     rw (c.search.ensures.lists, left, ← c.self.view_is) (none_table (seen q) (search_in (seen q) c.args.key.number c.args.word)
@@ -45,7 +46,7 @@ returns-clause-table g c =
     let q = c.self.inside.queues in
     let found = sym c.search.ensures.found ∙ c.in-Some-search.is in
     let sound = sound_permuted c.self.invariant (search-permutes c.args.key.number c.args.word q.lists c.in-Some-search.id found) in
-    let table = table_of c.self.inside.next c.self.inside.cells.slots q in
+    let table = table_of c.self.inside.next c.self.inside.cells.slots q c.self.inside.closed in
     rw c.search.ensures.lists (found_table sound c.take_out-taken.ensures q (search c.args.key.number c.args.word q.lists).1 (search_in table c.args.key.number c.args.word)
     (search-map_found (λ id. id.number) c.args.key.number c.args.word q.lists ∙ ap (option_map (λ id. id.number)) found)
     (search-map_lists (λ id. id.number) c.args.key.number c.args.word q.lists)

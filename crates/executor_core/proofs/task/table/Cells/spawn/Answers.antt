@@ -27,16 +27,16 @@ pub returns-clause-ok : goal.returns-clause-ok
 returns-clause-ok g c =
     let updates = c.insert_reserved-slot.ensures.updates in
     let same = ap (λ s. s.slots) c.reserve.ensures.rest_kept in
-    ap (λ s. table_of (c.self.inside.next + 1) c.insert_reserved-slot.new.self.slots s) c.push-notice.ensures
+    ap (λ s. table_of (c.self.inside.next + 1) c.insert_reserved-slot.new.self.slots s c.self.inside.closed) c.push-notice.ensures
     ∙ spawn_table (regrown c.self.invariant c.reserve.new.self.slots same) c.reserve_beside.new.self c.args.future _ c.insert_reserved-slot.result
     c.insert_reserved-slot.ensures.was_vacant (record { changed = updates.changed ∙ ap (λ k. Some (record { number = c.self.inside.next; cell = k })) c.new_cell-cell.ensures; others = updates.others })
-    ∙ (λ i. after_spawn (table_of c.self.inside.next (same i) (c.reserve_beside.ensures.same i)) c.insert_reserved-slot.result c.args.future)
+    ∙ (λ i. after_spawn (table_of c.self.inside.next (same i) (c.reserve_beside.ensures.same i) c.self.inside.closed) c.insert_reserved-slot.result c.args.future)
     ∙ ap (λ s. after_spawn s c.insert_reserved-slot.result c.args.future) c.self.view_is
 
 pub returns-clause-free : goal.returns-clause-free
 returns-clause-free g c =
     let same = ap (λ s. s.slots) c.reserve.ensures.rest_kept in
-    let free = spawn_free c.self.invariant c.self.inside.queues c.insert_reserved-slot.result (ap (λ l. get_or l c.insert_reserved-slot.result None) (sym same) ∙ c.insert_reserved-slot.ensures.was_vacant) in
+    let free = spawn_free c.self.invariant c.self.inside.queues c.self.inside.closed c.insert_reserved-slot.result (ap (λ l. get_or l c.insert_reserved-slot.result None) (sym same) ∙ c.insert_reserved-slot.ensures.was_vacant) in
     rw (← c.self.view_is) free
 
 pub returns-then-self-clause-cause : goal.returns-then-self-clause-cause
@@ -46,7 +46,7 @@ pub invariant_of-self : goal.invariant_of-self
 invariant_of-self g c = regrown c.self.invariant c.reserve.new.self.slots (ap (λ s. s.slots) c.reserve.ensures.rest_kept)
 
 pub returns-then-is_err-clause-refused : goal.returns-then-is_err-clause-refused
-returns-then-is_err-clause-refused g c = ap (λ s. table_of c.self.inside.next s.slots c.self.inside.queues) c.reserve.ensures.rest_kept ∙ c.self.view_is
+returns-then-is_err-clause-refused g c = ap (λ s. table_of c.self.inside.next s.slots c.self.inside.queues c.self.inside.closed) c.reserve.ensures.rest_kept ∙ c.self.view_is
 
 pub returns-then-is_err-clause-cause : goal.returns-then-is_err-clause-cause
 returns-then-is_err-clause-cause g c = (refl, λ last. c.if-self.false (ap (λ t. t.next) c.self.view_is ∙ last))
@@ -56,8 +56,8 @@ reserve_beside-requires-clause-within g c = c.self.invariant.room
 
 pub returns-then-is_err-2-clause-refused : goal.returns-then-is_err-2-clause-refused
 returns-then-is_err-2-clause-refused g c =
-    ap (table_of c.self.inside.next c.reserve.new.self.slots) c.reserve_beside.ensures.same
-    ∙ ap (λ s. table_of c.self.inside.next s.slots c.self.inside.queues) c.reserve.ensures.rest_kept
+    ap (λ s. table_of c.self.inside.next c.reserve.new.self.slots s c.self.inside.closed) c.reserve_beside.ensures.same
+    ∙ ap (λ s. table_of c.self.inside.next s.slots c.self.inside.queues c.self.inside.closed) c.reserve.ensures.rest_kept
     ∙ c.self.view_is
 
 pub returns-then-is_err-2-clause-cause : goal.returns-then-is_err-2-clause-cause

@@ -23,7 +23,7 @@ returns-clause-table g c =
     let q = c.self.inside.queues in
     let found = sym c.in-Some-take_front.ensures.front in
     let sound = sound_permuted c.self.invariant (search_global-permutes q.lists c.in-Some-take_front.id found) in
-    let table = table_of c.self.inside.next c.self.inside.cells.slots q in
+    let table = table_of c.self.inside.next c.self.inside.cells.slots q c.self.inside.closed in
     rw c.take_front.ensures.rest (found_table sound c.take_out-taken.ensures q (search_global q.lists).1 (search_global (queues_of table))
     (search_global-map_found (λ id. id.number) q.lists ∙ ap (option_map (λ id. id.number)) found)
     (search_global-map_lists (λ id. id.number) q.lists)

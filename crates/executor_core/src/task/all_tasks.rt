@@ -1,0 +1,93 @@
+//! The calls that change every task at once.
+//!
+//! Each is one change of the table. It visits the slots once, and takes no memory: the global queue
+//! has room for every future that is not dropped.
+ghost use Rattle.std.specs.Prelude.{◌≡◌, ◌+◌, ◌≤◌, nat_lt, length, map, is_some, count_by, slice_index_or, slice_set, None};
+ghost use Rattle.executor_core.specs.Queues.State.{with_lists, pushed_all};
+ghost use Rattle.executor_core.specs.Cells.View.{is_queueable, change_by, changed_slot, idle_id, idle_ids};
+ghost use Rattle.executor_core.specs.Cells.Calls.{SlotsDiffer, after_wake_all, wake_all_queues, after_close, close_queues};
+
+use crate::queue::queues::Queues;
+use crate::task::cell::{Cell, Numbered, cancel_cell, wake_cell};
+use crate::task::{Cells, Notice, TaskId};
+use slab::Slab;
+
+impl<P, T, W> Cells<P, T, W> {
+    /// Wakes every task, by rising slot: an idle one is scheduled at the global end, and one whose
+    /// future is out is marked. It stands for what `Executor::leak` does to each task.
+    ///
+    /// The notice is there exactly where a task was idle. No two tasks have one slot, so this is one
+    /// order. It takes no memory.
+    pub fn wake_all(&mut self) -> Option<Notice>
+        ensures table { self.new ≡ after_wake_all self.old }
+        ensures notice { is_some result ≡ wake_all_queues self.old }
+        ensures slots { SlotsDiffer self.old }
+    {
+        let idle = change_all(&mut self.cells, &mut self.queues, false);
+        Notice::of(idle)
+    }
+
+    /// Closes the cells: every task whose future is not dropped is cancelled, whether its handle is
+    /// there or not. The idle ones are scheduled at the global end, by rising slot, and then all that
+    /// stands in the runners' queues goes there, in order of registration. These queues stay, empty.
+    /// From now on `drain_next` takes. It stands for what the drop of an `Executor` does to each task.
+    ///
+    /// The notice is there exactly where the global queue grew. No two tasks have one slot, so this
+    /// is one order. It takes no memory.
+    pub fn close(&mut self) -> Option<Notice>
+        ensures table { self.new ≡ after_close self.old }
+        ensures notice { is_some result ≡ close_queues self.old }
+        ensures slots { SlotsDiffer self.old }
+    {
+        self.closed = true;
+        let idle = change_all(&mut self.cells, &mut self.queues, true);
+        let moved = self.queues.gather();
+        Notice::of(idle || moved)
+    }
+}
+
+// Cancels each task, or wakes it, by rising slot, and queues the idle ones at the global end. Says
+// whether one was idle.
+fn change_all<P, T, W>(
+    cells: &mut Slab<Numbered<Cell<P, T, W>>>,
+    queues: &mut Queues,
+    cancels: bool,
+) -> bool
+    requires { length queues.old.lists.global + count_by is_queueable cells.old.slots ≤ queues.old.room }
+    ensures slots { cells.new.slots ≡ map (changed_slot (change_by cancels)) cells.old.slots }
+    ensures queues { queues.new ≡ with_lists (pushed_all (idle_ids 0 cells.old.slots) queues.old.lists) queues.old }
+    ensures idle { result ≡ nat_lt 0 (length (idle_ids 0 cells.old.slots)) }
+{
+    let mut idle = false;
+    for slot in 0..cells.capacity() {
+        if let Some(id) = change_slot(cells, slot, cancels) {
+            queues.push(id).keep();
+            idle = true;
+        }
+    }
+    idle
+}
+
+// Cancels the task in this slot, or wakes it. Gives its id where it was idle.
+fn change_slot<P, T, W>(
+    cells: &mut Slab<Numbered<Cell<P, T, W>>>,
+    slot: usize,
+    cancels: bool,
+) -> Option<TaskId>
+    ensures slots { cells.new.slots ≡ slice_set cells.old.slots slot (changed_slot (change_by cancels) (slice_index_or cells.old.slots slot None)) }
+    ensures idle { result ≡ idle_id slot (slice_index_or cells.old.slots slot None) }
+{
+    let entry = cells.get_mut(slot)?;
+    let idle = if cancels {
+        cancel_cell(&mut entry.cell)
+    } else {
+        wake_cell(&mut entry.cell)
+    };
+    if !idle {
+        return None;
+    }
+    Some(TaskId {
+        number: entry.number,
+        slot,
+    })
+}
