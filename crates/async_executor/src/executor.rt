@@ -177,6 +177,7 @@ where
 {
     fn drop(self) {
         let Executor { inner } = self;
+        inner.close();
         drop(inner);
     }
 }

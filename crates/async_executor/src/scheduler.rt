@@ -11,6 +11,7 @@ ghost use Rattle.async_executor.specs.RunError.{run_future};
 ghost use Rattle.async_executor.specs.Runs.{has_ended};
 ghost use Rattle.async_executor.specs.LeftOver.{IsHeldRight, IsLeftRight};
 
+mod closing;
 mod many;
 
 use crate::home::{Home, OutIn, OutputIn};
