@@ -24,12 +24,13 @@ fn main(rt: HostRuntime) -> io::Result<ExitCode> {
     core_calls::make_ticker(alloc, &mut outcome, false);
     core_calls::make_ticker(alloc, &mut outcome, true);
     running::spawn_and_run(&rt, alloc, &mut outcome);
+    running::spawn_many_and_run(&rt, alloc, &mut outcome);
     running::tick_and_run(&rt, alloc, &mut outcome);
     if let Some((sleepers, runners)) = rooms::keep_rooms(&rt, alloc, &mut outcome) {
         println!(rt; "room for {sleepers} sleepers and {runners} runners")?;
     }
     println!(rt;
-        "refused: Cells::new {}, Cells::spawn {}, Cells::reserve_runner {}, Ring::new {}, Sleepers::reserve {}, Core::new {}, Core::reserve {}, World::new {}, World::run {}, World::step {}, Executor::new {}, Executor::spawn {}, Executor::tick {}, Executor::run {}, steps {}, orders {}; wrong: {}",
+        "refused: Cells::new {}, Cells::spawn {}, Cells::reserve_runner {}, Ring::new {}, Sleepers::reserve {}, Core::new {}, Core::reserve {}, World::new {}, World::run {}, World::step {}, Executor::new {}, Executor::spawn {}, Executor::spawn_many {}, Executor::tick {}, Executor::run {}, steps {}, orders {}; wrong: {}",
         outcome.cells_new,
         outcome.cells_spawn,
         outcome.cells_reserve_runner,
@@ -42,6 +43,7 @@ fn main(rt: HostRuntime) -> io::Result<ExitCode> {
         outcome.world_step,
         outcome.executor_new,
         outcome.executor_spawn,
+        outcome.executor_spawn_many,
         outcome.executor_tick,
         outcome.executor_run,
         outcome.steps,

@@ -1,12 +1,13 @@
-//! How many ticks and runs an executor makes without a request for memory. A run that is over leaves
+//! What takes no memory: the drop of an executor, and as many ticks and runs as there is room for. A run that is over leaves
 //! as much room as there was before it, and so does one that was refused, whichever of its requests
 //! was.
 use crate::outcome::{Outcome, count};
-use crate::running::{AddingExecutor, Adds, Beside, CountingWaker, made};
+use crate::running::{AddingExecutor, Adds, Beside, CountingWaker, made, spawn_all};
 use async_executor::executor::{Run, Tick};
 use executor_core::queue::Ring;
 use std::alloc::{AllocError, Global};
 use std::sync::Wait;
+use std::sync::atomic::{AtomicU64, Ordering};
 
 /// The request for a ring of this capacity and N places more is an order to the library of
 /// `checks/fail_nth.c`: the Nth request after it is refused.
@@ -138,6 +139,20 @@ fn refuse_later<R: Wait + Clone + Drop + Send + Sync>(
     Ok(room)
 }
 
+// Drops an executor that has tasks. No request for memory is made, so one that comes after it is the
+// first.
+fn drop_one<R: Wait + Clone + Drop + Send + Sync>(rt: &R, alloc: Global, outcome: &mut Outcome) {
+    let sum = AtomicU64::new(0);
+    let Some(ex) = made(rt, alloc, outcome) else {
+        return outcome.expect(false);
+    };
+    spawn_all(&ex, &sum, outcome);
+    order(alloc, 1);
+    drop(ex);
+    outcome.expect(is_ring_refused(alloc));
+    outcome.expect(sum.load(Ordering::SeqCst) == 0);
+}
+
 /// For how many sleepers and runners a new executor has room, before and after runs that were
 /// refused. There is no answer if the library takes no orders.
 pub fn keep_rooms<R: Wait + Clone + Drop + Send + Sync>(
@@ -148,6 +163,7 @@ pub fn keep_rooms<R: Wait + Clone + Drop + Send + Sync>(
     if !takes_orders(alloc, outcome) {
         return None;
     }
+    drop_one(rt, alloc, outcome);
     let ex = made(rt, alloc, outcome)?;
     let sleepers = refuse_first(&ex, alloc, outcome).ok()?;
     let runners = refuse_later(&ex, alloc, outcome).ok()?;

@@ -1,6 +1,6 @@
 //! The calls of a running executor that take memory.
 use crate::outcome::{Outcome, count};
-use async_executor::executor::{Executor, Run, RunError, Tick};
+use async_executor::executor::{Executor, Run, RunError, RunnerError, Task, Tick};
 use executor_core::task::{Future, OutOfMemory, Poll, SpawnError, Wake};
 use std::alloc::Global;
 use std::sync::Wait;
@@ -78,7 +78,8 @@ fn spawned<'a, R: Wait + Clone + Drop + Send + Sync>(
     }
 }
 
-fn spawn_all<'a, R: Wait + Clone + Drop + Send + Sync>(
+/// Spawns tasks, each again where that is refused.
+pub fn spawn_all<'a, R: Wait + Clone + Drop + Send + Sync>(
     ex: &AddingExecutor<'a, R>,
     sum: &'a AtomicU64,
     outcome: &mut Outcome,
@@ -117,6 +118,68 @@ pub fn spawn_and_run<R: Wait + Clone + Drop + Send + Sync>(
     };
     spawn_all(&ex, &sum, outcome);
     run_all(&ex, &sum, outcome);
+}
+
+// So many futures that each table and the handles grow more than once.
+const MANY: u64 = 10;
+
+type Handles<'a, R> = Vec<Task<Adds<'a>, CountingWaker<'a>, R>>;
+
+// Spawns the futures from this number on many at once. An iterator that gives so many was asked for
+// no more than were spawned and the one that comes back. Says how many were spawned.
+fn spawned_from<'a, R: Wait + Clone + Drop + Send + Sync>(
+    ex: &AddingExecutor<'a, R>,
+    first: u64,
+    sum: &'a AtomicU64,
+    tasks: &mut Handles<'a, R>,
+    outcome: &mut Outcome,
+) -> u64 {
+    let asked = AtomicU64::new(0);
+    let futures = (first..MANY).map(|number| {
+        asked.fetch_add(1, Ordering::SeqCst);
+        Adds { number, sum }
+    });
+    let refusal = match ex.spawn_many(futures, tasks) {
+        Ok(spawned) => return spawned as u64,
+        Err(refusal) => refusal,
+    };
+    count(&mut outcome.executor_spawn_many);
+    outcome.expect(refusal.cause == RunnerError::OutOfMemory);
+    let spawned = refusal.spawned as u64;
+    let asked = asked.load(Ordering::SeqCst);
+    match refusal.into_inner() {
+        Some(future) => {
+            outcome.expect(asked == spawned.saturating_add(1));
+            outcome.expect(future.number == first.saturating_add(spawned));
+        }
+        None => outcome.expect(asked == spawned),
+    }
+    spawned
+}
+
+/// Spawns tasks many at once on a new executor, and runs them. Those that were not spawned at the
+/// first call are spawned at a second one.
+pub fn spawn_many_and_run<R: Wait + Clone + Drop + Send + Sync>(
+    rt: &R,
+    alloc: Global,
+    outcome: &mut Outcome,
+) {
+    let sum = AtomicU64::new(0);
+    let Some(ex) = made(rt, alloc, outcome) else {
+        return outcome.expect(false);
+    };
+    let mut tasks = Vec::new(alloc);
+    let first = spawned_from(&ex, 0, &sum, &mut tasks, outcome);
+    outcome.expect(tasks.len() as u64 == first);
+    let second = spawned_from(&ex, first, &sum, &mut tasks, outcome);
+    outcome.expect(first.saturating_add(second) == MANY);
+    outcome.expect(tasks.len() as u64 == MANY);
+    for _ in 0..MANY {
+        outcome.expect(ex.try_tick());
+    }
+    outcome.expect(!ex.try_tick() && ex.is_empty());
+    outcome.expect(sum.load(Ordering::SeqCst) == MANY * (MANY - 1) / 2);
+    outcome.expect(tasks.iter().all(|task| task.is_finished()));
 }
 
 // A tick, made again where it is refused.
