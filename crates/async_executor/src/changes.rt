@@ -1,9 +1,13 @@
-//! The changes of a store that a home makes, each with one of the table inside it where that has to
-//! change with it.
+//! The calls of a home. Each is one change of its store, which no other change overlaps, with one of
+//! the table inside it where that has to change with it.
+//!
+//! A change polls nothing of a task, drops nothing and wakes nobody: what is to be dropped or woken is
+//! part of its answer.
 ghost use Rattle.std.specs.Prelude.{◌≡◌, IfErr};
 ghost use Rattle.executor_core.specs.SpawnError.{refused_future};
 ghost use Rattle.async_executor.specs.LeftOver.{IsHeldRight, IsLeftRight, IsEndRight};
 
+use crate::home::{Home, OutIn, OutputIn};
 use crate::left_over::{EndThenSearch, LeftOver, finished};
 use crate::state::ExecutorState;
 use crate::store::Store;
@@ -14,48 +18,135 @@ use executor_core::task::{
 };
 use std::sync::{Arc, Wait};
 
+/// Makes a task of this future and keeps the future. Its place is made before the task is queued.
+/// Where that is refused, all is as before.
+pub(crate) fn spawn<H: Home>(
+    home: &H,
+    future: H::Future,
+) -> Result<(TaskId, Notice), SpawnError<H::Future>>
+    ensures { IfErr result (λ e. refused_future e ≡ future) }
+{
+    let Ok(state) = home.share_state() else {
+        return Err(SpawnError::OutOfMemory(future));
+    };
+    let mut guard = home.store();
+    let store = guard.get();
+    if store.reserve().is_err() {
+        return Err(SpawnError::OutOfMemory(future));
+    }
+    let spawned = state.cells().spawn(());
+    match spawned {
+        Ok((id, notice)) => {
+            store.insert(id, future, state);
+            Ok((id, notice))
+        }
+        Err(SpawnError::OutOfMemory(())) => Err(SpawnError::OutOfMemory(future)),
+        Err(SpawnError::Exhausted(())) => Err(SpawnError::Exhausted(future)),
+    }
+}
+
+/// Takes the future of the task out, with the waker to poll it with.
+pub(crate) fn take<H: Home>(home: &H, id: TaskId) -> OutIn<H> {
+    let mut store = home.store();
+    store.get().take(id)
+}
+
+/// Takes a task for a runner, and its future out.
+pub(crate) fn search<H: Home>(
+    home: &H,
+    key: RunnerKey,
+    word: u64,
+    again: Option<Again>,
+    out: &mut OutIn<H>,
+) -> Option<(Taken<()>, Notice)> {
+    let mut store = home.store();
+    let found = home.state().cells().search(key, word, again);
+    store.get().take_found(found, out)
+}
+
+/// Ends a task that was run, and keeps its future or its output, where the handle wants it. There is
+/// a notice where the task was queued.
+#[inline(always)]
+pub(crate) fn end<H: Home>(
+    home: &H,
+    id: TaskId,
+    ran: Ran<(), OutputIn<H>>,
+    out: &mut OutIn<H>,
+) -> Result<Option<Notice>, LeftOver<H::Waker, OutputIn<H>>>
+    requires { IsHeldRight ran }
+    ensures { IfErr result (λ left. IsLeftRight left) }
+{
+    let mut store = home.store();
+    let mut cells = home.state().cells();
+    store.get().end(&mut cells, id, ran, out)
+}
+
+/// Ends a task that was run, and takes the next one for a runner, and its future out.
+#[inline(always)]
+pub(crate) fn end_then_search<H: Home>(
+    home: &H,
+    id: TaskId,
+    ran: Ran<(), OutputIn<H>>,
+    out: &mut OutIn<H>,
+    key: RunnerKey,
+    word: u64,
+) -> EndThenSearch<H::Waker, OutputIn<H>>
+    requires { IsHeldRight ran }
+    ensures { IsEndRight result }
+{
+    let mut guard = home.store();
+    let store = guard.get();
+    let mut cells = home.state().cells();
+    match store.end(&mut cells, id, ran, out) {
+        Ok(notice) => {
+            let found = cells.search(key, word, None);
+            drop(cells);
+            EndThenSearch::Searched(notice, store.take_found(found, out))
+        }
+        Err(left) => EndThenSearch::Left(left),
+    }
+}
+
+/// Ends the handle of a task that has ended. The output comes out where there is one, and a waker
+/// that was left. `None` says that the task has not ended.
+#[inline(always)]
+pub(crate) fn take_ended<H: Home>(
+    home: &H,
+    id: TaskId,
+) -> Option<(Option<OutputIn<H>>, Option<H::Waker>)> {
+    let mut store = home.store();
+    let mut cells = home.state().cells();
+    if !cells.is_ended(id) {
+        return None;
+    }
+    match cells.detach(id) {
+        (Some(()), awaiter) => Some((store.get().take_output(id), awaiter)),
+        (None, awaiter) => Some((None, awaiter)),
+    }
+}
+
+/// Asks the handle of a task for its output, and leaves the waker where there is no answer.
+pub(crate) fn poll_handle<H: Home>(
+    home: &H,
+    id: TaskId,
+    waker: H::Waker,
+) -> PollHandle<Option<OutputIn<H>>, H::Waker> {
+    let mut store = home.store();
+    let answer = home.state().cells().poll_handle(id, waker);
+    match answer {
+        PollHandle::Output((), waker) => PollHandle::Output(store.get().take_output(id), waker),
+        PollHandle::Cancelled(waker) => PollHandle::Cancelled(waker),
+        PollHandle::Pending(before) => PollHandle::Pending(before),
+    }
+}
+
 /// The future of a task while it is out, with the waker that it is polled with.
 pub type Out<F, W, R> = Option<(F, TaskWaker<W, R>)>;
 
 impl<F: Drop, W: Wake, R: Wait + Clone + Drop, T: Drop> Store<F, Arc<ExecutorState<W, R>>, T> {
-    /// The task's place is made before the task is queued.
-    pub(crate) fn spawn(
-        &mut self,
-        state: Arc<ExecutorState<W, R>>,
-        future: F,
-    ) -> Result<(TaskId, Notice), SpawnError<F>>
-        ensures { IfErr result (λ e. refused_future e ≡ future) }
-    {
-        if self.reserve().is_err() {
-            return Err(SpawnError::OutOfMemory(future));
-        }
-        let spawned = state.cells().spawn(());
-        match spawned {
-            Ok((id, notice)) => {
-                self.insert(id, future, state);
-                Ok((id, notice))
-            }
-            Err(SpawnError::OutOfMemory(())) => Err(SpawnError::OutOfMemory(future)),
-            Err(SpawnError::Exhausted(())) => Err(SpawnError::Exhausted(future)),
-        }
-    }
-
     pub(crate) fn take(&mut self, id: TaskId) -> Out<F, W, R> {
         let (future, state) = self.take_future(id)?;
         Some((future, TaskWaker::lent(state, id)))
-    }
-
-    /// Takes a task for a runner, and its future out.
-    pub(crate) fn search(
-        &mut self,
-        state: &ExecutorState<W, R>,
-        key: RunnerKey,
-        word: u64,
-        again: Option<Again>,
-        out: &mut Out<F, W, R>,
-    ) -> Option<(Taken<()>, Notice)> {
-        let found = state.cells().search(key, word, again);
-        self.take_found(found, out)
     }
 
     // Takes the future of a task that was found out, where none is out any more.
@@ -131,61 +222,6 @@ impl<F: Drop, W: Wake, R: Wait + Clone + Drop, T: Drop> Store<F, Arc<ExecutorSta
                 *out = Some((future, TaskWaker::lent(state, id)));
                 Err(wake)
             }
-        }
-    }
-
-    /// Ends a task, and takes the next one for a runner, and its future out.
-    #[inline(always)]
-    pub(crate) fn end_then_search(
-        &mut self,
-        state: &ExecutorState<W, R>,
-        id: TaskId,
-        ran: Ran<(), T>,
-        out: &mut Out<F, W, R>,
-        key: RunnerKey,
-        word: u64,
-    ) -> EndThenSearch<W, T>
-        requires { IsHeldRight ran }
-        ensures { IsEndRight result }
-    {
-        let mut cells = state.cells();
-        match self.end(&mut cells, id, ran, out) {
-            Ok(notice) => {
-                let found = cells.search(key, word, None);
-                drop(cells);
-                EndThenSearch::Searched(notice, self.take_found(found, out))
-            }
-            Err(left) => EndThenSearch::Left(left),
-        }
-    }
-
-    #[inline(always)]
-    pub(crate) fn take_ended(
-        &mut self,
-        state: &ExecutorState<W, R>,
-        id: TaskId,
-    ) -> Option<(Option<T>, Option<W>)> {
-        let mut cells = state.cells();
-        if !cells.is_ended(id) {
-            return None;
-        }
-        match cells.detach(id) {
-            (Some(()), awaiter) => Some((self.take_output(id), awaiter)),
-            (None, awaiter) => Some((None, awaiter)),
-        }
-    }
-
-    pub(crate) fn poll_handle(
-        &mut self,
-        state: &ExecutorState<W, R>,
-        id: TaskId,
-        waker: W,
-    ) -> PollHandle<Option<T>, W> {
-        let answer = state.cells().poll_handle(id, waker);
-        match answer {
-            PollHandle::Output((), waker) => PollHandle::Output(self.take_output(id), waker),
-            PollHandle::Cancelled(waker) => PollHandle::Cancelled(waker),
-            PollHandle::Pending(before) => PollHandle::Pending(before),
         }
     }
 }

@@ -14,6 +14,7 @@ ghost use Rattle.async_executor.specs.LeftOver.{IsHeldRight, IsLeftRight};
 mod closing;
 mod many;
 
+use crate::changes;
 use crate::home::{Home, OutIn, OutputIn};
 use crate::left_over::LeftOver;
 use crate::limits::LOCAL_PLACES;
@@ -56,7 +57,7 @@ impl<H: Home> ExecutorIn<H> {
         let Ok(home) = self.home.share() else {
             return Err(SpawnError::OutOfMemory(future));
         };
-        let (id, notice) = self.home.spawn(future)?;
+        let (id, notice) = changes::spawn(&self.home, future)?;
         announce!(self.home.state(), notice);
         Ok(TaskIn::new(home, id))
     }
@@ -121,7 +122,7 @@ impl<H: Home> ExecutorIn<H> {
     /// the task. No lock may be held.
     pub(crate) fn run_task(&self, taken: Taken<()>) {
         let id = taken.id();
-        let mut out = self.home.take(id);
+        let mut out = changes::take(&self.home, id);
         let ran = poll_taken::<H>(taken, &mut out);
         self.end(id, ran, &mut out);
     }
@@ -133,7 +134,7 @@ impl<H: Home> ExecutorIn<H> {
     {
         match ran {
             Ran::Dropped(held) => self.end_dropped(held),
-            ran => match self.home.end(id, ran, out) {
+            ran => match changes::end(&self.home, id, ran, out) {
                 Ok(None) => {}
                 Ok(Some(notice)) => announce!(self.home.state(), notice),
                 Err(left) => {
@@ -170,7 +171,7 @@ impl<H: Home> ExecutorIn<H> {
     fn drop_pending(&self, id: TaskId, held: Held)
         requires { held.to_drop ≡ true }
     {
-        drop(self.home.take(id));
+        drop(changes::take(&self.home, id));
         self.end_dropped(held);
     }
 

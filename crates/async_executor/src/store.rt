@@ -11,7 +11,7 @@ use std::alloc::Global;
 
 /// What is kept of a task: its future with a share S of which its waker is made, or its output T.
 #[derive(Drop)]
-pub(crate) enum Kept<F, S, T> {
+pub enum Kept<F, S, T> {
     Nothing,
     Future(F, S),
     Output(T),
@@ -25,7 +25,7 @@ struct Place<F, S, T> {
 
 /// What is kept of all tasks, each at its slot.
 #[derive(Drop)]
-pub(crate) struct Store<F, S, T> {
+pub struct Store<F, S, T> {
     places: Vec<Place<F, S, T>>,
 }
 

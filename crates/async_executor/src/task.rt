@@ -6,6 +6,7 @@
 ghost use Rattle.std.specs.Prelude.{◌≡◌, false, IsTrue};
 ghost use Rattle.async_executor.specs.Answers.{is_ready, IsReadyErr, IsReadyNone};
 
+use crate::changes::{poll_handle, take_ended};
 use crate::home::{Home, OutputIn};
 use crate::state::announce;
 use executor_core::task::{Future, Poll, PollHandle, TaskId, Wake};
@@ -76,7 +77,7 @@ impl<H: Home> TaskIn<H> {
 #[cold]
 #[inline(never)]
 fn detach_ended<H: Home>(home: &H, id: TaskId) {
-    drop(home.take_ended(id));
+    drop(take_ended(home, id));
 }
 
 impl<H: Home> Future<H::Waker> for TaskIn<H> {
@@ -91,7 +92,7 @@ impl<H: Home> Future<H::Waker> for TaskIn<H> {
         if self.answered {
             return Poll::Ready(Err(Cancelled));
         }
-        if let Some((output, _)) = self.home.take_ended(self.id) {
+        if let Some((output, _)) = take_ended(&self.home, self.id) {
             self.answered = true;
             return Poll::Ready(output.ok_or(Cancelled));
         }
@@ -99,7 +100,7 @@ impl<H: Home> Future<H::Waker> for TaskIn<H> {
             w.wake();
             return Poll::Pending;
         };
-        let output = match self.home.poll_handle(self.id, waker) {
+        let output = match poll_handle(&self.home, self.id, waker) {
             PollHandle::Pending(_) => return Poll::Pending,
             PollHandle::Output(output, _) => output,
             PollHandle::Cancelled(_) => None,

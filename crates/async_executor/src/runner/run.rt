@@ -11,6 +11,7 @@ ghost use Rattle.async_executor.specs.Answers.{is_ready};
 ghost use Rattle.async_executor.specs.Runs.{has_ended, ids_in};
 ghost use Rattle.async_executor.specs.LeftOver.{IsHeldRight};
 
+use crate::changes;
 use crate::home::{Home, OutIn, OutputIn};
 use crate::left_over::EndThenSearch;
 use crate::machine::{
@@ -116,7 +117,7 @@ impl<'x, 'y, H: Home, G: Drop> Driver<'x, 'y, H, G> {
         let own = &mut *self.own;
         let word = own.words.next();
         let home = self.executor.home();
-        home.search(self.key, word, again, &mut self.out)
+        changes::search(home, self.key, word, again, &mut self.out)
     }
 
     // Runs a task, and those that are found after it, until none is found or the turn is over. It is
@@ -173,7 +174,7 @@ impl<'x, 'y, H: Home, G: Drop> Driver<'x, 'y, H, G> {
         let own = &mut *self.own;
         let word = own.words.next();
         let home = self.executor.home();
-        match home.end_then_search(id, ran, &mut self.out, self.key, word) {
+        match changes::end_then_search(home, id, ran, &mut self.out, self.key, word) {
             EndThenSearch::Searched(None, found) => found,
             EndThenSearch::Searched(Some(notice), found) => {
                 announce!(self.executor.state(), notice);
@@ -183,7 +184,7 @@ impl<'x, 'y, H: Home, G: Drop> Driver<'x, 'y, H, G> {
                 // Its drop and its wake come before the search, which they may queue something for.
                 self.out = None;
                 self.executor.finish(id, left);
-                home.search(self.key, word, None, &mut self.out)
+                changes::search(home, self.key, word, None, &mut self.out)
             }
         }
     }

@@ -1,0 +1,65 @@
+//! The home of executors whose parts may go to other threads.
+use crate::home::{Home, StoreGuard};
+use crate::lock::lock;
+use crate::state::{APART, CacheLine, ExecutorState};
+use crate::store::Store;
+use crate::waker::TaskWaker;
+use executor_core::task::{Future, OutOfMemory, Wake};
+use std::alloc::Global;
+use std::sync::{Arc, Mutex, Wait};
+
+#[derive(Drop)]
+struct Shared<F: Future<TaskWaker<W, R>>, W: Wake, R: Wait + Clone + Drop> {
+    state: Arc<ExecutorState<W, R>>,
+    // The lock of the store is not on the line of the counts of the shares.
+    before_store: CacheLine,
+    store: Mutex<Store<F, Arc<ExecutorState<W, R>>, F::Output>>,
+}
+
+/// A home whose store has a lock.
+#[derive(Drop)]
+pub struct SharedHome<F: Future<TaskWaker<W, R>>, W: Wake, R: Wait + Clone + Drop> {
+    shared: Arc<Shared<F, W, R>>,
+}
+
+impl<F: Future<TaskWaker<W, R>>, W: Wake, R: Wait + Clone + Drop> Home for SharedHome<F, W, R> {
+    type Future = F;
+
+    type Waker = W;
+
+    type Runtime = R;
+
+    fn new(rt: R, alloc: Global) -> Result<Self, OutOfMemory> {
+        let Ok(state) = Arc::new(alloc, ExecutorState::new(rt, alloc)?) else {
+            return Err(OutOfMemory);
+        };
+        let store = Mutex::new(Store::new(alloc));
+        let shared = Shared {
+            state,
+            before_store: APART,
+            store,
+        };
+        match Arc::new(alloc, shared) {
+            Ok(shared) => Ok(SharedHome { shared }),
+            Err(_) => Err(OutOfMemory),
+        }
+    }
+
+    fn share(&self) -> Result<Self, OutOfMemory> {
+        let shared = Arc::try_clone(&self.shared)?;
+        Ok(SharedHome { shared })
+    }
+
+    fn state(&self) -> &ExecutorState<W, R> {
+        &self.shared.state
+    }
+
+    fn share_state(&self) -> Result<Arc<ExecutorState<W, R>>, OutOfMemory> {
+        Ok(Arc::try_clone(&self.shared.state)?)
+    }
+
+    #[inline(always)]
+    fn store(&self) -> StoreGuard<'_, Store<F, Arc<ExecutorState<W, R>>, F::Output>> {
+        StoreGuard::Locked(lock!(self.shared.store, self.shared.state.rt()))
+    }
+}
