@@ -1,5 +1,6 @@
 //! Worked runs of the table, of the sleepers, of a world, and of lines of text.
 mod cells;
+mod closing;
 mod exsim;
 mod lines;
 mod notices;

@@ -1,29 +1,29 @@
 //! Tasks in the table, by its calls.
 use crate::tests::lines::{Player, play};
 use crate::tests::notices::{is_spent, spend};
-use crate::tests::tasks::{Tasks, Ticked, polled, spawn, tick};
+use crate::tests::tasks::{Tasks, Ticked, drain, dropped, polled, spawn, tick};
 use crate::tests::wakers::Wakers;
 use Line::{
-    Cancel, Detach, DropHandle, Empty, Finished, GlobalAt, GlobalLen, Keeps, Poll, Refuse,
-    SameSlot, Spawn, Tick, Undropped, Wake, Woken,
+    Cancel, Close, Detach, Drain, DropHandle, Empty, Finished, GlobalAt, GlobalLen, Keeps, Law,
+    Poll, Refuse, SameSlot, Spawn, Tick, Undropped, Wake, WakeAll, Woken,
 };
 use executor_core::task::{PollHandle, SpawnError, TaskId};
 use std::alloc::Global;
 use std::test::Fail;
 
-// What a poll of a handle answers.
+/// What a poll of a handle answers.
 #[derive(Clone, Copy, PartialEq)]
-enum Answer {
+pub enum Answer {
     Output(u64),
     Cancelled,
     // Not yet, and the waker of an earlier poll comes out or not.
     Pending(bool),
 }
 
-// What is done with a table, and what has to come of it. A task is named by how many were spawned
-// before it.
+/// What is done with a table, and what has to come of it. A task is named by how many were spawned
+/// before it.
 #[derive(Clone, Copy)]
-enum Line {
+pub enum Line {
     // A task of this future is spawned, and has this number.
     Spawn(u8, u64),
     // No number is left for a task of this future, which comes back.
@@ -57,18 +57,27 @@ enum Line {
     GlobalAt(usize, Option<u64>),
     // The waker of so many polls before was woken so often.
     Woken(usize, u32),
+    // All tasks are woken, and there is a notice or not.
+    WakeAll(bool),
+    // The cells are closed, and there is a notice or not.
+    Close(bool),
+    // A task is drained and run, and this comes of it, or there is none.
+    Drain(Option<Ticked>),
+    // The law of the table, which is a contract alone.
+    Law,
 }
 
+/// A table, the ids of its tasks, and the wakers of its handles.
 #[derive(Drop)]
-struct Table {
+pub struct Table {
     cells: Tasks,
     ids: Vec<TaskId>,
     wakers: Wakers,
 }
 
 impl Table {
-    // A table whose first task has this number.
-    fn new(alloc: Global, first: u64) -> Result<Table, Fail> {
+    /// A table whose first task has this number.
+    pub fn new(alloc: Global, first: u64) -> Result<Table, Fail> {
         Ok(Table {
             cells: Tasks::first_number(alloc, first)?,
             ids: Vec::new(alloc),
@@ -156,6 +165,13 @@ impl Player<Line> for Table {
             GlobalLen(count) => self.cells.global_len() == count,
             GlobalAt(place, number) => self.cells.global_at(place) == number,
             Woken(waker, times) => self.wakers.wakes(waker) == Some(times),
+            WakeAll(has_notice) => is_spent(self.cells.wake_all()) == has_notice,
+            Close(has_notice) => is_spent(self.cells.close()) == has_notice,
+            Drain(ticked) => drain(&mut self.cells) == ticked,
+            Law => {
+                self.cells.law_holds();
+                true
+            }
         })
     }
 }
@@ -202,10 +218,8 @@ fn the_number_before_the_last_is_given_once(rt: HostRuntime) -> Result<(), Fail>
 #[test]
 fn a_cancelled_task_is_dropped_unpolled_and_its_awaiter_woken(rt: HostRuntime) -> Result<(), Fail> {
     let dropped = Ticked {
-        polls: 0,
-        disposals: 1,
         wakes_awaiter: true,
-        ..polled(0)
+        ..dropped(0)
     };
     play(
         Table::new(rt.alloc(), 0)?,
@@ -226,11 +240,6 @@ fn a_cancelled_task_is_dropped_unpolled_and_its_awaiter_woken(rt: HostRuntime) -
 
 #[test]
 fn a_handle_that_ends_lets_its_output_go(rt: HostRuntime) -> Result<(), Fail> {
-    let dropped = Ticked {
-        polls: 0,
-        disposals: 1,
-        ..polled(1)
-    };
     let unwanted = Ticked {
         unwanted: Some(9),
         ..polled(2)
@@ -245,7 +254,7 @@ fn a_handle_that_ends_lets_its_output_go(rt: HostRuntime) -> Result<(), Fail> {
             Detach(0, Some(7)),
             DropHandle(1),
             Detach(2, None),
-            Tick(Some(8), Some(dropped)),
+            Tick(Some(8), Some(dropped(1))),
             Tick(Some(9), Some(unwanted)),
             Tick(None, None),
         ],

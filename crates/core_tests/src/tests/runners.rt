@@ -5,16 +5,17 @@ use crate::tests::rings::Line::{Fill, Pop, Push, Source, Stand, Steal, Target};
 use crate::tests::rings::Rings;
 use crate::tests::tasks::{Tasks, run, spawn};
 use Line::{
-    Fair, Find, GlobalAt, Law, Leave, Lengths, LocalAt, Refuse, Register, Release, Reserve, Runners,
+    Close, Fair, Find, GlobalAt, Law, Leave, Lengths, LocalAt, Refuse, Register, Release, Reserve,
+    Runners,
 };
 use executor_core::queue::{Ring, RunnerKey};
 use std::alloc::Global;
 use std::test::Fail;
 
-// What is done with a table that has tasks in its global queue, and what has to come of it. Runners
-// have the numbers 0, 1 and so on, in order of their reservations.
+/// What is done with a table that has tasks in its global queue, and what has to come of it. Runners
+/// have the numbers 0, 1 and so on, in order of their reservations.
 #[derive(Clone, Copy)]
-enum Line {
+pub enum Line {
     // A place is reserved for a runner, whose key no other has.
     Reserve,
     // The place that was reserved for this runner is given back.
@@ -29,6 +30,8 @@ enum Line {
     Fair(usize, usize),
     // This runner leaves, and there is a notice or not.
     Leave(usize, bool),
+    // The cells are closed, and there is a notice or not.
+    Close(bool),
     // So many runners have a queue.
     Runners(usize),
     // So many tasks stand in the global queue, and in those of the first two runners.
@@ -41,16 +44,17 @@ enum Line {
     Law,
 }
 
+/// A table, and the keys of its runners.
 #[derive(Drop)]
-struct Table {
+pub struct Table {
     cells: Tasks,
     keys: Vec<RunnerKey>,
     alloc: Global,
 }
 
 impl Table {
-    // A table with so many tasks, all in the global queue.
-    fn new(alloc: Global, tasks: u8) -> Result<Table, Fail> {
+    /// A table with so many tasks, all in the global queue.
+    pub fn new(alloc: Global, tasks: u8) -> Result<Table, Fail> {
         let mut cells = Tasks::new(alloc)?;
         for future in 0..tasks {
             spawn(&mut cells, future)?;
@@ -131,6 +135,7 @@ impl Player<Line> for Table {
                 let key = self.key(runner)?;
                 self.runner_holds(key, line)?
             }
+            Close(has_notice) => is_spent(self.cells.close()) == has_notice,
             Runners(count) => self.cells.runners() == count,
             Lengths(global, first, second) => self.lengths() == (global, first, second),
             GlobalAt(place, task) => self.cells.global_at(place) == task,

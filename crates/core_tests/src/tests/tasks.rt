@@ -79,6 +79,12 @@ pub fn tick(cells: &mut Tasks, output: Option<u64>) -> Option<Ticked> {
     Some(run(cells, taken, output))
 }
 
+/// Takes what is to be drained, and runs it.
+pub fn drain(cells: &mut Tasks) -> Option<Ticked> {
+    let taken = cells.drain_next()?;
+    Some(run(cells, taken, None))
+}
+
 /// Polls the task, or drops it where it is cancelled, and ends it.
 pub fn run(cells: &mut Tasks, taken: Taken<u8>, output: Option<u64>) -> Ticked {
     let number = taken.id().number();
@@ -117,5 +123,14 @@ pub fn polled(number: u64) -> Ticked {
         is_queued: false,
         unwanted: None,
         wakes_awaiter: false,
+    }
+}
+
+/// A task that was dropped unpolled, and no more.
+pub fn dropped(number: u64) -> Ticked {
+    Ticked {
+        polls: 0,
+        disposals: 1,
+        ..polled(number)
     }
 }
