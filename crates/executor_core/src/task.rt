@@ -23,6 +23,9 @@
 //! the end of a task whose future was dropped unfinished. A cell whose future was dropped is
 //! removed as soon as its handle is there no more.
 //!
+//! `wake_all` wakes every task in one change of the table, and `close` cancels every task so. What
+//! was closed is emptied by `drain_next`.
+//!
 //! What a call leaves to do is a value that can neither be copied nor dropped. Each has only the
 //! ends that this table names, so a path that forgets one does not compile.
 //!

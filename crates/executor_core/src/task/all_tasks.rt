@@ -42,7 +42,7 @@ impl<P, T, W> Cells<P, T, W> {
         self.closed = true;
         let idle = change_all(&mut self.cells, &mut self.queues, true);
         let moved = self.queues.gather();
-        Notice::of(idle || moved)
+        Notice::of(idle | moved)
     }
 }
 

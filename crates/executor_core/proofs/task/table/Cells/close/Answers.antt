@@ -1,4 +1,4 @@
-use Rattle.std.proofs.Common.{◌≡◌, ◌||◌, true, length, sym, ap, ◌∙◌, subst}
+use Rattle.std.proofs.Common.{◌||◌, true, length, sym, ap, ◌∙◌, subst}
 use Rattle.std.specs.Prelude.{nat_lt}
 use Rattle.executor_core.specs.Queues.{local_entries}
 use Rattle.executor_core.specs.Cells.Calls.{SlotsDiffer, close_queues}
@@ -7,7 +7,6 @@ use Rattle.executor_core.specs.Queues.State.{pushed_all}
 use Rattle.executor_core.proofs.OrderLemmas.{sound_permuted}
 use Rattle.executor_core.proofs.GatherLemmas.{gathered-permutes}
 use Rattle.executor_core.proofs.AllTasksLemmas.{changed_sound, slots_differ, pushed_all-entries, room_for_idle, room_for_all, close_table, close_notice}
-use Rattle.executor_core.proofs.task.table.Cells.close.Goals.{then-idle, else-idle}
 use Rattle.executor_core.proofs.task.table.Cells.close.Goals as goal
 
 pub change_all-idle-requires : goal.change_all-idle-requires
@@ -32,11 +31,7 @@ returns-clause-table g c =
 pub returns-clause-notice : goal.returns-clause-notice
 returns-clause-notice g c =
     let moved = c.gather-moved.ensures.moved ∙ ap (λ q. nat_lt 0 (length (local_entries q.lists.locals))) c.change_all-idle.ensures.queues in
-    let queued : c.if-idle.of ≡ (c.change_all-idle.result || c.gather-moved.result) = elim c.if-idle.branch [
-      | then-idle w ↦ w.of-is ∙ w.if-idle.true ∙ ap (λ b. b || c.gather-moved.result) (sym w.if-idle.true)
-      | else-idle w ↦ w.of-is ∙ ap (λ b. b || c.gather-moved.result) (sym w.if-idle.false)
-    ] in
-    c.of.ensures ∙ queued ∙ (λ i. c.change_all-idle.ensures.idle i || moved i)
+    c.of.ensures ∙ (λ i. c.change_all-idle.ensures.idle i || moved i)
     ∙ close_notice c.self.invariant c.self.inside.queues c.self.inside.closed ∙ ap close_queues c.self.view_is
 
 pub returns-clause-slots : goal.returns-clause-slots
