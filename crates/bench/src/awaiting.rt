@@ -125,11 +125,35 @@ pub fn spawn_all_await_run<R: Wait + Clone + Drop + Send + Sync>(
     for _ in 0..operations {
         tasks.push(ex.spawn(Yields::READY).ok()?).ok()?;
     }
+    await_all(rt, &mine, &ex, tasks)
+}
+
+/// Spawns all tasks by one call, and has a run's own future await them. Gives the number of outputs.
+pub fn spawn_many_run<R: Wait + Clone + Drop + Send + Sync>(
+    rt: &R,
+    alloc: Global,
+    operations: u64,
+) -> Option<u64> {
+    let mine = ThreadWaker::new(alloc).ok()?;
+    let ex: Awaited<R> = Executor::new(rt.clone().ok()?, alloc).ok()?;
+    let mut tasks = Vec::new(alloc);
+    ex.spawn_many((0..operations).map(|_| Yields::READY), &mut tasks)
+        .ok()?;
+    await_all(rt, &mine, &ex, tasks)
+}
+
+// Has a run's own future await these tasks.
+fn await_all<R: Wait + Clone + Drop + Send + Sync>(
+    rt: &R,
+    mine: &ThreadWaker,
+    ex: &Awaited<R>,
+    tasks: Vec<Handle<R>>,
+) -> Option<u64> {
     let own = All {
         tasks,
         answered: 0,
         outputs: 0,
     };
     let mut run = ex.run(own).ok()?;
-    Some(block_on(rt, &mine, &mut run))
+    Some(block_on(rt, mine, &mut run))
 }

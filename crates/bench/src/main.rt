@@ -9,6 +9,7 @@
 #![tactic(auto)]
 
 pub mod awaiting;
+pub mod closing;
 pub mod futures;
 pub mod parking;
 pub mod rows;

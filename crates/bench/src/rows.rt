@@ -1,5 +1,6 @@
 //! What is measured.
-use crate::awaiting::{spawn_all_await_run, spawn_await_run};
+use crate::awaiting::{spawn_all_await_run, spawn_await_run, spawn_many_run};
+use crate::closing::{close_idle, close_queued, drop_idle};
 use crate::futures::{IdleWaker, Large, Yields};
 use crate::parking::{one_spawner, parked_yield, wake_latency};
 use crate::running::{ping_pong, run_yields, threads_spawn, threads_yield};
@@ -55,6 +56,14 @@ pub enum Row {
     SpawnAwaitRun,
     /// Spawn all tasks, then await them in the own future of a run.
     SpawnAllAwaitRun,
+    /// The same, where they are spawned by one call.
+    SpawnManyRun,
+    /// Drop an executor whose tasks are idle.
+    DropIdle,
+    /// Close cells whose tasks are idle.
+    CloseIdle,
+    /// Close cells whose tasks are queued, some of them for four runners.
+    CloseQueued,
     /// Search as a runner whose own queue has tasks.
     SearchOwn,
     /// Search as a runner that steals 300 tasks of another by halves.
@@ -80,7 +89,7 @@ pub enum Row {
 }
 
 /// Each row, with its name on the command line.
-pub const ROWS: [(&str, Row); 44] = [
+pub const ROWS: [(&str, Row); 48] = [
     ("spawn_try_tick", Row::SpawnTryTick),
     ("spawn_drain", Row::SpawnDrain),
     ("yield_try_tick", Row::YieldTryTick),
@@ -104,6 +113,10 @@ pub const ROWS: [(&str, Row); 44] = [
     ("idle_run_15", Row::IdleRun(15)),
     ("spawn_await_run", Row::SpawnAwaitRun),
     ("spawn_all_await_run", Row::SpawnAllAwaitRun),
+    ("spawn_many_run", Row::SpawnManyRun),
+    ("drop_idle", Row::DropIdle),
+    ("close_idle", Row::CloseIdle),
+    ("close_queued", Row::CloseQueued),
     ("search_own", Row::SearchOwn),
     ("search_steal", Row::SearchSteal),
     ("search_empty_4", Row::SearchEmpty4),
@@ -159,6 +172,9 @@ impl Row {
             Row::ParkedYield(threads) => parked_yield(rt, alloc, threads, operations),
             Row::OneSpawner(threads) => one_spawner(rt, alloc, threads, operations),
             Row::WakeLatency => wake_latency(rt, alloc, operations),
+            Row::DropIdle => drop_idle(rt, alloc, operations),
+            Row::CloseIdle => close_idle(rt, alloc, operations),
+            Row::CloseQueued => close_queued(rt, alloc, operations),
             _ => {
                 let start = Instant::now(rt).ok()?;
                 let count = self.run_whole(rt, alloc, operations)?;
@@ -186,6 +202,7 @@ impl Row {
             Row::IdleRun(others) => idle_run(rt, alloc, others, operations),
             Row::SpawnAwaitRun => spawn_await_run(rt, alloc, operations),
             Row::SpawnAllAwaitRun => spawn_all_await_run(rt, alloc, operations),
+            Row::SpawnManyRun => spawn_many_run(rt, alloc, operations),
             Row::SearchOwn => search_own(alloc, operations),
             Row::SearchSteal => search_steal(alloc, operations),
             Row::SearchEmpty4 => search_empty(alloc, operations),

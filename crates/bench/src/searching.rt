@@ -41,7 +41,8 @@ impl Poller<(), ()> for Pends {
     }
 }
 
-type Tasks = Cells<(), (), IdleWaker>;
+/// The cells of tasks that nobody awaits.
+pub type Tasks = Cells<(), (), IdleWaker>;
 
 // Spends the notice by a flag that says that nobody sleeps.
 fn spend(notice: Notice) {
@@ -51,7 +52,8 @@ fn spend(notice: Notice) {
     }
 }
 
-fn spend_if(notice: Option<Notice>) {
+/// Spends the notice, where there is one.
+pub fn spend_if(notice: Option<Notice>) {
     if let Some(notice) = notice {
         spend(notice);
     }
@@ -63,8 +65,8 @@ fn wake_if(wakeup: Option<Wakeup<IdleWaker>>) {
     }
 }
 
-// Cells with so many scheduled tasks, and their ids. `None` where memory was refused.
-fn tasks(alloc: Global, count: usize) -> Option<(Tasks, Vec<TaskId>)> {
+/// Cells with so many scheduled tasks, and their ids. `None` where memory was refused.
+pub fn tasks(alloc: Global, count: usize) -> Option<(Tasks, Vec<TaskId>)> {
     let mut cells = Cells::new(alloc).ok()?;
     let mut ids = Vec::with_capacity(alloc, count).ok()?;
     for _ in 0..count {
@@ -75,8 +77,8 @@ fn tasks(alloc: Global, count: usize) -> Option<(Tasks, Vec<TaskId>)> {
     Some((cells, ids))
 }
 
-// A runner with an empty queue of its own. `None` where memory was refused.
-fn runner(cells: &mut Tasks, alloc: Global) -> Option<RunnerKey> {
+/// A runner with an empty queue of its own. `None` where memory was refused.
+pub fn runner(cells: &mut Tasks, alloc: Global) -> Option<RunnerKey> {
     let key = cells.reserve_runner().ok()?;
     let ring = Ring::new(alloc, PLACES).ok()?;
     match cells.register(key, ring) {
@@ -95,8 +97,8 @@ fn end_pending(cells: &mut Tasks, held: Held)
     }
 }
 
-// One search of the runner, and the poll of the task that it finds, which is idle then.
-fn search_once(cells: &mut Tasks, key: RunnerKey, word: u64) -> Option<TaskId> {
+/// One search of the runner, and the poll of the task that it finds, which is idle then.
+pub fn search_once(cells: &mut Tasks, key: RunnerKey, word: u64) -> Option<TaskId> {
     let (taken, notice) = cells.search(key, word, None)?;
     spend(notice);
     let id = taken.id();
@@ -118,8 +120,8 @@ fn search_once(cells: &mut Tasks, key: RunnerKey, word: u64) -> Option<TaskId> {
     Some(id)
 }
 
-// Moves all of the global queue to the runner's own, by halves.
-fn take_all(cells: &mut Tasks, key: RunnerKey) {
+/// Moves all of the global queue to the runner's own, by halves, as far as it has room.
+pub fn take_all(cells: &mut Tasks, key: RunnerKey) {
     for _ in 0..usize::BITS {
         if cells.fair(key) == 0 {
             return;

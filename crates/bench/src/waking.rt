@@ -7,12 +7,14 @@ use std::rt::Clock;
 use std::sync::{Arc, Mutex, Wait};
 use std::time::Instant;
 
-type Idle<R> = Executor<LeavesWaker<IdleWaker, R>, IdleWaker, R>;
+/// An executor whose tasks leave their wakers.
+pub type Idle<R> = Executor<LeavesWaker<IdleWaker, R>, IdleWaker, R>;
 
-type Wakers<R> = Vec<TaskWaker<IdleWaker, R>>;
+/// The wakers that tasks left.
+pub type Wakers<R> = Vec<TaskWaker<IdleWaker, R>>;
 
-// Spawns so many tasks, runs them until all are idle, and gives their wakers.
-fn idle_tasks<R: Wait + Clone + Drop + Send + Sync>(
+/// Spawns so many tasks, runs them until all are idle, and gives their wakers.
+pub fn idle_tasks<R: Wait + Clone + Drop + Send + Sync>(
     rt: &R,
     alloc: Global,
     ex: &Idle<R>,

@@ -104,6 +104,32 @@ pub(crate) fn added(outputs: Option<(u64, u64)>) -> Option<u64> {
     first.checked_add(second)
 }
 
+/// Spawns a task for each number, and gives what they do, in order.
+fn spawns_many<R: Wait + Clone + Drop + Send + Sync>(rt: &R, alloc: Global) -> Option<Vec<u64>> {
+    let executor = executor(rt, alloc)?;
+    let mut tasks: Vec<Task<Sum, Nobody, R>> = Vec::new(alloc);
+    let sums = (1..4).map(|number| Sum::of(number, number));
+    executor.spawn_many(sums, &mut tasks).ok()?;
+    run_all(rt, &executor);
+    let mut outputs = Vec::new(alloc);
+    for task in tasks.iter_mut() {
+        outputs.push(output_of(task.poll(&Nobody))?).ok()?;
+    }
+    Some(outputs)
+}
+
+/// Drops an executor before it has run its task: the future is dropped, and the handle says
+/// `Cancelled`.
+fn closes<R: Wait + Clone + Drop + Send + Sync>(
+    rt: &R,
+    alloc: Global,
+) -> Option<Poll<Result<u64, Cancelled>>> {
+    let executor = executor(rt, alloc)?;
+    let mut task = executor.spawn(Sum::of(1, 2)).ok()?;
+    drop(executor);
+    Some(task.poll(&Nobody))
+}
+
 /// Lets a task run on without a handle. The executor is empty once its future was dropped.
 fn detaches<R: Wait + Clone + Drop + Send + Sync>(executor: &Executor<Sum, Nobody, R>) -> bool {
     let Ok(task) = executor.spawn(Sum::of(1, 2)) else {
@@ -285,6 +311,8 @@ fn call_alone<R: Wait + Threads + Clone + Drop + Send + Sync + Print>(
     rt: &R,
     alloc: Global,
 ) -> io::Result<()> {
+    print(rt, "spawns_many", &spawns_many(rt, alloc))?;
+    print(rt, "closes", &closes(rt, alloc))?;
     print(rt, "mixes", &mixes(rt, alloc))?;
     print(rt, "boxes", &boxes(rt, alloc))?;
     print(rt, "receives", &receives(rt, alloc))?;
