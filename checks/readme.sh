@@ -78,7 +78,7 @@ same "CALLING.md, the caller and crates/uses"
 
 # A clause is quoted with S for what self points to.
 cat crates/async_executor/src/*.rt crates/async_executor/src/executor/*.rt \
-    crates/executor_core/src/task/*.rt |
+    crates/async_executor/src/scheduler/*.rt crates/executor_core/src/task/*.rt |
     sed "s/self\.new/S'/g; s/self\.\(old\|now\)/S/g" > "$copy/clauses"
 block "$calling" text "## Contracts" | sed -n 's/^  \(ensures\|requires\)\( [a-z_]*\)\?: \(.*\)$/\1\2 { \3 }/p' |
     sort -u > "$copy/said"

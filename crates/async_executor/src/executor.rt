@@ -29,10 +29,13 @@ pub use tickers::{Run, Tick};
 /// which waits for its locks by the right R.
 ///
 /// It may be shared and sent: one is made only where F, its output and W may be sent, and R may be
-/// both. Where it is dropped, it gives up its share of the tasks, which live on with the handles that are left. It
-/// stands for the `Executor` of the Rust crate.
+/// both. It stands for the `Executor` of the Rust crate.
 ///
-/// Example: `uses::runs`, and on several threads `uses::pools`.
+/// Its drop cancels every task and drops every future that is left, one after another, with no lock
+/// held. None is out to be polled then, since ticks and runs borrow the executor. A handle gives an
+/// output that was there before, and else says that its task was cancelled.
+///
+/// Example: `uses::runs`, on several threads `uses::pools`, and of the drop `uses::closes`.
 pub struct Executor<F, W, R>
 where
     F: Future<TaskWaker<W, R>>,
