@@ -1,0 +1,155 @@
+//! An executor for each level of urgency.
+ghost use Rattle.std.specs.Prelude.{◌≡◌, ◌<◌, ◌-◌, ◌^◌, false, IfOk, IfErr, IsSomeAnd, All, vec_len};
+ghost use Rattle.arrayvec.specs.ArrayVec.{array_vec_len};
+ghost use Rattle.executor_core.specs.SpawnError.{refused_future};
+
+use crate::asker::{Asker, choose};
+use crate::tick::{LevelTicks, PriorityTick};
+use arrayvec::ArrayVec;
+use async_executor::{Executor, Future, OutOfMemory, SpawnError, Task, TaskWaker, Tick, Wake};
+use std::alloc::Global;
+use std::sync::Wait;
+
+/// An executor that runs the tasks of lower levels first, of which it has N, named 0 to N - 1.
+///
+/// Each level is an `Executor` of its own, so tasks of one level are run in the order in which they
+/// were scheduled, and a task stays in its level. While a task of a level is scheduled, none of a
+/// higher level is run: tasks that wake themselves again and again starve all above them.
+///
+/// It has no `run` and no Debug. The Rust crate has no such type: there, a program writes its own.
+///
+/// Example: `uses::overtakes`, `uses::accepts`.
+#[derive(Drop)]
+pub struct PriorityExecutor<F, W, R, const N: usize>
+where
+    F: Future<TaskWaker<W, R>>,
+    W: Wake,
+    R: Wait + Clone + Drop,
+{
+    levels: Vec<Executor<F, W, R>>,
+    ghost count: { vec_len levels ≡ N },
+    ghost some: { 0 < N },
+    ghost few: { N < 2 ^ 32 },
+}
+
+impl<F, W, R, const N: usize> PriorityExecutor<F, W, R, N>
+where
+    F: Future<TaskWaker<W, R>> + Send,
+    F::Output: Send,
+    W: Wake + Send,
+    R: Wait + Clone + Drop + Send + Sync,
+{
+    /// An executor without tasks, each level of which keeps a copy of the right to wait.
+    ///
+    /// # Errors
+    ///
+    /// `OutOfMemory` if memory for a level is refused.
+    ///
+    /// Example: `uses::overtakes`.
+    pub fn new(rt: R, alloc: Global) -> Result<Self, OutOfMemory>
+        requires some { 0 < N }
+        requires few { N < 2 ^ 32 }
+    {
+        let mut levels = Vec::with_capacity(alloc, N)?;
+        for made in 0..N {
+            levels.push_reserved(Executor::new(rt.clone()?, alloc)?);
+        }
+        Ok(PriorityExecutor { levels })
+    }
+
+    /// Schedules the future as a new task of this level, behind all of that level that are scheduled.
+    ///
+    /// # Errors
+    ///
+    /// If memory is refused, or no number is left for the task, the future is given back and all is
+    /// as before.
+    ///
+    /// Example: `uses::overtakes`.
+    pub fn spawn(&self, level: usize, future: F) -> Result<Task<F, W, R>, SpawnError<F>>
+        requires { level < N }
+        ensures ok { IfOk result (λ task. task.inner.answered ≡ false) }
+        ensures refused { IfErr result (λ e. refused_future e ≡ future) }
+    {
+        self.levels[level].spawn(future)
+    }
+}
+
+impl<F, W, R, const N: usize> PriorityExecutor<F, W, R, N>
+where
+    F: Future<TaskWaker<W, R>>,
+    W: Wake,
+    R: Wait + Clone + Drop,
+{
+    /// Whether the future of every task was dropped: the levels are asked in order, each once, until
+    /// one has a task.
+    ///
+    /// Example: `uses::overtakes`.
+    pub fn is_empty(&self) -> bool {
+        self.levels.iter().all(|level| level.is_empty())
+    }
+
+    /// Runs the task that was scheduled first in the lowest level that has one scheduled, and says
+    /// whether there was one.
+    ///
+    /// Example: `uses::overtakes`.
+    pub fn try_tick(&self) -> bool {
+        let mut ticks = TryTicks {
+            levels: &self.levels,
+            answers: ArrayVec::<_, N>::new(),
+        };
+        choose(&mut ticks, N).is_some()
+    }
+
+    /// A future that runs one task, of the lowest level that has one scheduled, and sleeps while there
+    /// is none. It has a tick of each level, whose places are reserved here.
+    ///
+    /// # Errors
+    ///
+    /// `OutOfMemory` if memory for a tick is refused. Those that were made are dropped, and all is as
+    /// before.
+    ///
+    /// Example: `uses::accepts`.
+    pub fn tick(&self) -> Result<PriorityTick<Tick<'_, F, W, R>, N>, OutOfMemory>
+        ensures { IfOk result (λ tick. IsSomeAnd tick.ticks (λ ticks. All (λ one. one.inner.rest.ended ≡ false) ticks.levels.items)) }
+    {
+        let mut levels = Vec::with_capacity(*self.levels.allocator(), N)?;
+        for level in &self.levels {
+            levels.push_reserved(level.tick()?);
+        }
+        Ok(PriorityTick {
+            ticks: Some(LevelTicks { levels }),
+        })
+    }
+}
+
+// A level is asked to run a task.
+#[derive(Drop)]
+struct TryTicks<'a, F, W, R, const N: usize>
+where
+    F: Future<TaskWaker<W, R>>,
+    W: Wake,
+    R: Wait + Clone + Drop,
+{
+    levels: &'a Vec<Executor<F, W, R>>,
+    answers: ArrayVec<(usize, bool), N>,
+}
+
+impl<F, W, R, const N: usize> Asker for TryTicks<'_, F, W, R, N>
+where
+    F: Future<TaskWaker<W, R>>,
+    W: Wake,
+    R: Wait + Clone + Drop,
+{
+    ghost answers = { λ s. s.answers.items };
+
+    ghost places = { λ s. N - array_vec_len s.answers };
+
+    fn ask(&mut self, level: usize) -> bool {
+        let has_run = match self.levels.get(level) {
+            Some(executor) => executor.try_tick(),
+            None => false,
+        };
+        self.answers.push((level, has_run));
+        has_run
+    }
+}

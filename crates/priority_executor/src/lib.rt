@@ -1,0 +1,13 @@
+//! Runs what is urgent first: an executor for each level of urgency, level 0 before all others.
+//!
+//! It stands on the public calls of `async_executor` alone. Which level a call serves is found by
+//! `choose`, which asks the levels in order; what it asks is an `Asker`.
+#![tactic(auto)]
+
+pub mod asker;
+pub mod executor;
+pub mod tick;
+
+pub use asker::{Asker, choose};
+pub use executor::PriorityExecutor;
+pub use tick::PriorityTick;
