@@ -1,6 +1,7 @@
 //! What may cross threads. These functions only have to compile.
 use async_executor::executor::{Cancel, Executor, FallibleTask, Run, Task, TaskWaker, Tick};
 use executor_core::task::{Future, Wake};
+use priority_executor::{PriorityExecutor, PriorityTick};
 use std::sync::Wait;
 
 fn is_sent<T: Send>(_value: &T) {}
@@ -48,6 +49,21 @@ pub fn tick_crosses<
 where
     F::Output: Send,
 {
+    is_sent(tick);
+    is_shared(tick);
+}
+
+/// So may an executor with levels, and its ticks.
+pub fn levels_cross<
+    F: Future<TaskWaker<W, R>> + Send,
+    W: Wake + Send,
+    R: Wait + Clone + Drop + Send + Sync,
+>(ex: &PriorityExecutor<F, W, R, 3>, tick: &PriorityTick<Tick<'_, F, W, R>, 3>)
+where
+    F::Output: Send,
+{
+    is_sent(ex);
+    is_shared(ex);
     is_sent(tick);
     is_shared(tick);
 }

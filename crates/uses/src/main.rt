@@ -7,6 +7,7 @@ mod crossing;
 mod futures;
 mod parking;
 mod pooling;
+mod priorities;
 
 use async_executor::{Cancelled, Executor, Future, OutOfMemory, Poll, Task, TaskWaker, Wake};
 use calling::{asks_again, gives_back};
@@ -14,6 +15,7 @@ use executor_core::interleave::{Reply, Step, World};
 use futures::{Channel, Job, Nobody, Receiver, Sum, send};
 use parking::parks;
 use pooling::pools;
+use priorities::{accepts, overtakes, prefers};
 use std::alloc::Global;
 use std::fmt::Debug;
 use std::io;
@@ -321,6 +323,16 @@ fn call_alone<R: Wait + Threads + Clone + Drop + Send + Sync + Print>(
     print(rt, "interleaves", &interleaves(alloc))
 }
 
+// The callers of an executor with levels.
+fn call_levels<R: Wait + Clone + Drop + Send + Sync + Print>(
+    rt: &R,
+    alloc: Global,
+) -> io::Result<()> {
+    print(rt, "overtakes", &overtakes(rt, alloc))?;
+    print(rt, "accepts", &accepts(rt, alloc))?;
+    print(rt, "prefers", &prefers([false, true, true]))
+}
+
 fn main(rt: HostRuntime) -> io::Result<()> {
     let alloc = rt.alloc();
     print(&rt, "runs", &runs(&rt, alloc, Sum::of(1, 2)))?;
@@ -328,5 +340,6 @@ fn main(rt: HostRuntime) -> io::Result<()> {
         Ok(executor) => call_each(&rt, &executor)?,
         Err(OutOfMemory) => println!(rt; "{OutOfMemory}")?,
     }
-    call_alone(&rt, alloc)
+    call_alone(&rt, alloc)?;
+    call_levels(&rt, alloc)
 }
