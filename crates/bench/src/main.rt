@@ -12,6 +12,7 @@ pub mod awaiting;
 pub mod closing;
 pub mod futures;
 pub mod parking;
+pub mod priorities;
 pub mod rows;
 pub mod running;
 pub mod searching;

@@ -3,6 +3,7 @@ use crate::awaiting::{spawn_all_await_run, spawn_await_run, spawn_many_run};
 use crate::closing::{close_idle, close_queued, drop_idle};
 use crate::futures::{IdleWaker, Large, Yields};
 use crate::parking::{one_spawner, parked_yield, wake_latency};
+use crate::priorities::priority_try_tick;
 use crate::running::{ping_pong, run_yields, threads_spawn, threads_yield};
 use crate::searching::{search_empty, search_own, search_steal};
 use crate::sleeping::{idle_run, yield_beside_runs};
@@ -44,6 +45,8 @@ pub enum Row {
     YieldTick,
     /// Put a tick to sleep, wake it by a spawn, and have it run the task.
     SleepWake,
+    /// Run one task of the last of three levels, which wakes itself.
+    PriorityTryTick,
     /// Run one task that wakes itself, by a run.
     YieldRun,
     /// The same, while so many other runs sleep.
@@ -89,7 +92,7 @@ pub enum Row {
 }
 
 /// Each row, with its name on the command line.
-pub const ROWS: [(&str, Row); 48] = [
+pub const ROWS: [(&str, Row); 49] = [
     ("spawn_try_tick", Row::SpawnTryTick),
     ("spawn_drain", Row::SpawnDrain),
     ("yield_try_tick", Row::YieldTryTick),
@@ -103,6 +106,7 @@ pub const ROWS: [(&str, Row); 48] = [
     ("spawn_tick", Row::SpawnTick),
     ("yield_tick", Row::YieldTick),
     ("sleep_wake", Row::SleepWake),
+    ("priority_try_tick", Row::PriorityTryTick),
     ("yield_run", Row::YieldRun),
     ("yield_beside_15_runs", Row::YieldBesideRuns(15)),
     ("many_yield", Row::ThreadsYield(1)),
@@ -196,6 +200,7 @@ impl Row {
             Row::SpawnTick => spawn_tick(rt, alloc, operations),
             Row::YieldTick => yield_tick(rt, alloc, operations),
             Row::SleepWake => sleep_wake(rt, alloc, operations),
+            Row::PriorityTryTick => priority_try_tick(rt, alloc, operations),
             Row::YieldRun => run_yields(rt, alloc, 1, 1, operations),
             Row::YieldBesideRuns(others) => yield_beside_runs(rt, alloc, others, operations),
             Row::PingPong => ping_pong(rt, alloc, operations),
