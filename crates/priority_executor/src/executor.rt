@@ -1,11 +1,10 @@
 //! An executor for each level of urgency.
-ghost use Rattle.std.specs.Prelude.{◌≡◌, ◌<◌, ◌-◌, ◌^◌, false, IfOk, IfErr, IsSomeAnd, All, vec_len};
-ghost use Rattle.arrayvec.specs.ArrayVec.{array_vec_len};
+ghost use Rattle.std.specs.Prelude.{◌≡◌, ◌<◌, ◌-◌, ◌^◌, false, IfOk, IfErr, IsSomeAnd, All, length, vec_len};
 ghost use Rattle.executor_core.specs.SpawnError.{refused_future};
 
+use crate::answers::Answers;
 use crate::asker::{Asker, choose};
 use crate::tick::{LevelTicks, PriorityTick};
-use arrayvec::ArrayVec;
 use async_executor::{Executor, Future, OutOfMemory, SpawnError, Task, TaskWaker, Tick, Wake};
 use std::alloc::Global;
 use std::sync::Wait;
@@ -95,7 +94,7 @@ where
     pub fn try_tick(&self) -> bool {
         let mut ticks = TryTicks {
             levels: &self.levels,
-            answers: ArrayVec::<_, N>::new(),
+            answers: Answers::<N>::new(),
         };
         choose(&mut ticks, N).is_some()
     }
@@ -131,7 +130,7 @@ where
     R: Wait + Clone + Drop,
 {
     levels: &'a Vec<Executor<F, W, R>>,
-    answers: ArrayVec<(usize, bool), N>,
+    answers: Answers<N>,
 }
 
 impl<F, W, R, const N: usize> Asker for TryTicks<'_, F, W, R, N>
@@ -140,16 +139,16 @@ where
     W: Wake,
     R: Wait + Clone + Drop,
 {
-    ghost answers = { λ s. s.answers.items };
+    ghost answers = { λ s. s.answers };
 
-    ghost places = { λ s. N - array_vec_len s.answers };
+    ghost places = { λ s. N - length s.answers };
 
     fn ask(&mut self, level: usize) -> bool {
         let has_run = match self.levels.get(level) {
             Some(executor) => executor.try_tick(),
             None => false,
         };
-        self.answers.push((level, has_run));
+        self.answers.push(level, has_run);
         has_run
     }
 }

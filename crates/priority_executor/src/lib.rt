@@ -4,6 +4,7 @@
 //! `choose`, which asks the levels in order; what it asks is an `Asker`.
 #![tactic(auto)]
 
+pub(crate) mod answers;
 pub mod asker;
 pub mod executor;
 pub mod tick;

@@ -1,10 +1,9 @@
 //! A tick of every level.
-ghost use Rattle.std.specs.Prelude.{◌≡◌, ◌-◌, ◌<◌, ◌^◌, None, is_none, vec_len};
-ghost use Rattle.arrayvec.specs.ArrayVec.{array_vec_len};
+ghost use Rattle.std.specs.Prelude.{◌≡◌, ◌-◌, ◌<◌, ◌^◌, None, is_none, length, vec_len};
 ghost use Rattle.async_executor.specs.Answers.{is_ready};
 
+use crate::answers::Answers;
 use crate::asker::{Asker, choose};
-use arrayvec::ArrayVec;
 use async_executor::{Future, Poll};
 
 /// A future that runs one task of an executor with N levels, and sleeps while none is scheduled. T is
@@ -59,7 +58,7 @@ impl<T, const N: usize> LevelTicks<T, N> {
         let mut polls = Polls {
             ticks: self,
             waker: w,
-            answers: ArrayVec::<_, N>::new(),
+            answers: Answers::<N>::new(),
         };
         choose(&mut polls, N).is_some()
     }
@@ -70,13 +69,13 @@ impl<T, const N: usize> LevelTicks<T, N> {
 struct Polls<'a, W, T, const N: usize> {
     ticks: &'a mut LevelTicks<T, N>,
     waker: &'a W,
-    answers: ArrayVec<(usize, bool), N>,
+    answers: Answers<N>,
 }
 
 impl<W, T: Future<W, Output = ()>, const N: usize> Asker for Polls<'_, W, T, N> {
-    ghost answers = { λ s. s.answers.items };
+    ghost answers = { λ s. s.answers };
 
-    ghost places = { λ s. N - array_vec_len s.answers };
+    ghost places = { λ s. N - length s.answers };
 
     fn ask(&mut self, level: usize) -> bool {
         let ticks = &mut *self.ticks;
@@ -84,7 +83,7 @@ impl<W, T: Future<W, Output = ()>, const N: usize> Asker for Polls<'_, W, T, N> 
             Some(tick) => tick.poll(self.waker) == Poll::Ready(()),
             None => false,
         };
-        self.answers.push((level, is_ready));
+        self.answers.push(level, is_ready);
         is_ready
     }
 }
