@@ -2,7 +2,7 @@
 //!
 //! Each of them has what is written once for every home, at the shared one. It is a type of its own,
 //! so that a caller meets the bounds of its future, its waker and its right to wait, and no home.
-ghost use Rattle.std.specs.Prelude.{◌≡◌, false, IfOk, IfErr};
+ghost use Rattle.std.specs.Prelude.{◌≡◌, false, IfOk, IfErr, IfNone, vec_len, vec_capacity};
 ghost use Rattle.std.specs.Iterator.{IsFinite};
 ghost use Rattle.executor_core.specs.SpawnError.{refused_future};
 ghost use Rattle.async_executor.specs.RunError.{run_future};
@@ -93,7 +93,7 @@ where
     ///
     /// Where memory is refused, or no number is left for a task. Those that were spawned before
     /// stay, with their handles in the Vec. The future that was refused is given back; there is none
-    /// where the place of its handle was refused.
+    /// where the place of its handle was refused, since the Vec was full.
     ///
     /// Example: `uses::spawns_many`.
     pub fn spawn_many<I: Iterator<Item = F>>(
@@ -105,6 +105,7 @@ where
         requires ends { IsFinite (I.remaining futures) }
         ensures futures { SpawnsInTurn I.next_gives futures result }
         ensures handles { AddsHandles (λ task. task.inner.answered) handles.old.items (spawned result) handles.new.items }
+        ensures room { IfErr result (λ e. IfNone e.refused (vec_len handles.new ≡ vec_capacity handles.new)) }
     {
         self.inner.spawn_many(futures, handles)
     }

@@ -1,5 +1,5 @@
 //! Spawns the futures that an iterator gives.
-ghost use Rattle.std.specs.Prelude.{◌≡◌, Bool, Some};
+ghost use Rattle.std.specs.Prelude.{◌≡◌, Bool, Some, IfErr, IfNone, vec_len, vec_capacity};
 ghost use Rattle.std.specs.Iterator.{IsFinite};
 ghost use Rattle.executor_core.specs.SpawnError.{refused_future};
 ghost use Rattle.async_executor.specs.SpawnMany.{spawn_cause, spawned, SpawnsInTurn, AddsHandles};
@@ -72,6 +72,7 @@ impl<H: Home> ExecutorIn<H> {
         requires ends { IsFinite (I.remaining futures) }
         ensures futures { SpawnsInTurn I.next_gives futures result }
         ensures handles { AddsHandles T.answered handles.old.items (spawned result) handles.new.items }
+        ensures room { IfErr result (λ e. IfNone e.refused (vec_len handles.new ≡ vec_capacity handles.new)) }
     {
         let before = handles.len();
         loop {
