@@ -7,9 +7,9 @@ ghost use Rattle.std.specs.Prelude.{◌≡◌, IfErr};
 ghost use Rattle.executor_core.specs.SpawnError.{refused_future};
 ghost use Rattle.async_executor.specs.LeftOver.{IsHeldRight, IsLeftRight, IsEndRight};
 
-use crate::home::{Home, OutIn, OutputIn};
+use crate::home::{Home, OutIn, OutputIn, store};
 use crate::left_over::{EndThenSearch, LeftOver, finished};
-use crate::state::ExecutorState;
+use crate::state::{ExecutorState, cells};
 use crate::store::Store;
 use crate::waker::{LentWake, TaskWaker};
 use executor_core::queue::RunnerKey;
@@ -29,12 +29,12 @@ pub(crate) fn spawn<H: Home>(
     let Ok(state) = home.share_state() else {
         return Err(SpawnError::OutOfMemory(future));
     };
-    let mut guard = home.store();
+    let mut guard = store!(home);
     let store = guard.get();
     if store.reserve().is_err() {
         return Err(SpawnError::OutOfMemory(future));
     }
-    let spawned = state.cells().spawn(());
+    let spawned = cells!(&state).spawn(());
     match spawned {
         Ok((id, notice)) => {
             store.insert(id, future, state);
@@ -47,7 +47,7 @@ pub(crate) fn spawn<H: Home>(
 
 /// Takes the future of the task out, with the waker to poll it with.
 pub(crate) fn take<H: Home>(home: &H, id: TaskId) -> OutIn<H> {
-    let mut store = home.store();
+    let mut store = store!(home);
     store.get().take(id)
 }
 
@@ -59,8 +59,8 @@ pub(crate) fn search<H: Home>(
     again: Option<Again>,
     out: &mut OutIn<H>,
 ) -> Option<(Taken<()>, Notice)> {
-    let mut store = home.store();
-    let found = home.state().cells().search(key, word, again);
+    let mut store = store!(home);
+    let found = cells!(home.state()).search(key, word, again);
     store.get().take_found(found, out)
 }
 
@@ -76,8 +76,8 @@ pub(crate) fn end<H: Home>(
     requires { IsHeldRight ran }
     ensures { IfErr result (λ left. IsLeftRight left) }
 {
-    let mut store = home.store();
-    let mut cells = home.state().cells();
+    let mut store = store!(home);
+    let mut cells = cells!(home.state());
     store.get().end(&mut cells, id, ran, out)
 }
 
@@ -94,9 +94,9 @@ pub(crate) fn end_then_search<H: Home>(
     requires { IsHeldRight ran }
     ensures { IsEndRight result }
 {
-    let mut guard = home.store();
+    let mut guard = store!(home);
     let store = guard.get();
-    let mut cells = home.state().cells();
+    let mut cells = cells!(home.state());
     match store.end(&mut cells, id, ran, out) {
         Ok(notice) => {
             let found = cells.search(key, word, None);
@@ -114,30 +114,60 @@ pub(crate) fn take_ended<H: Home>(
     home: &H,
     id: TaskId,
 ) -> Option<(Option<OutputIn<H>>, Option<H::Waker>)> {
-    let mut store = home.store();
-    let mut cells = home.state().cells();
+    let mut cells = cells!(home.state());
     if !cells.is_ended(id) {
         return None;
     }
-    match cells.detach(id) {
-        (Some(()), awaiter) => Some((store.get().take_output(id), awaiter)),
-        (None, awaiter) => Some((None, awaiter)),
+    // Others wait for the table while they have the store, so nobody waits for the store here.
+    if let Some(mut store) = home.try_store() {
+        return Some(store.get().take_ended(&mut cells, id));
     }
+    drop(cells);
+    Some(wait_and_take_ended(home, id))
+}
+
+// Ends the handle of a task that has ended, where the store was not free.
+#[cold]
+#[inline(never)]
+fn wait_and_take_ended<H: Home>(
+    home: &H,
+    id: TaskId,
+) -> (Option<OutputIn<H>>, Option<H::Waker>) {
+    let mut store = store!(home);
+    let mut cells = cells!(home.state());
+    store.get().take_ended(&mut cells, id)
 }
 
 /// Asks the handle of a task for its output, and leaves the waker where there is no answer.
+#[inline(always)]
 pub(crate) fn poll_handle<H: Home>(
     home: &H,
     id: TaskId,
     waker: H::Waker,
 ) -> PollHandle<Option<OutputIn<H>>, H::Waker> {
-    let mut store = home.store();
-    let answer = home.state().cells().poll_handle(id, waker);
-    match answer {
-        PollHandle::Output((), waker) => PollHandle::Output(store.get().take_output(id), waker),
-        PollHandle::Cancelled(waker) => PollHandle::Cancelled(waker),
-        PollHandle::Pending(before) => PollHandle::Pending(before),
+    let mut cells = cells!(home.state());
+    if cells.is_ended(id) {
+        drop(cells);
+        return poll_handle_of_ended(home, id, waker);
     }
+    match cells.poll_handle(id, waker) {
+        PollHandle::Pending(before) => PollHandle::Pending(before),
+        PollHandle::Cancelled(waker) => PollHandle::Cancelled(waker),
+        PollHandle::Output((), _) => unreachable!(),
+    }
+}
+
+// Asks the handle of a task that has ended, since its waker was copied.
+#[cold]
+#[inline(never)]
+fn poll_handle_of_ended<H: Home>(
+    home: &H,
+    id: TaskId,
+    waker: H::Waker,
+) -> PollHandle<Option<OutputIn<H>>, H::Waker> {
+    let (output, left) = wait_and_take_ended(home, id);
+    drop(left);
+    PollHandle::Output(output, waker)
 }
 
 /// The future of a task while it is out, with the waker that it is polled with.
@@ -159,6 +189,15 @@ impl<F: Drop, W: Wake, R: Wait + Clone + Drop, T: Drop> Store<F, Arc<ExecutorSta
         let (taken, notice) = found?;
         *out = self.take(taken.id());
         Some((taken, notice))
+    }
+
+    // Ends the handle of a task that has ended. Its output comes out, and a waker that was left.
+    #[inline(always)]
+    fn take_ended(&mut self, cells: &mut Cells<(), (), W>, id: TaskId) -> (Option<T>, Option<W>) {
+        match cells.detach(id) {
+            (Some(()), awaiter) => (self.take_output(id), awaiter),
+            (None, awaiter) => (None, awaiter),
+        }
     }
 
     /// Ends a task that was run, and keeps its future or output. There is a notice where it was

@@ -35,9 +35,25 @@ pub trait Home: Drop {
     /// A share of the state alone.
     fn share_state(&self) -> Result<StateIn<Self>, OutOfMemory>;
 
-    /// The store, which nobody else has until the guard is dropped.
-    fn store(&self) -> StoreGuard<'_, StoreIn<Self>>;
+    /// The store, if nobody has it.
+    fn try_store(&self) -> Option<StoreGuard<'_, StoreIn<Self>>>;
+
+    /// Waits for a store that somebody has.
+    fn wait_for_store(&self) -> StoreGuard<'_, StoreIn<Self>>;
 }
+
+/// Waits for the store of a home, which nobody else has until the guard is dropped. It is no function
+/// for the reason that `lock` is none.
+macro_rules! store {
+    ($home:expr) => {
+        match $home.try_store() {
+            Some(store) => store,
+            None => $home.wait_for_store(),
+        }
+    };
+}
+
+pub(crate) use store;
 
 /// A share of the state of a home, as the wakers of its tasks have.
 pub type StateIn<H> = Arc<ExecutorState<<H as Home>::Waker, <H as Home>::Runtime>>;

@@ -20,7 +20,7 @@ use crate::left_over::LeftOver;
 use crate::limits::LOCAL_PLACES;
 use crate::poller::TaskPoller;
 use crate::runner::{RunError, RunIn};
-use crate::state::{ExecutorState, announce};
+use crate::state::{ExecutorState, announce, cells};
 use crate::task::TaskIn;
 use crate::ticker::TickIn;
 use executor_core::queue::Ring;
@@ -65,7 +65,7 @@ impl<H: Home> ExecutorIn<H> {
     /// Runs the task that was scheduled first, and says whether there was one.
     pub(crate) fn try_tick(&self) -> bool {
         let state = self.home.state();
-        let mut cells = state.cells();
+        let mut cells = cells!(state);
         let Some((taken, notice)) = cells.take_global(None) else {
             return false;
         };
@@ -194,7 +194,7 @@ impl<H: Home> ExecutorIn<H> {
     fn end_dropped(&self, held: Held)
         requires { held.to_drop ≡ true }
     {
-        let awaiter = self.home.state().cells().end_dropped(held);
+        let awaiter = cells!(self.home.state()).end_dropped(held);
         if let Some(awaiter) = awaiter {
             awaiter.wake();
         }

@@ -5,7 +5,6 @@ ghost use Rattle.executor_core.specs.Cells.Law.{LockLaw};
 ghost use Rattle.executor_core.specs.Sleepers.{SleeperLaw};
 ghost use Rattle.executor_core.specs.Sleepers.Calls.{closed};
 
-use crate::lock::lock;
 use executor_core::sleepers::{ClosedSleepers, Flag, Sleepers};
 use executor_core::task::{Cells, Change, Notice, OutOfMemory, Pick, Wake, Wakeup};
 use std::alloc::Global;
@@ -24,6 +23,31 @@ macro_rules! announce {
 
 pub(crate) use announce;
 
+/// Waits for the table of tasks of a state, which is locked until the guard is dropped. It is no
+/// function for the reason that `lock` is none.
+macro_rules! cells {
+    ($state:expr) => {{
+        let state = $state;
+        crate::lock::lock!(state.cells, state.rt())
+    }};
+}
+
+pub(crate) use cells;
+
+/// Waits for the sleepers of a state, which are locked until the guard is dropped. They come with
+/// their law. It is no function for the reason that `lock` is none.
+macro_rules! sleepers {
+    ($state:expr) => {{
+        let state = $state;
+        let guard = crate::lock::lock!(state.sleepers, state.rt());
+        // Its contract has the law.
+        guard.sleepers.is_notified();
+        guard
+    }};
+}
+
+pub(crate) use sleepers;
+
 /// The table of tasks and the sleepers, each behind a lock, the flag beside them, and the right to
 /// wait for the locks.
 ///
@@ -35,7 +59,7 @@ pub struct ExecutorState<W, R> {
     before_cells: CacheLine,
     pub(crate) cells: Mutex<Cells<(), (), W>>,
     before_sleepers: CacheLine,
-    sleepers: Mutex<ClosedSleepers<W>>,
+    pub(crate) sleepers: Mutex<ClosedSleepers<W>>,
     before_flag: CacheLine,
     flag: Flag,
     rt: R,
@@ -78,7 +102,7 @@ impl<W: Wake, R: Wait + Clone + Drop> ExecutorState<W, R> {
     pub(crate) fn cells(&self) -> MutexGuard<'_, Cells<(), (), W>>
         ensures { LockLaw (mutex_guard_value result) }
     {
-        let cells = lock!(self.cells, &self.rt);
+        let cells = cells!(self);
         // A reader that does nothing, whose contract is the law.
         cells.law_holds();
         cells
@@ -90,10 +114,7 @@ impl<W: Wake, R: Wait + Clone + Drop> ExecutorState<W, R> {
         ensures closed { (mutex_guard_value result).sleepers.is_open ≡ false }
         ensures law { SleeperLaw (mutex_guard_value result).sleepers }
     {
-        let guard = lock!(self.sleepers, &self.rt);
-        // Its contract has the law.
-        guard.sleepers.is_notified();
-        guard
+        sleepers!(self)
     }
 
     /// Spends the notice of a task that was queued or taken. Where somebody sleeps and nobody was

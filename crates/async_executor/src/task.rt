@@ -8,7 +8,7 @@ ghost use Rattle.async_executor.specs.Answers.{is_ready, IsReadyErr, IsReadyNone
 
 use crate::changes::{poll_handle, take_ended};
 use crate::home::{Home, OutputIn};
-use crate::state::announce;
+use crate::state::{announce, cells};
 use executor_core::task::{Future, Poll, PollHandle, TaskId, Wake};
 use thiserror::Error;
 
@@ -44,7 +44,7 @@ impl<H: Home> TaskIn<H> {
         if answered {
             return;
         }
-        let mut cells = home.state().cells();
+        let mut cells = cells!(home.state());
         if cells.is_ended(id) {
             drop(cells);
             detach_ended(&home, id);
@@ -59,7 +59,7 @@ impl<H: Home> TaskIn<H> {
     /// poll.
     pub(crate) fn cancel(&self) {
         let state = self.home.state();
-        let notice = state.cells().cancel(self.id);
+        let notice = cells!(state).cancel(self.id);
         if let Some(notice) = notice {
             announce!(state, notice);
         }
@@ -69,7 +69,7 @@ impl<H: Home> TaskIn<H> {
     pub(crate) fn is_finished(&self) -> bool
         ensures { IsTrue self.now.answered → IsTrue result }
     {
-        self.answered || self.home.state().cells().is_finished(self.id)
+        self.answered || cells!(self.home.state()).is_finished(self.id)
     }
 }
 
@@ -117,7 +117,7 @@ impl<H: Home> Drop for TaskIn<H> {
             return;
         }
         let state = home.state();
-        let mut cells = state.cells();
+        let mut cells = cells!(state);
         if cells.is_ended(id) {
             drop(cells);
             detach_ended(&home, id);

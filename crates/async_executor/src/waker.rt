@@ -6,8 +6,7 @@
 ghost use Rattle.std.specs.Prelude.{◌≡◌, true, false, is_some, cond};
 ghost use Rattle.executor_core.specs.Cells.Calls.{after_wake};
 
-use crate::lock::lock;
-use crate::state::{ExecutorState, announce};
+use crate::state::{ExecutorState, announce, cells};
 use executor_core::task::{Cells, Notice, OutOfMemory, TaskId, Wake};
 use std::sync::atomic::{AtomicBool, Ordering};
 use std::sync::{Arc, Wait};
@@ -92,8 +91,7 @@ impl<W: Wake, R: Wait + Clone + Drop> Wake for TaskWaker<W, R> {
             mark.store(true, Ordering::SeqCst);
             return;
         }
-        // In place of `ExecutorState::cells`, since a call that may wait costs its caller a test.
-        let mut cells = lock!(self.state.cells, self.state.rt());
+        let mut cells = cells!(&self.state);
         if let Some(notice) = cells.wake(self.id) {
             drop(cells);
             announce!(self.state, notice);

@@ -54,7 +54,13 @@ impl<F: Future<TaskWaker<W, R>>, W: Wake, R: Wait + Clone + Drop> Home for Local
     }
 
     #[inline(always)]
-    fn store(&self) -> StoreGuard<'_, Store<F, Arc<ExecutorState<W, R>>, F::Output>> {
+    fn try_store(&self) -> Option<StoreGuard<'_, Store<F, Arc<ExecutorState<W, R>>, F::Output>>> {
+        Some(self.wait_for_store())
+    }
+
+    // Nobody else has it.
+    #[inline(always)]
+    fn wait_for_store(&self) -> StoreGuard<'_, Store<F, Arc<ExecutorState<W, R>>, F::Output>> {
         let meanwhile = Store::new(self.local.state.alloc());
         StoreGuard::Lent(Lent::of(&self.local.store, meanwhile))
     }

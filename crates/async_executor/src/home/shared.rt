@@ -1,6 +1,6 @@
 //! The home of executors whose parts may go to other threads.
 use crate::home::{Home, StoreGuard};
-use crate::lock::lock;
+use crate::lock::wait_for;
 use crate::state::{APART, CacheLine, ExecutorState};
 use crate::store::Store;
 use crate::waker::TaskWaker;
@@ -59,7 +59,14 @@ impl<F: Future<TaskWaker<W, R>>, W: Wake, R: Wait + Clone + Drop> Home for Share
     }
 
     #[inline(always)]
-    fn store(&self) -> StoreGuard<'_, Store<F, Arc<ExecutorState<W, R>>, F::Output>> {
-        StoreGuard::Locked(lock!(self.shared.store, self.shared.state.rt()))
+    fn try_store(&self) -> Option<StoreGuard<'_, Store<F, Arc<ExecutorState<W, R>>, F::Output>>> {
+        let store = self.shared.store.try_lock()?;
+        Some(StoreGuard::Locked(store))
+    }
+
+    #[cold]
+    #[inline(never)]
+    fn wait_for_store(&self) -> StoreGuard<'_, Store<F, Arc<ExecutorState<W, R>>, F::Output>> {
+        StoreGuard::Locked(wait_for(&self.shared.store, self.shared.state.rt()))
     }
 }

@@ -20,7 +20,7 @@ use crate::machine::{
 };
 use crate::runner::words::Words;
 use crate::scheduler::{ExecutorIn, poll_taken};
-use crate::state::announce;
+use crate::state::{announce, cells};
 use crate::ticker::{Slept, announce_found, leave, sleep};
 use executor_core::queue::{Ring, RunnerError, RunnerKey};
 use executor_core::task::{Again, Future, Notice, Poll, Ran, Taken, TaskId, Wake};
@@ -156,7 +156,7 @@ impl<'x, 'y, H: Home, G: Drop> Driver<'x, 'y, H, G> {
         match running.start() {
             Started::Run(under_way, taken) => (under_way, taken),
             Started::Share(sharing) => {
-                let mut cells = self.executor.state().cells();
+                let mut cells = cells!(self.executor.state());
                 sharing.make(&mut cells)
             }
         }

@@ -11,7 +11,7 @@ use crate::machine::{
     Departing, Found, GoingToSleep, Rested, Running, Searching, TickMachine, TickRest,
 };
 use crate::scheduler::ExecutorIn;
-use crate::state::{ExecutorState, announce};
+use crate::state::{ExecutorState, announce, cells, sleepers};
 use executor_core::sleepers::{Removed, Update};
 use executor_core::task::{Again, Future, Notice, Poll, Wake};
 use std::sync::Wait;
@@ -73,7 +73,7 @@ pub(crate) fn sleep<A, W: Wake, R: Wait + Clone + Drop>(
     };
     // The flag is stored under the guard under which the list was changed. Otherwise somebody might
     // exchange it in between, and what it said of the new list would be overwritten.
-    let mut guard = state.sleepers();
+    let mut guard = sleepers!(state);
     let sleepers = &mut guard.sleepers;
     match going {
         GoingToSleep::Insert(inserting) => match sleepers.insert(waker) {
@@ -114,7 +114,7 @@ fn remove<W: Wake, R: Wait + Clone + Drop>(
     state: &ExecutorState<W, R>,
     number: usize,
 ) -> Option<Notice> {
-    let mut guard = state.sleepers();
+    let mut guard = sleepers!(state);
     let sleepers = &mut guard.sleepers;
     let change = sleepers.remove(number);
     let Removed { notice, waker } = state.store(change, sleepers);
@@ -154,7 +154,7 @@ impl<H: Home> Future<H::Waker> for TickIn<'_, H> {
         let mut searching = self.rest.begin();
         let mut again = None;
         for _ in state.rt().forever() {
-            let found = state.cells().take_global(again);
+            let found = cells!(state).take_global(again);
             if let Some((taken, notice)) = found {
                 let (taken, rest) = announce_found(state, searching.found(taken, notice)).run();
                 executor.run_task(taken);
