@@ -5,6 +5,12 @@ use Rattle.executor_core.specs.declared.task.polling.Polled.TheVariants.{Pending
 use Rattle.executor_core.specs.declared.task.id.TaskId.{TaskId}
 use Rattle.async_executor.specs.declared.poller.TaskPoller.{TaskPoller}
 
+module _ {T : Type 0} where
+  -- no future is polled, so none gives an output
+  abbrev pub Unanswered : Polled (Unit {0}) T → Type 0
+  Unanswered (Pending unit) = Unit {0}
+  Unanswered (Ready output) = ⊥
+
 module _ {F W R T : Type 0} where
   -- it gives the output of its own task alone
   abbrev pub AnswersOwn : TaskPoller F W R T → TaskId → Polled (Unit {0}) T → Type 0

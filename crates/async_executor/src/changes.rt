@@ -129,10 +129,7 @@ pub(crate) fn take_ended<H: Home>(
 // Ends the handle of a task that has ended, where the store was not free.
 #[cold]
 #[inline(never)]
-fn wait_and_take_ended<H: Home>(
-    home: &H,
-    id: TaskId,
-) -> (Option<OutputIn<H>>, Option<H::Waker>) {
+fn wait_and_take_ended<H: Home>(home: &H, id: TaskId) -> (Option<OutputIn<H>>, Option<H::Waker>) {
     let mut store = store!(home);
     let mut cells = cells!(home.state());
     store.get().take_ended(&mut cells, id)

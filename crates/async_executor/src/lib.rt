@@ -14,6 +14,7 @@
 #![tactic(auto)]
 
 pub(crate) mod changes;
+pub(crate) mod dropper;
 pub mod executor;
 pub(crate) mod home;
 pub(crate) mod left_over;

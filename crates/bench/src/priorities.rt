@@ -1,8 +1,23 @@
 //! A row whose tasks stand in the levels of a priority executor.
-use crate::futures::{IdleWaker, Yields};
+//!
+//! Its executors have a type of their own, and so code of their own.
+use crate::futures::Yields;
+use async_executor::{OutOfMemory, Wake};
 use priority_executor::PriorityExecutor;
 use std::alloc::Global;
 use std::sync::Wait;
+
+/// Wakes nobody, and awaits tasks of levels.
+#[derive(Drop)]
+struct IdleLevel;
+
+impl Wake for IdleLevel {
+    fn wake(&self) {}
+
+    fn copy(&self) -> Result<Self, OutOfMemory> {
+        Ok(IdleLevel)
+    }
+}
 
 /// Runs one task of the last of three levels, which wakes itself.
 pub fn priority_try_tick<R: Wait + Clone + Drop + Send + Sync>(
@@ -10,7 +25,7 @@ pub fn priority_try_tick<R: Wait + Clone + Drop + Send + Sync>(
     alloc: Global,
     operations: u64,
 ) -> Option<u64> {
-    let ex: PriorityExecutor<Yields, IdleWaker, R, 3> = PriorityExecutor::new(
+    let ex: PriorityExecutor<Yields, IdleLevel, R, 3> = PriorityExecutor::new(
         rt.clone().ok()?,
         alloc,
     ).ok()?;

@@ -1,7 +1,12 @@
 //! Drops what is left of an executor's tasks.
-use crate::home::Home;
+ghost use Rattle.async_executor.specs.LeftOver.{IsHeldRight};
+
+use crate::changes;
+use crate::dropper::TaskDropper;
+use crate::home::{Home, OutIn, OutputIn};
 use crate::scheduler::ExecutorIn;
 use crate::state::announce;
+use executor_core::task::{Ran, Taken, run_taken};
 use std::sync::Wait;
 
 impl<H: Home> ExecutorIn<H> {
@@ -21,8 +26,26 @@ impl<H: Home> ExecutorIn<H> {
             let Some(taken) = drained else {
                 return;
             };
-            // It was cancelled, so its future is dropped in place of a poll.
-            self.run_task(taken);
+            self.drop_task(taken);
         }
     }
+
+    // Drops the future of a taken task, and ends the task. No lock may be held.
+    fn drop_task(&self, taken: Taken<()>) {
+        let id = taken.id();
+        let mut out = changes::take(&self.home, id);
+        match drop_taken::<H>(taken, &mut out) {
+            Ran::Dropped(held) => self.end_dropped(held),
+            // No other is left: every task was cancelled as the table was closed.
+            Ran::Pending(held, ()) | Ran::Ready(held, _) => self.end_pending(id, held),
+        }
+    }
+}
+
+// Drops the future of a taken task that was cancelled. No lock may be held.
+fn drop_taken<H: Home>(taken: Taken<()>, out: &mut OutIn<H>) -> Ran<(), OutputIn<H>>
+    ensures { IsHeldRight result }
+{
+    let mut dropper = TaskDropper::new(out);
+    run_taken(taken, &mut dropper)
 }
