@@ -1,0 +1,201 @@
+//! Futures made of futures: one of two kinds, one with its output changed, both of two, and the first
+//! of two. Each but `Either` lets its futures go once it is ready. It is pending from then on, and
+//! wakes nobody, since it has no second output.
+ghost use Rattle.std.specs.Prelude.{◌≡◌, ◌||◌, Some, None, true, false, is_none, IsSome, IfSome};
+ghost use Rattle.executor_core.specs.declared.task.future.Poll.TheVariants.{Pending as waits};
+ghost use Rattle.async_executor.specs.Answers.{is_ready};
+ghost use Rattle.async_utilities.specs.Polls.{IfReady};
+ghost use Rattle.async_utilities.specs.Halves.{Keeps, Gave, is_open};
+
+use async_executor::{Future, Poll};
+
+/// A future of one of two kinds, with one output.
+#[derive(Drop)]
+pub enum Either<A, B> {
+    /// The one kind.
+    Left(A),
+    /// The other kind.
+    Right(B),
+}
+
+impl<W, A: Future<W>, B: Future<W, Output = A::Output>> Future<W> for Either<A, B> {
+    type Output = A::Output;
+
+    fn poll(&mut self, w: &W) -> Poll<A::Output> {
+        match self {
+            Either::Left(future) => future.poll(w),
+            Either::Right(future) => future.poll(w),
+        }
+    }
+}
+
+/// What is made of an output, by one call. It stands in the place of a closure, of which no field can
+/// say that it may be called.
+pub trait Change<A>: Drop {
+    /// What is made.
+    type Output: Drop;
+
+    /// What is made of an output.
+    ghost makes: { Self → A → Self.Output };
+
+    /// Makes it.
+    fn change(self, output: A) -> Self::Output
+        ensures { result ≡ makes self output };
+}
+
+/// Gives what a `Change` makes of the output of a future.
+#[derive(Drop)]
+pub struct Map<G, C> {
+    inner: Option<(G, C)>,
+}
+
+impl<G, C> Map<G, C> {
+    /// Makes the change once the future is ready.
+    pub fn new(future: G, change: C) -> Map<G, C>
+        ensures { result.inner ≡ Some (future, change) }
+    {
+        Map {
+            inner: Some((future, change)),
+        }
+    }
+}
+
+impl<W, G: Future<W>, C: Change<G::Output>> Future<W> for Map<G, C> {
+    type Output = C::Output;
+
+    fn poll(&mut self, w: &W) -> Poll<C::Output>
+        ensures ended { IsSome self.old.inner → is_none self.new.inner ≡ is_ready result }
+        ensures again { self.old.inner ≡ None → (result ≡ waits) × (self.new.inner ≡ None) }
+        ensures made { IfSome self.old.inner (λ inner. IfReady result (λ made. (output : G.Output) × (made ≡ C.makes inner.1 output))) }
+    {
+        let Some((future, _)) = &mut self.inner else {
+            return Poll::Pending;
+        };
+        let Poll::Ready(output) = future.poll(w) else {
+            return Poll::Pending;
+        };
+        match self.inner.take() {
+            Some((_, change)) => Poll::Ready(change.change(output)),
+            None => unreachable!(),
+        }
+    }
+}
+
+// One of the two futures of a `Zip`, or its output.
+#[derive(Drop)]
+pub(crate) enum Half<G, T> {
+    Open(G),
+    Kept(T),
+}
+
+impl<G, T> Half<G, T> {
+    // Polls the future, unless its output is there, and keeps the output.
+    fn poll<W>(&mut self, w: &W) -> bool
+    where
+        G: Future<W, Output = T>,
+        ensures kept { Keeps self.old self.new }
+        ensures open { result ≡ is_open self.new }
+    {
+        let Half::Open(future) = self else {
+            return false;
+        };
+        match future.poll(w) {
+            Poll::Ready(output) => {
+                *self = Half::Kept(output);
+                false
+            }
+            Poll::Pending => true,
+        }
+    }
+
+    // The output that is kept.
+    fn kept(self) -> T
+        requires { is_open self ≡ false }
+        ensures { self ≡ Half.Kept result }
+    {
+        match self {
+            Half::Kept(output) => output,
+            Half::Open(_) => unreachable!(),
+        }
+    }
+}
+
+/// Gives the outputs of two futures, which are polled by turns until both are ready.
+#[derive(Drop)]
+pub struct Zip<A, X, B, Y> {
+    halves: Option<(Half<A, X>, Half<B, Y>)>,
+}
+
+impl<A, X, B, Y> Zip<A, X, B, Y> {
+    /// Awaits both.
+    pub fn new(left: A, right: B) -> Zip<A, X, B, Y>
+        ensures { result.halves ≡ Some (Half.Open left, Half.Open right) }
+    {
+        Zip {
+            halves: Some((Half::Open(left), Half::Open(right))),
+        }
+    }
+}
+
+impl<W, A: Future<W>, B: Future<W>> Future<W> for Zip<A, A::Output, B, B::Output> {
+    type Output = (A::Output, B::Output);
+
+    fn poll(&mut self, w: &W) -> Poll<(A::Output, B::Output)>
+        ensures ended { IsSome self.old.halves → is_none self.new.halves ≡ is_ready result }
+        ensures again { self.old.halves ≡ None → (result ≡ waits) × (self.new.halves ≡ None) }
+        ensures outputs { IfSome self.old.halves (λ halves. IfReady result (λ outputs. Gave halves.0 outputs.0 × Gave halves.1 outputs.1)) }
+        ensures kept { IfSome self.old.halves (λ old. IfSome self.new.halves (λ new. Keeps old.0 new.0 × Keeps old.1 new.1)) }
+        ensures open { IfSome self.new.halves (λ halves. (is_open halves.0 || is_open halves.1) ≡ true) }
+    {
+        let Some((left, right)) = &mut self.halves else {
+            return Poll::Pending;
+        };
+        let (is_left_open, is_right_open) = (left.poll(w), right.poll(w));
+        if is_left_open || is_right_open {
+            return Poll::Pending;
+        }
+        match self.halves.take() {
+            Some((left, right)) => Poll::Ready((left.kept(), right.kept())),
+            None => unreachable!(),
+        }
+    }
+}
+
+/// Gives the output of the first of two futures that is ready, and the left one's if both are. The
+/// other future is dropped then.
+#[derive(Drop)]
+pub struct Or<A, B> {
+    both: Option<(A, B)>,
+}
+
+impl<A, B> Or<A, B> {
+    /// Awaits the first of them.
+    pub fn new(left: A, right: B) -> Or<A, B>
+        ensures { result.both ≡ Some (left, right) }
+    {
+        Or {
+            both: Some((left, right)),
+        }
+    }
+}
+
+impl<W, A: Future<W>, B: Future<W, Output = A::Output>> Future<W> for Or<A, B> {
+    type Output = A::Output;
+
+    fn poll(&mut self, w: &W) -> Poll<A::Output>
+        ensures ended { IsSome self.old.both → is_none self.new.both ≡ is_ready result }
+        ensures again { self.old.both ≡ None → (result ≡ waits) × (self.new.both ≡ None) }
+    {
+        let Some((left, right)) = &mut self.both else {
+            return Poll::Pending;
+        };
+        let answer = match left.poll(w) {
+            Poll::Pending => right.poll(w),
+            Poll::Ready(output) => Poll::Ready(output),
+        };
+        if let Poll::Ready(_) = &answer {
+            self.both = None;
+        }
+        answer
+    }
+}

@@ -1,0 +1,13 @@
+//! What programs need beside an executor: a thread that waits for a future, and small futures.
+//!
+//! It stands on the public traits of `async_executor` alone, so its futures are for wakers of any
+//! type, and its waker serves any future.
+#![tactic(auto)]
+
+pub mod blocking;
+pub mod combining;
+pub mod immediate;
+
+pub use blocking::{ThreadWaker, block_on, poll_until_ready};
+pub use combining::{Change, Either, Map, Or, Zip};
+pub use immediate::{Never, Ready, YieldNow};
