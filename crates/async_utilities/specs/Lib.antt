@@ -1,2 +1,4 @@
 pub mod Halves
+pub mod Joins
+pub mod Places
 pub mod Polls

@@ -7,7 +7,11 @@
 pub mod blocking;
 pub mod combining;
 pub mod immediate;
+pub mod joining;
+pub mod signals;
 
 pub use blocking::{ThreadWaker, block_on, poll_until_ready};
 pub use combining::{Change, Either, Map, Or, Zip};
 pub use immediate::{Never, Ready, YieldNow};
+pub use joining::JoinAll;
+pub use signals::{Signal, Waiting};
