@@ -96,7 +96,7 @@ for page in README.md docs/PROVED.md docs/ARCHITECTURE.md "$calling"; do
     fi
 done
 
-for crate in executor_core async_executor priority_executor simulation; do
+for crate in executor_core async_executor priority_executor async_utilities simulation; do
     (cd crates/$crate/src && find . -name '*.rt') | sed 's/^\.\///; s/\.rt$//' |
         grep -vxE 'lib|main|tests(/.*)?' | sort > "$copy/wanted"
     quoted docs/ARCHITECTURE.md | grep -Fxf "$copy/wanted" | sort > "$copy/said"

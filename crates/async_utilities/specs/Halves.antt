@@ -1,5 +1,5 @@
 -- The two halves of a future of both outputs.
-use Rattle.std.specs.Prelude.{◌≡◌, ◌⊎◌, Bool, true, false}
+use Rattle.std.specs.Prelude.{◌≡◌, Bool, true, false}
 use Rattle.async_utilities.specs.declared.combining.Half.{Half}
 use Rattle.async_utilities.specs.declared.combining.Half.TheVariants.{Open, Kept}
 

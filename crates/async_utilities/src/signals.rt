@@ -181,7 +181,11 @@ impl<W: Wake, R: Wait + Drop> Future<W> for Waiting<W, R> {
         let is_set = waiters.is_set();
         drop(waiters);
         drop(unused);
-        if is_set { Poll::Ready(()) } else { Poll::Pending }
+        if is_set {
+            Poll::Ready(())
+        } else {
+            Poll::Pending
+        }
     }
 }
 
