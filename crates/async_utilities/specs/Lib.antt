@@ -1,4 +1,6 @@
+pub mod Channels
 pub mod Halves
 pub mod Joins
+pub mod Lines
 pub mod Places
 pub mod Polls

@@ -5,12 +5,14 @@
 #![tactic(auto)]
 
 pub mod blocking;
+pub mod channels;
 pub mod combining;
 pub mod immediate;
 pub mod joining;
 pub mod signals;
 
 pub use blocking::{ThreadWaker, block_on, poll_until_ready};
+pub use channels::{NoMessage, Receive, Receiver, Send, Sender, Unsent, bounded};
 pub use combining::{Change, Either, Map, Or, Zip};
 pub use immediate::{Never, Ready, YieldNow};
 pub use joining::JoinAll;

@@ -7,10 +7,12 @@ mod core_calls;
 mod outcome;
 mod rooms;
 mod running;
+mod utilities;
 
 use outcome::Outcome;
 use std::io;
 use std::process::ExitCode;
+use utilities::Refused;
 
 fn main(rt: HostRuntime) -> io::Result<ExitCode> {
     let alloc = rt.alloc();
@@ -26,11 +28,16 @@ fn main(rt: HostRuntime) -> io::Result<ExitCode> {
     running::spawn_and_run(&rt, alloc, &mut outcome);
     running::spawn_many_and_run(&rt, alloc, &mut outcome);
     running::tick_and_run(&rt, alloc, &mut outcome);
+    let mut refused = Refused::new();
+    utilities::wait(&rt, alloc, &mut refused);
+    utilities::join(alloc, &mut refused);
+    utilities::wait_for_signal(&rt, alloc, &mut refused);
     if let Some((sleepers, runners)) = rooms::keep_rooms(&rt, alloc, &mut outcome) {
         println!(rt; "room for {sleepers} sleepers and {runners} runners")?;
     }
+    let wrong = outcome.wrong.saturating_add(refused.wrong);
     println!(rt;
-        "refused: Cells::new {}, Cells::spawn {}, Cells::reserve_runner {}, Ring::new {}, Sleepers::reserve {}, Core::new {}, Core::reserve {}, World::new {}, World::run {}, World::step {}, Executor::new {}, Executor::spawn {}, Executor::spawn_many {}, Executor::tick {}, Executor::run {}, steps {}, orders {}; wrong: {}",
+        "refused: Cells::new {}, Cells::spawn {}, Cells::reserve_runner {}, Ring::new {}, Sleepers::reserve {}, Core::new {}, Core::reserve {}, World::new {}, World::run {}, World::step {}, Executor::new {}, Executor::spawn {}, Executor::spawn_many {}, Executor::tick {}, Executor::run {}, block_on {}, JoinAll::new {}, Signal::new {}, Signal::waiting {}, lists {}, steps {}, orders {}; wrong: {}",
         outcome.cells_new,
         outcome.cells_spawn,
         outcome.cells_reserve_runner,
@@ -46,11 +53,16 @@ fn main(rt: HostRuntime) -> io::Result<ExitCode> {
         outcome.executor_spawn_many,
         outcome.executor_tick,
         outcome.executor_run,
+        refused.block_on,
+        refused.join_all,
+        refused.signal,
+        refused.waiting,
+        refused.list,
         outcome.steps,
         outcome.orders,
-        outcome.wrong
+        wrong
     )?;
-    Ok(if outcome.wrong == 0 {
+    Ok(if wrong == 0 {
         ExitCode::SUCCESS
     } else {
         ExitCode::FAILURE

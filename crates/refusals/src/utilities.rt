@@ -1,0 +1,140 @@
+//! The calls of `async_utilities` that take memory.
+use crate::outcome::count;
+use async_executor::{Future, OutOfMemory, Poll, Wake};
+use async_utilities::{JoinAll, Ready, Signal, Waiting, block_on};
+use std::alloc::Global;
+use std::sync::Wait;
+
+/// How often each call was refused memory, and the program's own list; and how many answers were
+/// wrong.
+#[derive(Drop)]
+pub struct Refused {
+    pub block_on: u32,
+    pub join_all: u32,
+    pub signal: u32,
+    pub waiting: u32,
+    pub list: u32,
+    pub wrong: u32,
+}
+
+impl Refused {
+    /// Nothing was refused, and nothing wrong.
+    pub fn new() -> Refused {
+        Refused {
+            block_on: 0,
+            join_all: 0,
+            signal: 0,
+            waiting: 0,
+            list: 0,
+            wrong: 0,
+        }
+    }
+
+    // An answer is wrong where this does not hold.
+    fn expect(&mut self, holds: bool) {
+        if !holds {
+            count(&mut self.wrong);
+        }
+    }
+}
+
+/// Wakes nobody.
+#[derive(Drop)]
+struct Nobody;
+
+impl Wake for Nobody {
+    fn wake(&self) {}
+
+    fn copy(&self) -> Result<Self, OutOfMemory> {
+        Ok(Nobody)
+    }
+}
+
+/// Waits for what is ready, and again where that is refused.
+pub fn wait<R: Wait>(rt: &R, alloc: Global, refused: &mut Refused) {
+    let output = match block_on(rt, alloc, Ready::new(7)) {
+        Ok(output) => Some(output),
+        Err(_) => {
+            count(&mut refused.block_on);
+            block_on(rt, alloc, Ready::new(7)).ok()
+        }
+    };
+    refused.expect(output == Some(7));
+}
+
+// The futures of a join, listed again where that is refused.
+fn listed(alloc: Global, refused: &mut Refused) -> Option<Vec<Ready<u64>>> {
+    if let Ok(futures) = Vec::from_array(alloc, [Ready::new(0), Ready::new(1)]) {
+        return Some(futures);
+    }
+    count(&mut refused.list);
+    Vec::from_array(alloc, [Ready::new(0), Ready::new(1)]).ok()
+}
+
+// A join of them, made again of what comes back where it is refused.
+fn joined(
+    alloc: Global,
+    futures: Vec<Ready<u64>>,
+    refused: &mut Refused,
+) -> Option<JoinAll<Ready<u64>, u64>> {
+    match JoinAll::new(alloc, futures) {
+        Ok(all) => Some(all),
+        Err(failed) => {
+            count(&mut refused.join_all);
+            JoinAll::new(alloc, failed.value).ok()
+        }
+    }
+}
+
+/// Joins futures: their outputs come in order, whatever was refused.
+pub fn join(alloc: Global, refused: &mut Refused) {
+    let Some(futures) = listed(alloc, refused) else {
+        return refused.expect(false);
+    };
+    let Some(mut all) = joined(alloc, futures, refused) else {
+        return refused.expect(false);
+    };
+    let in_order = match all.poll(&Nobody) {
+        Poll::Ready(outputs) => outputs.as_slice() == [0, 1].as_slice(),
+        Poll::Pending => false,
+    };
+    refused.expect(in_order);
+}
+
+// A signal, made again where that is refused.
+fn signal<R: Wait + Clone + Drop>(
+    rt: &R,
+    alloc: Global,
+    refused: &mut Refused,
+) -> Option<Signal<Nobody, R>> {
+    if let Ok(signal) = Signal::new(rt.clone().ok()?, alloc) {
+        return Some(signal);
+    }
+    count(&mut refused.signal);
+    Signal::new(rt.clone().ok()?, alloc).ok()
+}
+
+// One that waits for the signal, made again where that is refused.
+fn waiting<R: Wait + Drop>(
+    signal: &Signal<Nobody, R>,
+    refused: &mut Refused,
+) -> Option<Waiting<Nobody, R>> {
+    if let Ok(waiting) = signal.waiting() {
+        return Some(waiting);
+    }
+    count(&mut refused.waiting);
+    signal.waiting().ok()
+}
+
+/// Waits for a signal before and after it is set.
+pub fn wait_for_signal<R: Wait + Clone + Drop>(rt: &R, alloc: Global, refused: &mut Refused) {
+    let Some(signal) = signal(rt, alloc, refused) else {
+        return refused.expect(false);
+    };
+    let Some(mut waiting) = waiting(&signal, refused) else {
+        return refused.expect(false);
+    };
+    refused.expect(waiting.poll(&Nobody) == Poll::Pending);
+    signal.set();
+    refused.expect(waiting.poll(&Nobody) == Poll::Ready(()));
+}
