@@ -32,12 +32,13 @@ fn main(rt: HostRuntime) -> io::Result<ExitCode> {
     utilities::wait(&rt, alloc, &mut refused);
     utilities::join(alloc, &mut refused);
     utilities::wait_for_signal(&rt, alloc, &mut refused);
+    utilities::send(&rt, alloc, &mut refused);
     if let Some((sleepers, runners)) = rooms::keep_rooms(&rt, alloc, &mut outcome) {
         println!(rt; "room for {sleepers} sleepers and {runners} runners")?;
     }
     let wrong = outcome.wrong.saturating_add(refused.wrong);
     println!(rt;
-        "refused: Cells::new {}, Cells::spawn {}, Cells::reserve_runner {}, Ring::new {}, Sleepers::reserve {}, Core::new {}, Core::reserve {}, World::new {}, World::run {}, World::step {}, Executor::new {}, Executor::spawn {}, Executor::spawn_many {}, Executor::tick {}, Executor::run {}, block_on {}, JoinAll::new {}, Signal::new {}, Signal::waiting {}, lists {}, steps {}, orders {}; wrong: {}",
+        "refused: Cells::new {}, Cells::spawn {}, Cells::reserve_runner {}, Ring::new {}, Sleepers::reserve {}, Core::new {}, Core::reserve {}, World::new {}, World::run {}, World::step {}, Executor::new {}, Executor::spawn {}, Executor::spawn_many {}, Executor::tick {}, Executor::run {}, block_on {}, JoinAll::new {}, Signal::new {}, Signal::waiting {}, bounded {}, Sender::copy {}, Receiver::copy {}, lists {}, steps {}, orders {}; wrong: {}",
         outcome.cells_new,
         outcome.cells_spawn,
         outcome.cells_reserve_runner,
@@ -57,6 +58,9 @@ fn main(rt: HostRuntime) -> io::Result<ExitCode> {
         refused.join_all,
         refused.signal,
         refused.waiting,
+        refused.bounded,
+        refused.sender,
+        refused.receiver,
         refused.list,
         outcome.steps,
         outcome.orders,

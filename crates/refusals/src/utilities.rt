@@ -1,7 +1,7 @@
 //! The calls of `async_utilities` that take memory.
 use crate::outcome::count;
 use async_executor::{Future, OutOfMemory, Poll, Wake};
-use async_utilities::{JoinAll, Ready, Signal, Waiting, block_on};
+use async_utilities::{JoinAll, Ready, Receiver, Sender, Signal, Waiting, block_on, bounded};
 use std::alloc::Global;
 use std::sync::Wait;
 
@@ -13,6 +13,9 @@ pub struct Refused {
     pub join_all: u32,
     pub signal: u32,
     pub waiting: u32,
+    pub bounded: u32,
+    pub sender: u32,
+    pub receiver: u32,
     pub list: u32,
     pub wrong: u32,
 }
@@ -25,6 +28,9 @@ impl Refused {
             join_all: 0,
             signal: 0,
             waiting: 0,
+            bounded: 0,
+            sender: 0,
+            receiver: 0,
             list: 0,
             wrong: 0,
         }
@@ -137,4 +143,70 @@ pub fn wait_for_signal<R: Wait + Clone + Drop>(rt: &R, alloc: Global, refused: &
     refused.expect(waiting.poll(&Nobody) == Poll::Pending);
     signal.set();
     refused.expect(waiting.poll(&Nobody) == Poll::Ready(()));
+}
+
+type Sends<R> = Sender<u64, Nobody, Nobody, R>;
+
+type Receives<R> = Receiver<u64, Nobody, Nobody, R>;
+
+// A channel with room for one message, made again where that is refused.
+fn channel<R: Wait + Clone + Drop>(
+    rt: &R,
+    alloc: Global,
+    refused: &mut Refused,
+) -> Option<(Sends<R>, Receives<R>)> {
+    if let Ok(ends) = bounded(rt.clone().ok()?, alloc, 1) {
+        return Some(ends);
+    }
+    count(&mut refused.bounded);
+    bounded(rt.clone().ok()?, alloc, 1).ok()
+}
+
+// Another sender, made again where that is refused.
+fn sender<R: Wait + Drop>(sender: &Sends<R>, refused: &mut Refused) -> Option<Sends<R>> {
+    if let Ok(other) = sender.copy() {
+        return Some(other);
+    }
+    count(&mut refused.sender);
+    sender.copy().ok()
+}
+
+// Another receiver, made again where that is refused.
+fn receiver<R: Wait + Drop>(receiver: &Receives<R>, refused: &mut Refused) -> Option<Receives<R>> {
+    if let Ok(other) = receiver.copy() {
+        return Some(other);
+    }
+    count(&mut refused.receiver);
+    receiver.copy().ok()
+}
+
+// Both senders wait, one after the other, and their messages come in order to both receivers.
+fn send_all<R: Wait + Drop>(
+    senders: (Sends<R>, Sends<R>),
+    receivers: (Receives<R>, Receives<R>),
+    refused: &mut Refused,
+) {
+    let ((mut one, mut two), (mut three, mut four)) = (senders, receivers);
+    let (mut second, mut third) = (Some(2), Some(3));
+    refused.expect(one.try_send(1).is_ok());
+    refused.expect(one.poll_send(&Nobody, &mut second) == Poll::Pending);
+    refused.expect(two.poll_send(&Nobody, &mut third) == Poll::Pending);
+    refused.expect(three.try_receive() == Ok(1));
+    refused.expect(one.poll_send(&Nobody, &mut second) == Poll::Ready(Ok(())));
+    refused.expect(four.try_receive() == Ok(2));
+    refused.expect(two.poll_send(&Nobody, &mut third) == Poll::Ready(Ok(())));
+    refused.expect(three.poll_receive(&Nobody) == Poll::Ready(Some(3)));
+}
+
+/// Sends through a channel with two ends at each side. What waits takes no memory.
+pub fn send<R: Wait + Clone + Drop>(rt: &R, alloc: Global, refused: &mut Refused) {
+    let Some((one, three)) = channel(rt, alloc, refused) else {
+        return refused.expect(false);
+    };
+    let senders = sender(&one, refused);
+    let receivers = receiver(&three, refused);
+    match (senders, receivers) {
+        (Some(two), Some(four)) => send_all((one, two), (three, four), refused),
+        _ => refused.expect(false),
+    }
 }
