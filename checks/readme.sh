@@ -37,7 +37,7 @@ is_there() {
         *[!A-Za-z0-9_:./]* | S | self | break | unsafe | specs/ | proofs/ | src/ | out/) return 0 ;;
         uses::*) grep -qE "fn ${1#uses::}\b" crates/uses/src/*.rt ;;
         */* | *.md | *.txt | *.svg) [ -e "$1" ] || [ -e "docs/$1" ] || [ -e "crates/executor_core/src/$1.rt" ] ||
-            [ -e "crates/async_executor/src/$1.rt" ] ;;
+            [ -e "crates/async_executor/src/$1.rt" ] || [ -e "crates/async_utilities/src/$1.rt" ] ;;
         [A-Z]*::[a-z]*) stands "fn ${1#*::}\b" ;;
         [A-Z]*) stands "(struct|enum|trait|type|const) $1\b" || stands "^ +$1(\(|,| \{|$)" ;;
         *) stands "(fn|mod|ensures|pub) $1\b" || stands "codes \"$1\"" || grep -qw "$1" crates.txt ||
