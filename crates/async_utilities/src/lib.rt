@@ -9,6 +9,7 @@ pub mod channels;
 pub mod combining;
 pub mod immediate;
 pub mod joining;
+pub mod pooling;
 pub mod signals;
 
 pub use blocking::{ThreadWaker, block_on, poll_until_ready};
@@ -16,4 +17,5 @@ pub use channels::{NoMessage, Receive, Receiver, Send, Sender, Unsent, bounded};
 pub use combining::{Change, Either, Map, Or, Zip};
 pub use immediate::{Never, Ready, YieldNow};
 pub use joining::JoinAll;
+pub use pooling::{Pool, PoolError};
 pub use signals::{Signal, Waiting};
