@@ -132,7 +132,8 @@ impl<T: Drop, S: Wake, V: Wake, R: Wait + Drop> Sender<T, S, V, R> {
         }
     }
 
-    /// Sends the message that is there, once there is room, or gives it back if there is no receiver.
+    /// Sends the message that is there, once there is room, or gives it back if there is no receiver. If
+    /// there is no message, it is ready, and nothing was sent.
     /// While it is pending, the message stays where it is, and a copy of the waker is woken once there
     /// is room. If the copy is refused, the waker itself is woken, and nothing more is kept.
     ///

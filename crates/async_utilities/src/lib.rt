@@ -1,7 +1,8 @@
-//! What programs need beside an executor: a thread that waits for a future, and small futures.
+//! What programs need beside an executor: a thread that waits for a future, small futures, joins, a
+//! signal, a channel, and a pool of threads.
 //!
-//! It stands on the public traits of `async_executor` alone, so its futures are for wakers of any
-//! type, and its waker serves any future.
+//! It stands on what `async_executor` makes public. Its futures are for wakers of any type, and its
+//! waker serves any future.
 #![tactic(auto)]
 
 pub mod blocking;
