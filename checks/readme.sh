@@ -77,7 +77,7 @@ cp crates/uses/src/calling.rt "$copy/wanted"
 same "CALLING.md, the caller and crates/uses"
 
 # A clause is quoted with S for what self points to.
-cat crates/async_executor/src/*.rt crates/async_executor/src/executor/*.rt \
+cat crates/async_executor/src/*.rt crates/async_executor/src/*executor/*.rt \
     crates/async_executor/src/scheduler/*.rt crates/executor_core/src/task/*.rt |
     sed "s/self\.new/S'/g; s/self\.\(old\|now\)/S/g" > "$copy/clauses"
 block "$calling" text "## Contracts" | sed -n 's/^  \(ensures\|requires\)\( [a-z_]*\)\?: \(.*\)$/\1\2 { \3 }/p' |
@@ -112,7 +112,7 @@ else
 fi
 
 # The public calls of async_executor whose comment names no example.
-for source in crates/async_executor/src/*.rt crates/async_executor/src/executor/*.rt; do
+for source in crates/async_executor/src/*.rt crates/async_executor/src/*executor/*.rt; do
     awk -v source="${source##*/}" '
         /^ *\/\/\/ Example: / { example = 1 }
         /^ *pub fn / { if (!example) print source ": " $3 }

@@ -1,3 +1,4 @@
+mod Counts
 mod Handles
 mod Places
 mod RunRows

@@ -16,6 +16,7 @@ use crate::home::SharedHome;
 pub use crate::runner::RunError;
 use crate::scheduler::ExecutorIn;
 pub use crate::scheduler::SpawnMany;
+use crate::static_executors::StaticExecutor;
 pub use crate::task::Cancelled;
 pub use crate::waker::TaskWaker;
 pub use executor_core::queue::RunnerError;
@@ -42,7 +43,7 @@ where
     W: Wake,
     R: Wait + Clone + Drop,
 {
-    inner: ExecutorIn<SharedHome<F, W, R>>,
+    pub(crate) inner: ExecutorIn<SharedHome<F, W, R>>,
 }
 
 impl<F, W, R> Executor<F, W, R>
@@ -170,6 +171,20 @@ where
             Ok(inner) => Ok(Run { inner }),
             Err(error) => Err(error),
         }
+    }
+
+    /// The same executor, for as long as the program lives: its drop cancels nothing. Every task is
+    /// woken, and the idle ones are scheduled by rising slot, behind all that are. Else all goes on as
+    /// it was: the queues and the numbers, and the handles and the wakers that were made before. It
+    /// takes no memory.
+    ///
+    /// Example: `uses::serves`.
+    pub fn leak(self) -> StaticExecutor<F, W, R>
+        ensures { result.inner ≡ self.inner }
+    {
+        let Executor { inner } = self;
+        inner.wake_all();
+        StaticExecutor { inner }
     }
 }
 

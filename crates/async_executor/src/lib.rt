@@ -14,17 +14,20 @@
 #![tactic(auto)]
 
 pub(crate) mod changes;
+pub(crate) mod debug;
 pub(crate) mod dropper;
 pub mod executor;
 pub(crate) mod home;
 pub(crate) mod left_over;
 pub(crate) mod limits;
+pub mod local_executor;
 pub(crate) mod lock;
 pub(crate) mod machine;
 pub(crate) mod poller;
 pub mod runner;
 pub(crate) mod scheduler;
 pub(crate) mod state;
+pub mod static_executors;
 pub(crate) mod store;
 pub(crate) mod task;
 pub mod ticker;
@@ -35,3 +38,7 @@ pub use executor::{
     TaskWaker, Tick,
 };
 pub use executor_core::task::{Future, OutOfMemory, Poll, SpawnError, Wake};
+pub use local_executor::{
+    LocalCancel, LocalExecutor, LocalFallibleTask, LocalRun, LocalTask, LocalTick,
+};
+pub use static_executors::{StaticExecutor, StaticLocalExecutor};

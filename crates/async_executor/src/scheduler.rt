@@ -49,6 +49,15 @@ impl<H: Home> ExecutorIn<H> {
         self.home.state().cells().is_empty()
     }
 
+    /// Wakes every task, and spends the notice of those that were queued.
+    pub(crate) fn wake_all(&self) {
+        let state = self.state();
+        let woken = state.cells().wake_all();
+        if let Some(notice) = woken {
+            announce!(state, notice);
+        }
+    }
+
     /// Schedules the future as a new task, behind all that are scheduled.
     pub(crate) fn spawn(&self, future: H::Future) -> Result<TaskIn<H>, SpawnError<H::Future>>
         ensures ok { IfOk result (λ task. task.answered ≡ false) }

@@ -151,6 +151,12 @@ impl<W: Wake, R: Wait + Clone + Drop> ExecutorState<W, R> {
         self.sleepers().sleepers.reserve()
     }
 
+    /// How many sleep. `None` where the lock is taken, for which it does not wait.
+    pub(crate) fn sleepers_in_use(&self) -> Option<usize> {
+        let guard = self.sleepers.try_lock()?;
+        Some(guard.sleepers.numbers())
+    }
+
     /// Gives the place of one sleeper back.
     pub(crate) fn release_sleeper(&self) {
         self.sleepers().sleepers.release();

@@ -17,6 +17,7 @@ pub mod rows;
 pub mod running;
 pub mod searching;
 pub mod sleeping;
+pub mod staying;
 pub mod threads;
 pub mod ticking;
 pub mod timing;

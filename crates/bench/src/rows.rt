@@ -7,6 +7,10 @@ use crate::priorities::priority_try_tick;
 use crate::running::{ping_pong, run_yields, threads_spawn, threads_yield};
 use crate::searching::{search_empty, search_own, search_steal};
 use crate::sleeping::{idle_run, yield_beside_runs};
+use crate::staying::{
+    local_spawn_drain, local_spawn_try_tick, local_yield_run, local_yield_try_tick,
+    static_local_spawn_try_tick, static_spawn_drain, static_spawn_try_tick, static_yield_run,
+};
 use crate::threads::threads_try_tick;
 use crate::ticking::{sleep_wake, spawn_tick, yield_tick};
 use crate::timing::Ran;
@@ -89,10 +93,26 @@ pub enum Row {
     OneSpawner(usize),
     /// From a spawn to the poll of its task by a run on another thread, which was parked.
     WakeLatency,
+    /// A row of a local or static executor.
+    Staying(Staying),
+}
+
+/// A row of a local or static executor, of the shape of one of a shared executor.
+#[derive(Debug, Clone, Copy, PartialEq, Eq)]
+pub enum Staying {
+    LocalSpawnTryTick,
+    LocalSpawnDrain,
+    LocalYieldTryTick,
+    /// So many tasks.
+    LocalYieldRun(u64),
+    StaticSpawnTryTick,
+    StaticSpawnDrain,
+    StaticYieldRun,
+    StaticLocalSpawnTryTick,
 }
 
 /// Each row, with its name on the command line.
-pub const ROWS: [(&str, Row); 49] = [
+pub const ROWS: [(&str, Row); 58] = [
     ("spawn_try_tick", Row::SpawnTryTick),
     ("spawn_drain", Row::SpawnDrain),
     ("yield_try_tick", Row::YieldTryTick),
@@ -142,7 +162,54 @@ pub const ROWS: [(&str, Row); 49] = [
     ("one_spawner_3", Row::OneSpawner(3)),
     ("one_spawner_4", Row::OneSpawner(4)),
     ("wake_latency", Row::WakeLatency),
+    (
+        "local_spawn_try_tick",
+        Row::Staying(Staying::LocalSpawnTryTick),
+    ),
+    ("local_spawn_drain", Row::Staying(Staying::LocalSpawnDrain)),
+    (
+        "local_yield_try_tick",
+        Row::Staying(Staying::LocalYieldTryTick),
+    ),
+    ("local_yield_run", Row::Staying(Staying::LocalYieldRun(1))),
+    (
+        "local_many_yield",
+        Row::Staying(Staying::LocalYieldRun(1_000)),
+    ),
+    (
+        "static_spawn_try_tick",
+        Row::Staying(Staying::StaticSpawnTryTick),
+    ),
+    (
+        "static_spawn_drain",
+        Row::Staying(Staying::StaticSpawnDrain),
+    ),
+    ("static_yield_run", Row::Staying(Staying::StaticYieldRun)),
+    (
+        "static_local_spawn_try_tick",
+        Row::Staying(Staying::StaticLocalSpawnTryTick),
+    ),
 ];
+
+impl Staying {
+    fn run<R: Wait + Clone + Drop + Send + Sync>(
+        self,
+        rt: &R,
+        alloc: Global,
+        operations: u64,
+    ) -> Option<u64> {
+        match self {
+            Staying::LocalSpawnTryTick => local_spawn_try_tick(rt, alloc, operations),
+            Staying::LocalSpawnDrain => local_spawn_drain(rt, alloc, operations),
+            Staying::LocalYieldTryTick => local_yield_try_tick(rt, alloc, operations),
+            Staying::LocalYieldRun(tasks) => local_yield_run(rt, alloc, tasks, operations),
+            Staying::StaticSpawnTryTick => static_spawn_try_tick(rt, alloc, operations),
+            Staying::StaticSpawnDrain => static_spawn_drain(rt, alloc, operations),
+            Staying::StaticYieldRun => static_yield_run(rt, alloc, operations),
+            Staying::StaticLocalSpawnTryTick => static_local_spawn_try_tick(rt, alloc, operations),
+        }
+    }
+}
 
 impl Row {
     /// The row of this name.
@@ -196,6 +263,7 @@ impl Row {
         operations: u64,
     ) -> Option<u64> {
         match self {
+            Row::Staying(row) => row.run(rt, alloc, operations),
             Row::WakeIdle => wake_idle(rt, alloc, operations),
             Row::SpawnTick => spawn_tick(rt, alloc, operations),
             Row::YieldTick => yield_tick(rt, alloc, operations),

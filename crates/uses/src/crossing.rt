@@ -1,5 +1,5 @@
 //! What may cross threads. These functions only have to compile.
-use async_executor::executor::{Cancel, Executor, FallibleTask, Run, Task, TaskWaker, Tick};
+use async_executor::{Cancel, Executor, FallibleTask, Run, StaticExecutor, Task, TaskWaker, Tick};
 use executor_core::task::{Future, Wake};
 use priority_executor::{PriorityExecutor, PriorityTick};
 use std::sync::Wait;
@@ -21,6 +21,19 @@ where
     is_shared(ex);
     is_sent(waker);
     is_shared(waker);
+}
+
+/// So may one for as long as the program lives.
+pub fn static_executor_crosses<
+    F: Future<TaskWaker<W, R>> + Send,
+    W: Wake + Send,
+    R: Wait + Clone + Drop + Send + Sync,
+>(ex: &StaticExecutor<F, W, R>)
+where
+    F::Output: Send,
+{
+    is_sent(ex);
+    is_shared(ex);
 }
 
 /// So may its handles.

@@ -5,17 +5,21 @@
 mod calling;
 mod crossing;
 mod futures;
+mod lasting;
 mod parking;
 mod pooling;
 mod priorities;
+mod staying;
 
 use async_executor::{Cancelled, Executor, Future, OutOfMemory, Poll, Task, TaskWaker, Wake};
 use calling::{asks_again, gives_back};
 use executor_core::interleave::{Reply, Step, World};
 use futures::{Channel, Job, Nobody, Receiver, Sum, send};
+use lasting::{keeps, lasts, prints, serves};
 use parking::parks;
 use pooling::pools;
 use priorities::{accepts, overtakes, prefers};
+use staying::{gathers, local_executor, naps, releases, stays};
 use std::alloc::Global;
 use std::fmt::Debug;
 use std::io;
@@ -333,6 +337,32 @@ fn call_levels<R: Wait + Clone + Drop + Send + Sync + Print>(
     print(rt, "prefers", &prefers([false, true, true]))
 }
 
+// The callers of an executor that stays on its thread.
+fn call_local<R: Wait + Clone + Drop + Print>(rt: &R, alloc: Global) -> io::Result<()> {
+    print(rt, "stays", &stays(rt, alloc))?;
+    print(rt, "gathers", &gathers(rt, alloc))?;
+    let Some(executor) = local_executor(rt, alloc) else {
+        return Ok(());
+    };
+    print(rt, "releases", &releases(rt, &executor))?;
+    print(rt, "naps", &naps(&executor))
+}
+
+// The callers of executors that live for as long as the program does.
+fn call_static<R: Wait + Threads + Clone + Drop + Send + Sync + Print>(
+    rt: &R,
+    alloc: Global,
+) -> io::Result<()> {
+    if let Some(executor) = executor(rt, alloc) {
+        print(rt, "serves", &serves(rt, executor))?;
+    }
+    print(rt, "prints", &prints(rt, alloc))?;
+    if let Some(executor) = local_executor(rt, alloc) {
+        print(rt, "lasts", &lasts(executor))?;
+    }
+    print(rt, "keeps", &keeps(rt, alloc))
+}
+
 fn main(rt: HostRuntime) -> io::Result<()> {
     let alloc = rt.alloc();
     print(&rt, "runs", &runs(&rt, alloc, Sum::of(1, 2)))?;
@@ -341,5 +371,7 @@ fn main(rt: HostRuntime) -> io::Result<()> {
         Err(OutOfMemory) => println!(rt; "{OutOfMemory}")?,
     }
     call_alone(&rt, alloc)?;
-    call_levels(&rt, alloc)
+    call_levels(&rt, alloc)?;
+    call_local(&rt, alloc)?;
+    call_static(&rt, alloc)
 }

@@ -1,0 +1,175 @@
+//! The executor that stays on the thread that made it, with its handles, ticks and runs.
+//!
+//! Each of them has what is written once for every home, at the local one. It is a type of its own,
+//! for the reason that the shared ones are.
+ghost use Rattle.std.specs.Prelude.{◌≡◌, false, IfOk, IfErr, IfNone, vec_len, vec_capacity};
+ghost use Rattle.std.specs.Iterator.{IsFinite};
+ghost use Rattle.executor_core.specs.SpawnError.{refused_future};
+ghost use Rattle.async_executor.specs.RunError.{run_future};
+ghost use Rattle.async_executor.specs.Runs.{has_ended};
+ghost use Rattle.async_executor.specs.SpawnMany.{spawned, SpawnsInTurn, AddsHandles};
+
+mod handles;
+mod tickers;
+
+use crate::executor::{RunError, SpawnMany, TaskWaker};
+use crate::home::LocalHome;
+use crate::scheduler::ExecutorIn;
+use crate::static_executors::StaticLocalExecutor;
+use executor_core::task::{Future, OutOfMemory, SpawnError, Wake};
+pub use handles::{LocalCancel, LocalFallibleTask, LocalTask};
+use std::alloc::Global;
+use std::sync::Wait;
+pub use tickers::{LocalRun, LocalTick};
+
+/// An executor that stays on its thread, as do its handles, its ticks and its runs: none of them can
+/// be sent or shared. So F, its output and W may be what cannot be sent, and no lock is taken for what
+/// it keeps of its tasks.
+///
+/// The wakers of its tasks may go to other threads if W may be sent and R be both sent and shared. A
+/// wake there schedules the task for this thread. It stands for the `LocalExecutor` of the Rust crate.
+/// Its drop is that of `Executor`.
+///
+/// Example: `uses::stays`, and of the drop `uses::gathers`.
+pub struct LocalExecutor<F, W, R>
+where
+    F: Future<TaskWaker<W, R>>,
+    W: Wake,
+    R: Wait + Clone + Drop,
+{
+    pub(crate) inner: ExecutorIn<LocalHome<F, W, R>>,
+}
+
+impl<F, W, R> LocalExecutor<F, W, R>
+where
+    F: Future<TaskWaker<W, R>>,
+    W: Wake,
+    R: Wait + Clone + Drop,
+{
+    /// As `Executor::new`.
+    ///
+    /// # Errors
+    ///
+    /// `OutOfMemory` if memory for what the executor shares is refused.
+    ///
+    /// Example: `uses::stays`.
+    pub fn new(rt: R, alloc: Global) -> Result<Self, OutOfMemory> {
+        let inner = ExecutorIn::new(rt, alloc)?;
+        Ok(LocalExecutor { inner })
+    }
+
+    /// As `Executor::spawn`.
+    ///
+    /// # Errors
+    ///
+    /// If memory is refused, or no number is left for the task, the future is given back and all is as
+    /// before.
+    ///
+    /// Example: `uses::stays`.
+    #[inline(always)]
+    pub fn spawn(&self, future: F) -> Result<LocalTask<F, W, R>, SpawnError<F>>
+        ensures ok { IfOk result (λ task. task.inner.answered ≡ false) }
+        ensures refused { IfErr result (λ e. refused_future e ≡ future) }
+    {
+        match self.inner.spawn(future) {
+            Ok(inner) => Ok(LocalTask { inner }),
+            Err(error) => Err(error),
+        }
+    }
+
+    /// As `Executor::spawn_many`.
+    ///
+    /// # Errors
+    ///
+    /// If memory is refused, or no number is left for a task. Those that were spawned before stay, with
+    /// their handles in the Vec. The future that was refused is given back; there is none if the place
+    /// of its handle was refused, since the Vec was full.
+    ///
+    /// Example: `uses::gathers`.
+    pub fn spawn_many<I: Iterator<Item = F>>(
+        &self,
+        futures: I,
+        handles: &mut Vec<LocalTask<F, W, R>>,
+    ) -> Result<usize, SpawnMany<F>>
+        requires can { I.can_next futures }
+        requires ends { IsFinite (I.remaining futures) }
+        ensures futures { SpawnsInTurn I.next_gives futures result }
+        ensures handles { AddsHandles (λ task. task.inner.answered) handles.old.items (spawned result) handles.new.items }
+        ensures room { IfErr result (λ e. IfNone e.refused (vec_len handles.new ≡ vec_capacity handles.new)) }
+    {
+        self.inner.spawn_many(futures, handles)
+    }
+
+    /// As `Executor::is_empty`.
+    ///
+    /// Example: `uses::stays`.
+    #[inline(always)]
+    pub fn is_empty(&self) -> bool {
+        self.inner.is_empty()
+    }
+
+    /// As `Executor::try_tick`.
+    ///
+    /// Example: `uses::stays`.
+    #[inline(always)]
+    pub fn try_tick(&self) -> bool {
+        self.inner.try_tick()
+    }
+
+    /// As `Executor::tick`.
+    ///
+    /// # Errors
+    ///
+    /// `OutOfMemory` if memory for the place in which it sleeps is refused. All is as before.
+    ///
+    /// Example: `uses::naps`.
+    #[inline(always)]
+    pub fn tick(&self) -> Result<LocalTick<'_, F, W, R>, OutOfMemory>
+        ensures { IfOk result (λ tick. tick.inner.rest ≡ record { number = 0; ended = false }) }
+    {
+        let inner = self.inner.tick()?;
+        Ok(LocalTick { inner })
+    }
+
+    /// As `Executor::run`.
+    ///
+    /// # Errors
+    ///
+    /// If memory is refused, or no number is left for the runner, the future is given back and all is
+    /// as before.
+    ///
+    /// Example: `uses::stays`.
+    pub fn run<G: Future<W>>(&self, future: G) -> Result<LocalRun<'_, F, W, R, G>, RunError<G>>
+        ensures ok { IfOk result (λ run. has_ended run.inner.rest ≡ false) }
+        ensures refused { IfErr result (λ e. run_future e ≡ future) }
+    {
+        match self.inner.run(future) {
+            Ok(inner) => Ok(LocalRun { inner }),
+            Err(error) => Err(error),
+        }
+    }
+
+    /// As `Executor::leak`.
+    ///
+    /// Example: `uses::lasts`.
+    pub fn leak(self) -> StaticLocalExecutor<F, W, R>
+        ensures { result.inner ≡ self.inner }
+    {
+        let LocalExecutor { inner } = self;
+        inner.wake_all();
+        StaticLocalExecutor { inner }
+    }
+}
+
+impl<F, W, R> Drop for LocalExecutor<F, W, R>
+where
+    F: Future<TaskWaker<W, R>>,
+    W: Wake,
+    R: Wait + Clone + Drop,
+{
+    fn drop(self) {
+        let LocalExecutor { inner } = self;
+        inner.close();
+        drop(inner);
+    }
+}

@@ -1,0 +1,235 @@
+//! The handles of a local executor's tasks.
+ghost use Rattle.std.specs.Prelude.{◌≡◌, IsTrue};
+ghost use Rattle.async_executor.specs.Answers.{is_ready, IsReadyErr, IsReadyNone};
+
+use crate::executor::TaskWaker;
+use crate::home::LocalHome;
+use crate::scheduler::Handle;
+use crate::task::{Cancelled, TaskIn, some_if_ok};
+use executor_core::task::{Future, Poll, Wake};
+use std::sync::Wait;
+
+/// As `Task`, of a task that stays on the thread of its executor, as its handle does.
+///
+/// Example: `uses::stays`.
+pub struct LocalTask<F, W, R>
+where
+    F: Future<TaskWaker<W, R>>,
+    W: Wake,
+    R: Wait + Clone + Drop,
+{
+    pub(crate) inner: TaskIn<LocalHome<F, W, R>>,
+}
+
+impl<F, W, R> LocalTask<F, W, R>
+where
+    F: Future<TaskWaker<W, R>>,
+    W: Wake,
+    R: Wait + Clone + Drop,
+{
+    /// As `Task::detach`.
+    ///
+    /// Example: `uses::keeps`.
+    #[inline(always)]
+    pub fn detach(self) {
+        let LocalTask { inner } = self;
+        inner.detach();
+    }
+
+    /// As `Task::cancel`.
+    ///
+    /// Example: `uses::releases`.
+    #[inline(always)]
+    pub fn cancel(self) -> LocalCancel<F, W, R>
+        ensures { result.task.inner.answered ≡ self.inner.answered }
+    {
+        self.inner.cancel();
+        LocalCancel { task: self }
+    }
+
+    /// As `Task::fallible`.
+    ///
+    /// Example: `uses::releases`.
+    pub fn fallible(self) -> LocalFallibleTask<F, W, R>
+        ensures { result.task.inner.answered ≡ self.inner.answered }
+    {
+        LocalFallibleTask { task: self }
+    }
+
+    /// As `Task::is_finished`.
+    ///
+    /// Example: `uses::naps`.
+    pub fn is_finished(&self) -> bool
+        ensures { IsTrue self.now.inner.answered → IsTrue result }
+    {
+        self.inner.is_finished()
+    }
+}
+
+impl<F, W, R> Handle<LocalHome<F, W, R>> for LocalTask<F, W, R>
+where
+    F: Future<TaskWaker<W, R>>,
+    W: Wake,
+    R: Wait + Clone + Drop,
+{
+    ghost answered = { λ task. task.inner.answered };
+
+    fn of(inner: TaskIn<LocalHome<F, W, R>>) -> Self
+        ensures { result.inner.answered ≡ inner.answered }
+    {
+        LocalTask { inner }
+    }
+}
+
+impl<F, W, R> Future<W> for LocalTask<F, W, R>
+where
+    F: Future<TaskWaker<W, R>>,
+    W: Wake,
+    R: Wait + Clone + Drop,
+{
+    type Output = Result<F::Output, Cancelled>;
+
+    /// As the poll of `Task`.
+    ///
+    /// Example: `uses::gathers`.
+    #[inline(always)]
+    fn poll(&mut self, w: &W) -> Poll<Result<F::Output, Cancelled>>
+        ensures answered { self.new.inner.answered ≡ is_ready result }
+        ensures again { IsTrue self.old.inner.answered → IsReadyErr result }
+    {
+        self.inner.poll(w)
+    }
+}
+
+impl<F, W, R> Drop for LocalTask<F, W, R>
+where
+    F: Future<TaskWaker<W, R>>,
+    W: Wake,
+    R: Wait + Clone + Drop,
+{
+    fn drop(self) {
+        let LocalTask { inner } = self;
+        drop(inner);
+    }
+}
+
+/// As `Cancel`, of a task that stays on its thread.
+///
+/// Example: `uses::releases`.
+pub struct LocalCancel<F, W, R>
+where
+    F: Future<TaskWaker<W, R>>,
+    W: Wake,
+    R: Wait + Clone + Drop,
+{
+    task: LocalTask<F, W, R>,
+}
+
+impl<F, W, R> Future<W> for LocalCancel<F, W, R>
+where
+    F: Future<TaskWaker<W, R>>,
+    W: Wake,
+    R: Wait + Clone + Drop,
+{
+    type Output = Option<F::Output>;
+
+    /// As the poll of `Cancel`.
+    ///
+    /// Example: `uses::releases`.
+    #[inline(always)]
+    fn poll(&mut self, w: &W) -> Poll<Option<F::Output>>
+        ensures answered { self.new.task.inner.answered ≡ is_ready result }
+        ensures again { IsTrue self.old.task.inner.answered → IsReadyNone result }
+    {
+        some_if_ok(self.task.poll(w))
+    }
+}
+
+impl<F, W, R> Drop for LocalCancel<F, W, R>
+where
+    F: Future<TaskWaker<W, R>>,
+    W: Wake,
+    R: Wait + Clone + Drop,
+{
+    fn drop(self) {
+        let LocalCancel { task } = self;
+        drop(task);
+    }
+}
+
+/// As `FallibleTask`, of a task that stays on its thread.
+///
+/// Example: `uses::releases`.
+pub struct LocalFallibleTask<F, W, R>
+where
+    F: Future<TaskWaker<W, R>>,
+    W: Wake,
+    R: Wait + Clone + Drop,
+{
+    task: LocalTask<F, W, R>,
+}
+
+impl<F, W, R> LocalFallibleTask<F, W, R>
+where
+    F: Future<TaskWaker<W, R>>,
+    W: Wake,
+    R: Wait + Clone + Drop,
+{
+    /// As `Task::detach`.
+    ///
+    /// Example: `uses::releases`.
+    pub fn detach(self) {
+        let LocalFallibleTask { task } = self;
+        task.detach();
+    }
+
+    /// As `Task::cancel`.
+    ///
+    /// Example: `uses::releases`.
+    pub fn cancel(self) -> LocalCancel<F, W, R>
+        ensures { result.task.inner.answered ≡ self.task.inner.answered }
+    {
+        let LocalFallibleTask { task } = self;
+        task.cancel()
+    }
+
+    /// As `Task::is_finished`.
+    ///
+    /// Example: `uses::releases`.
+    pub fn is_finished(&self) -> bool
+        ensures { IsTrue self.now.task.inner.answered → IsTrue result }
+    {
+        self.task.is_finished()
+    }
+}
+
+impl<F, W, R> Future<W> for LocalFallibleTask<F, W, R>
+where
+    F: Future<TaskWaker<W, R>>,
+    W: Wake,
+    R: Wait + Clone + Drop,
+{
+    type Output = Option<F::Output>;
+
+    /// As the poll of `FallibleTask`.
+    ///
+    /// Example: `uses::releases`.
+    fn poll(&mut self, w: &W) -> Poll<Option<F::Output>>
+        ensures answered { self.new.task.inner.answered ≡ is_ready result }
+        ensures again { IsTrue self.old.task.inner.answered → IsReadyNone result }
+    {
+        some_if_ok(self.task.poll(w))
+    }
+}
+
+impl<F, W, R> Drop for LocalFallibleTask<F, W, R>
+where
+    F: Future<TaskWaker<W, R>>,
+    W: Wake,
+    R: Wait + Clone + Drop,
+{
+    fn drop(self) {
+        let LocalFallibleTask { task } = self;
+        drop(task);
+    }
+}

@@ -1,0 +1,213 @@
+//! Executors for as long as a program lives: their drop cancels nothing.
+//!
+//! Each of them has what is written once for every home, as the executor of which it is made by
+//! `leak`, and the handles, ticks and runs of that executor.
+ghost use Rattle.std.specs.Prelude.{◌≡◌, false, IfOk, IfErr};
+ghost use Rattle.executor_core.specs.SpawnError.{refused_future};
+ghost use Rattle.async_executor.specs.RunError.{run_future};
+ghost use Rattle.async_executor.specs.Runs.{has_ended};
+
+use crate::executor::{Run, RunError, Task, TaskWaker, Tick};
+use crate::home::{LocalHome, SharedHome};
+use crate::local_executor::{LocalRun, LocalTask, LocalTick};
+use crate::scheduler::ExecutorIn;
+use executor_core::task::{Future, OutOfMemory, SpawnError, Wake};
+use std::alloc::Global;
+use std::sync::Wait;
+
+/// As `Executor`, for as long as the program lives: a borrow of it may be lent to threads, and its drop
+/// cancels nothing. It stands for the `StaticExecutor` of the Rust crate.
+///
+/// If it is dropped, no task runs any more, and those that are left are not cancelled: their handles
+/// stay pending. What is left of them is let go with the last handle.
+///
+/// Example: `uses::serves`.
+#[derive(Drop)]
+pub struct StaticExecutor<F, W, R>
+where
+    F: Future<TaskWaker<W, R>>,
+    W: Wake,
+    R: Wait + Clone + Drop,
+{
+    pub(crate) inner: ExecutorIn<SharedHome<F, W, R>>,
+}
+
+impl<F, W, R> StaticExecutor<F, W, R>
+where
+    F: Future<TaskWaker<W, R>> + Send,
+    F::Output: Send,
+    W: Wake + Send,
+    R: Wait + Clone + Drop + Send + Sync,
+{
+    /// As `Executor::new`.
+    ///
+    /// # Errors
+    ///
+    /// `OutOfMemory` if memory for what the executor shares is refused.
+    ///
+    /// Example: `uses::prints`.
+    pub fn new(rt: R, alloc: Global) -> Result<Self, OutOfMemory> {
+        let inner = ExecutorIn::new(rt, alloc)?;
+        Ok(StaticExecutor { inner })
+    }
+
+    /// As `Executor::spawn`.
+    ///
+    /// # Errors
+    ///
+    /// If memory is refused, or no number is left for the task, the future is given back and all is as
+    /// before.
+    ///
+    /// Example: `uses::serves`.
+    #[inline(always)]
+    pub fn spawn(&self, future: F) -> Result<Task<F, W, R>, SpawnError<F>>
+        ensures ok { IfOk result (λ task. task.inner.answered ≡ false) }
+        ensures refused { IfErr result (λ e. refused_future e ≡ future) }
+    {
+        match self.inner.spawn(future) {
+            Ok(inner) => Ok(Task { inner }),
+            Err(error) => Err(error),
+        }
+    }
+}
+
+impl<F, W, R> StaticExecutor<F, W, R>
+where
+    F: Future<TaskWaker<W, R>>,
+    W: Wake,
+    R: Wait + Clone + Drop,
+{
+    /// As `Executor::try_tick`.
+    ///
+    /// Example: `uses::prints`.
+    #[inline(always)]
+    pub fn try_tick(&self) -> bool {
+        self.inner.try_tick()
+    }
+
+    /// As `Executor::tick`.
+    ///
+    /// # Errors
+    ///
+    /// `OutOfMemory` if memory for the place in which it sleeps is refused. All is as before.
+    ///
+    /// Example: `uses::prints`.
+    #[inline(always)]
+    pub fn tick(&self) -> Result<Tick<'_, F, W, R>, OutOfMemory>
+        ensures { IfOk result (λ tick. tick.inner.rest ≡ record { number = 0; ended = false }) }
+    {
+        let inner = self.inner.tick()?;
+        Ok(Tick { inner })
+    }
+
+    /// As `Executor::run`.
+    ///
+    /// # Errors
+    ///
+    /// If memory is refused, or no number is left for the runner, the future is given back and all is
+    /// as before.
+    ///
+    /// Example: `uses::serves`.
+    pub fn run<G: Future<W>>(&self, future: G) -> Result<Run<'_, F, W, R, G>, RunError<G>>
+        ensures ok { IfOk result (λ run. has_ended run.inner.rest ≡ false) }
+        ensures refused { IfErr result (λ e. run_future e ≡ future) }
+    {
+        match self.inner.run(future) {
+            Ok(inner) => Ok(Run { inner }),
+            Err(error) => Err(error),
+        }
+    }
+}
+
+/// As `LocalExecutor`, for as long as the program lives. It stays on its thread, and its drop is that
+/// of `StaticExecutor`. It stands for the `StaticLocalExecutor` of the Rust crate.
+///
+/// Example: `uses::keeps`.
+#[derive(Drop)]
+pub struct StaticLocalExecutor<F, W, R>
+where
+    F: Future<TaskWaker<W, R>>,
+    W: Wake,
+    R: Wait + Clone + Drop,
+{
+    pub(crate) inner: ExecutorIn<LocalHome<F, W, R>>,
+}
+
+impl<F, W, R> StaticLocalExecutor<F, W, R>
+where
+    F: Future<TaskWaker<W, R>>,
+    W: Wake,
+    R: Wait + Clone + Drop,
+{
+    /// As `Executor::new`.
+    ///
+    /// # Errors
+    ///
+    /// `OutOfMemory` if memory for what the executor shares is refused.
+    ///
+    /// Example: `uses::keeps`.
+    pub fn new(rt: R, alloc: Global) -> Result<Self, OutOfMemory> {
+        let inner = ExecutorIn::new(rt, alloc)?;
+        Ok(StaticLocalExecutor { inner })
+    }
+
+    /// As `Executor::spawn`.
+    ///
+    /// # Errors
+    ///
+    /// If memory is refused, or no number is left for the task, the future is given back and all is as
+    /// before.
+    ///
+    /// Example: `uses::keeps`.
+    #[inline(always)]
+    pub fn spawn(&self, future: F) -> Result<LocalTask<F, W, R>, SpawnError<F>>
+        ensures ok { IfOk result (λ task. task.inner.answered ≡ false) }
+        ensures refused { IfErr result (λ e. refused_future e ≡ future) }
+    {
+        match self.inner.spawn(future) {
+            Ok(inner) => Ok(LocalTask { inner }),
+            Err(error) => Err(error),
+        }
+    }
+
+    /// As `Executor::try_tick`.
+    ///
+    /// Example: `uses::keeps`.
+    #[inline(always)]
+    pub fn try_tick(&self) -> bool {
+        self.inner.try_tick()
+    }
+
+    /// As `Executor::tick`.
+    ///
+    /// # Errors
+    ///
+    /// `OutOfMemory` if memory for the place in which it sleeps is refused. All is as before.
+    ///
+    /// Example: `uses::keeps`.
+    #[inline(always)]
+    pub fn tick(&self) -> Result<LocalTick<'_, F, W, R>, OutOfMemory>
+        ensures { IfOk result (λ tick. tick.inner.rest ≡ record { number = 0; ended = false }) }
+    {
+        let inner = self.inner.tick()?;
+        Ok(LocalTick { inner })
+    }
+
+    /// As `Executor::run`.
+    ///
+    /// # Errors
+    ///
+    /// If memory is refused, or no number is left for the runner, the future is given back and all is
+    /// as before.
+    ///
+    /// Example: `uses::keeps`.
+    pub fn run<G: Future<W>>(&self, future: G) -> Result<LocalRun<'_, F, W, R, G>, RunError<G>>
+        ensures ok { IfOk result (λ run. has_ended run.inner.rest ≡ false) }
+        ensures refused { IfErr result (λ e. run_future e ≡ future) }
+    {
+        match self.inner.run(future) {
+            Ok(inner) => Ok(LocalRun { inner }),
+            Err(error) => Err(error),
+        }
+    }
+}
