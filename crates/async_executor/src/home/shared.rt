@@ -64,8 +64,8 @@ impl<F: Future<TaskWaker<W, R>>, W: Wake, R: Wait + Clone + Drop> Home for Share
         Some(StoreGuard::Locked(store))
     }
 
-    #[cold]
-    #[inline(never)]
+    // Inline, so that who has the guard knows of which kind it is.
+    #[inline(always)]
     fn wait_for_store(&self) -> StoreGuard<'_, Store<F, Arc<ExecutorState<W, R>>, F::Output>> {
         StoreGuard::Locked(wait_for(&self.shared.store, self.shared.state.rt()))
     }
