@@ -11,7 +11,7 @@
 # refusals is refused once more by `rt try`, which also finds a bad access.
 #
 # In the end refusals orders itself which requests fail, and says for how many ticks and runs there is
-# room before and after runs that were refused.
+# room before and after runs that were refused, and how many requests 1,000 spawns make.
 # Usage: checks/refusals.sh, anywhere. RT names the command rt. Its last line counts the runs.
 set -eu
 rt=${RT:-rt}
@@ -88,7 +88,9 @@ run_refused
 read_line 0
 room=$(printf '%s\n' "$out" | grep '^room for ' || :)
 [ -n "$room" ] || give_up "refusals takes no orders: $out"
-echo "refusals, by its orders: $room"
+requests=$(printf '%s\n' "$out" | grep '^requests for memory: ' || :)
+[ -n "$requests" ] || give_up "refusals counts no requests: $out"
+echo "refusals, by its orders: $room; $requests"
 passed=$((passed + 1))
 
 n=$last

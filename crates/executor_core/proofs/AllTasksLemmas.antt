@@ -1,8 +1,7 @@
 -- What a change of every cell keeps, and what is then seen.
-use Rattle.std.proofs.Common.{◌≡◌, ℕ, zero, suc, ◌+◌, ◌<◌, ◌≤◌, ◌||◌, ◌==◌, Bool, true, false, List, [], ◌∷◌, ◌++◌, length, map, get_or, Option, Some, None, cond, refl, sym, ap, subst, ◌∙◌, inl, inr, length-append, append_assoc, append-nil, arith}
+use Rattle.std.proofs.Common.{◌≡◌, ℕ, zero, suc, ◌+◌, ◌<◌, ◌||◌, ◌==◌, Bool, true, false, List, [], ◌∷◌, ◌++◌, length, map, get_or, Option, Some, None, cond, refl, sym, ap, subst, ◌∙◌, inl, inr, length-append, append_assoc, arith}
 use Rattle.std.specs.Prelude.{option_map, nat_lt, count_by}
 use Rattle.std.specs.List.{All, cons_option, flat_map}
-use Rattle.std.specs.List.Sorted.{IsPermutation}
 use Rattle.std.specs.Ordering.{nat_cmp}
 use Rattle.std.specs.Cmp.{nat_cmp_total}
 use Rattle.std.specs.FinMap as fin_map
@@ -15,13 +14,14 @@ use Rattle.std.proofs.lemmas.List.Sums.{sum_by-cons, sum_by-append}
 use Rattle.executor_core.specs.Numbers.{times}
 use Rattle.executor_core.specs.Cell.{is_idle, is_held, is_scheduled}
 use Rattle.executor_core.specs.Cell.Changes.{state_woken, cancelled_cell}
-use Rattle.executor_core.specs.Cells.{Slotted, Table}
+use Rattle.executor_core.specs.Cells.{Slotted}
 use Rattle.executor_core.specs.Cells.Law.{scheduled_in}
 use Rattle.executor_core.specs.Cells.Calls.{each_changed, closing, after_close, close_queues, SlotsDiffer}
-use Rattle.executor_core.specs.Cells.View.{seen, by_number, cells_of, table_of, numbers_of, Distinct, Placed, Settled, IsSound, is_queueable, change_by, changed_slot, idle_id, idle_ids}
+use Rattle.executor_core.specs.Cells.View.{seen, by_number, cells_of, table_of, numbers_of, Placed, Settled, IsSound, is_queueable, change_by, changed_slot, idle_id, idle_ids}
 use Rattle.executor_core.specs.Queues.{QueueLists, RunnerQueue, all_entries, local_entries, gathered}
+use Rattle.executor_core.specs.Slots.{HasCell, IsQueue}
 use Rattle.executor_core.specs.Queues.State.{QueueState, with_lists, pushed_all}
-use Rattle.executor_core.proofs.SlotLemmas.{same_option, get-cells_of, get_sees, sees_get, tied, apart}
+use Rattle.executor_core.proofs.SlotLemmas.{get-cells_of, get_sees, sees_get, tied, apart}
 use Rattle.executor_core.proofs.WakeLemmas.{settled_woken}
 use Rattle.executor_core.proofs.CancelLemmas.{settled_cancelled}
 use Rattle.executor_core.proofs.GatherLemmas.{emptied-map}
@@ -159,9 +159,9 @@ module _ {P T W : Type 0} where
   placed_changed cancels slots id placed =
       (changed (change_by cancels) placed.0, get-changed (change_by cancels) slots id.number ∙ ap (option_map (changed (change_by cancels))) placed.1, placed.2)
 
-  pub changed_sound : {next capacity undropped : ℕ} {slots : List (Option (Numbered (Cell P T W)))} {ids : List TaskId}
-      → IsSound next slots ids capacity undropped → (cancels : Bool) → IsSound next (map (changed_slot (change_by cancels)) slots) (ids ++ idle_ids 0 slots) capacity undropped
-  changed_sound {next} {capacity} {undropped} {slots} {ids} sound cancels =
+  pub changed_sound : {next undropped : ℕ} {slots : List (Option (Numbered (Cell P T W)))} {ids : List TaskId}
+      → IsSound next slots ids undropped → (cancels : Bool) → IsSound next (map (changed_slot (change_by cancels)) slots) (ids ++ idle_ids 0 slots) undropped
+  changed_sound {next} {undropped} {slots} {ids} sound cancels =
       let change = change_by cancels in
       let new = map (changed_slot change) slots in
       record {
@@ -183,13 +183,12 @@ module _ {P T W : Type 0} where
             let count = count_changed cancels 0 slots in
             let long = length-append ids (idle_ids 0 slots) in
             omega arith;
-        room = sound.room;
         numbered = sound.numbered;
       }
 
   -- each cell has a slot of its own
-  pub slots_differ : {next capacity undropped : ℕ} {slots : List (Option (Numbered (Cell P T W)))} {ids : List TaskId}
-      → IsSound next slots ids capacity undropped → (q : QueueState) (closed : Bool) → SlotsDiffer (table_of next slots q closed)
+  pub slots_differ : {next undropped : ℕ} {slots : List (Option (Numbered (Cell P T W)))} {ids : List TaskId}
+      → IsSound next slots ids undropped → (q : QueueState) (closed : Bool) → SlotsDiffer (table_of next slots q closed)
   slots_differ {slots = slots} sound q closed n k s t at_n at_k same =
       let a = get_sees slots n s at_n in
       let b = get_sees slots k t at_k in
@@ -201,24 +200,20 @@ module _ {P T W : Type 0} where
 pub pushed_all-entries : (ids : List TaskId) (q : QueueLists TaskId) → all_entries (pushed_all ids q) ≡ all_entries q ++ ids
 pushed_all-entries ids q = sym (append_assoc (flat_map (λ (l : RunnerQueue TaskId). l.entries) q.locals) q.global ids)
 
--- there is room for what is idle
-pub room_for_idle : {P T W : Type 0} {next capacity undropped : ℕ} {slots : List (Option (Numbered (Cell P T W)))} (q : QueueLists TaskId)
-    → IsSound next slots (all_entries q) capacity undropped → length q.global + count_by is_queueable slots ≤ capacity
-room_for_idle q sound =
-    let counted = sound.counted in
-    let room = sound.room in
-    let long = length-append (flat_map (λ (l : RunnerQueue TaskId). l.entries) q.locals) q.global in
-    omega arith
-
-pub room_for_all : {P T W : Type 0} {next capacity undropped : ℕ} {slots : List (Option (Numbered (Cell P T W)))} {ids : List TaskId} → IsSound next slots ids capacity undropped → length ids ≤ capacity
-room_for_all sound = let counted = sound.counted in let room = sound.room in omega arith
+-- the ids of what was idle have their cells in the slots before
+pub before_queue : {P T W : Type 0} (change : Cell P T W → Cell P T W) (slots : List (Option (Numbered (Cell P T W)))) (ids : List TaskId) → IsQueue (map (changed_slot change) slots) ids → IsQueue slots ids
+before_queue {P} {T} {W} change slots ids queue =
+    record {
+      placed = All-weaker (HasCell (map (changed_slot change) slots)) (HasCell slots) (λ id has. let w = was change slots id.slot has.0 has.1 in (w.entry, w.there, ap (λ (e : Numbered (Cell P T W)). e.number) (sym w.is) ∙ has.2)) ids queue.placed;
+      apart = queue.apart;
+    }
 
 one_of_two : {X : Type 0} (xs ys : List X) → nat_lt 0 (length (xs ++ ys)) ≡ (nat_lt 0 (length xs) || nat_lt 0 (length ys))
 one_of_two [] ys = refl
 one_of_two (x ∷ xs) ys = lt-ltb 0 (length (x ∷ xs ++ ys)) (omega arith) ∙ ap (λ b. b || nat_lt 0 (length ys)) (sym (lt-ltb 0 (length (x ∷ xs)) (omega arith)))
 
 -- a close
-module _ {P T W : Type 0} {next capacity undropped : ℕ} {slots : List (Option (Numbered (Cell P T W)))} {ids : List TaskId} (sound : IsSound next slots ids capacity undropped) (q : QueueState) (closed : Bool) where
+module _ {P T W : Type 0} {next undropped : ℕ} {slots : List (Option (Numbered (Cell P T W)))} {ids : List TaskId} (sound : IsSound next slots ids undropped) (q : QueueState) (closed : Bool) where
   -- what is put at the global end
   closing_is : numbers_of (idle_ids 0 slots ++ local_entries q.lists.locals) ≡ closing (table_of next slots q closed)
   closing_is =

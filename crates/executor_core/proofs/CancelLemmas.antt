@@ -20,24 +20,24 @@ module _ {P T W : Type 0} where
   settled_cancelled c settled dropped = settled (sym (undropped-state_woken c.state) ∙ dropped)
 
   -- the id's cell, whose cancel changes no queue
-  pub cancel_quiet : {next capacity undropped : ℕ} {slots : List (Option (Numbered (Cell P T W)))} {ids : List TaskId}
-      → IsSound next slots ids capacity undropped
+  pub cancel_quiet : {next undropped : ℕ} {slots : List (Option (Numbered (Cell P T W)))} {ids : List TaskId}
+      → IsSound next slots ids undropped
       → (id : TaskId) (e : Numbered (Cell P T W)) → get_or slots id.slot None ≡ Some e → is_idle e.cell.state ≡ false
-      → IsSound next (set slots id.slot (Some (record { number = e.number; cell = cancelled_cell e.cell }))) ids capacity undropped
+      → IsSound next (set slots id.slot (Some (record { number = e.number; cell = cancelled_cell e.cell }))) ids undropped
   cancel_quiet sound id e there quiet = quiet_write sound id e (cancelled_cell e.cell) there refl (settled_cancelled e.cell (sound.settled id.slot e there)) quiet
 
   -- the id's cell, whose cancel queues it
-  pub cancel_loud : {next capacity undropped : ℕ} {slots : List (Option (Numbered (Cell P T W)))} {ids later : List TaskId}
-      → IsSound next slots ids capacity undropped
+  pub cancel_loud : {next undropped : ℕ} {slots : List (Option (Numbered (Cell P T W)))} {ids later : List TaskId}
+      → IsSound next slots ids undropped
       → (id : TaskId) (e : Numbered (Cell P T W)) → get_or slots id.slot None ≡ Some e → e.number ≡ id.number → is_idle e.cell.state ≡ true
-      → (room : ℕ) → capacity ≡ room → later ≡ ids ++ id ∷ []
-      → IsSound next (set slots id.slot (Some (record { number = e.number; cell = cancelled_cell e.cell }))) later room undropped
-  cancel_loud sound id e there number idle room same_room longer =
-      loud_write sound id e (cancelled_cell e.cell) there number refl (settled_cancelled e.cell (sound.settled id.slot e there)) idle room same_room longer
+      → later ≡ ids ++ id ∷ []
+      → IsSound next (set slots id.slot (Some (record { number = e.number; cell = cancelled_cell e.cell }))) later undropped
+  cancel_loud sound id e there number idle longer =
+      loud_write sound id e (cancelled_cell e.cell) there number refl (settled_cancelled e.cell (sound.settled id.slot e there)) idle longer
 
   -- what a cancel gives
-  pub cancel_table : {closed : Bool} {next capacity undropped : ℕ} {slots : List (Option (Numbered (Cell P T W)))} {ids : List TaskId}
-      → IsSound next slots ids capacity undropped
+  pub cancel_table : {closed : Bool} {next undropped : ℕ} {slots : List (Option (Numbered (Cell P T W)))} {ids : List TaskId}
+      → IsSound next slots ids undropped
       → (q : QueueState) (id : TaskId) (e : Numbered (Cell P T W)) (later : List TaskId) → get_or slots id.slot None ≡ Some e → e.number ≡ id.number → e.cell.has_handle ≡ true
       → numbers_of later ≡ cond (is_idle e.cell.state) (numbers_of q.lists.global ++ id.number ∷ []) (numbers_of q.lists.global)
       → table_of next (set slots id.slot (Some (record { number = e.number; cell = cancelled_cell e.cell }))) (with_global later q) closed ≡ after_cancel (table_of next slots q closed) id
@@ -46,8 +46,8 @@ module _ {P T W : Type 0} where
       ∙ sym (ap (cancel_at (table_of next slots q closed) id) (cell_at_entry sound id e there number)
       ∙ ap (λ b. cond b (queued_if (is_idle e.cell.state) (with_cell (table_of next slots q closed) id (cancelled_cell e.cell)) id) (table_of next slots q closed)) handle)
 
-  pub cancel_queues_is : {next capacity undropped : ℕ} {slots : List (Option (Numbered (Cell P T W)))} {ids : List TaskId}
-      → IsSound next slots ids capacity undropped → (id : TaskId) (e : Numbered (Cell P T W)) {b : Bool}
+  pub cancel_queues_is : {next undropped : ℕ} {slots : List (Option (Numbered (Cell P T W)))} {ids : List TaskId}
+      → IsSound next slots ids undropped → (id : TaskId) (e : Numbered (Cell P T W)) {b : Bool}
       → get_or slots id.slot None ≡ Some e → e.number ≡ id.number → e.cell.has_handle ≡ true → is_idle e.cell.state ≡ b → passes (λ c. c.has_handle && is_idle c.state) (cell_of slots id) ≡ b
   cancel_queues_is sound id e there number handle idle =
       ap (passes (λ c. c.has_handle && is_idle c.state)) (cell_at_entry sound id e there number)
@@ -62,10 +62,10 @@ module _ {P T W : Type 0} where
   cancel_queues-absent None h = refl
   cancel_queues-absent (Some c) h = ap (λ b. b && is_idle c.state) h
 
-  pub disposed_sound : {next capacity undropped : ℕ} {slots : List (Option (Numbered (Cell P T W)))} {ids : List TaskId}
-      → IsSound next slots ids capacity undropped
+  pub disposed_sound : {next undropped : ℕ} {slots : List (Option (Numbered (Cell P T W)))} {ids : List TaskId}
+      → IsSound next slots ids undropped
       → (key : ℕ) (e : Numbered (Cell P T W)) → get_or slots key None ≡ Some e → is_held e.cell.state ≡ true → e.cell.has_handle ≡ true
-      → IsSound next (set slots key (Some (record { number = e.number; cell = disposed e.cell }))) ids capacity (undropped - 1)
+      → IsSound next (set slots key (Some (record { number = e.number; cell = disposed e.cell }))) ids (undropped - 1)
   disposed_sound sound key e there held handle = ended_sound sound key e (disposed e.cell) there held refl refl (λ dropped. (refl, handle))
 
   pub disposed_some : (table : Table P T W) (id : TaskId) (c : Cell P T W) {b : Bool} → is_held c.state ≡ true → c.has_handle ≡ b → end_dropped_at table id (Some c) ≡ cond b (with_cell table id (disposed c)) (without_cell table id)

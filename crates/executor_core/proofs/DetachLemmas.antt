@@ -17,10 +17,10 @@ abbrev pub pair_of : {T W : Type 0} → Option T → Option W → Option T × Op
 pair_of t w = (t, w)
 
 module _ {P T W : Type 0} where
-  pub detach_sound : {next capacity undropped : ℕ} {slots : List (Option (Numbered (Cell P T W)))} {ids : List TaskId}
-      → IsSound next slots ids capacity undropped
+  pub detach_sound : {next undropped : ℕ} {slots : List (Option (Numbered (Cell P T W)))} {ids : List TaskId}
+      → IsSound next slots ids undropped
       → (id : TaskId) (e : Numbered (Cell P T W)) → get_or slots id.slot None ≡ Some e → is_undropped e.cell.state ≡ true
-      → IsSound next (set slots id.slot (Some (record { number = e.number; cell = detached e.cell }))) ids capacity undropped
+      → IsSound next (set slots id.slot (Some (record { number = e.number; cell = detached e.cell }))) ids undropped
   detach_sound sound id e there undropped =
       kept_sound sound id e (detached e.cell) there refl refl (λ dropped. absurd (cc (undropped, dropped)))
 

@@ -16,10 +16,10 @@ use Rattle.executor_core.specs.declared.task.id.TaskId.{TaskId}
 use Rattle.executor_core.specs.declared.task.cell.CellState.TheVariants.{Idle, Scheduled}
 
 module _ {P T W : Type 0} where
-  pub end_pending_idle : {next capacity undropped : ℕ} {slots : List (Option (Numbered (Cell P T W)))} {ids : List TaskId}
-      → IsSound next slots ids capacity undropped
+  pub end_pending_idle : {next undropped : ℕ} {slots : List (Option (Numbered (Cell P T W)))} {ids : List TaskId}
+      → IsSound next slots ids undropped
       → (id : TaskId) (e : Numbered (Cell P T W)) (p : P) → get_or slots id.slot None ≡ Some e → is_held e.cell.state ≡ true → e.cell.woken ≡ false
-      → IsSound next (set slots id.slot (Some (record { number = e.number; cell = pended e.cell p }))) ids capacity undropped
+      → IsSound next (set slots id.slot (Some (record { number = e.number; cell = pended e.cell p }))) ids undropped
   end_pending_idle sound id e p there held quiet =
       let facts = held_state e.cell.state held in
       kept_sound sound id e (pended e.cell p) there
@@ -27,22 +27,22 @@ module _ {P T W : Type 0} where
       (ap (λ b. is_idle {P = P} {T = T} (cond b (Scheduled p) (Idle p)) || is_held {P = P} {T = T} (cond b (Scheduled p) (Idle p))) quiet ∙ sym facts.1)
       (λ dropped. absurd (cc (ap (λ b. is_undropped {P = P} {T = T} (cond b (Scheduled p) (Idle p))) quiet, dropped)))
 
-  pub end_pending_queued : {next capacity undropped : ℕ} {slots : List (Option (Numbered (Cell P T W)))} {ids later : List TaskId}
-      → IsSound next slots ids capacity undropped
+  pub end_pending_queued : {next undropped : ℕ} {slots : List (Option (Numbered (Cell P T W)))} {ids later : List TaskId}
+      → IsSound next slots ids undropped
       → (id : TaskId) (e : Numbered (Cell P T W)) (p : P) → get_or slots id.slot None ≡ Some e → e.number ≡ id.number → is_held e.cell.state ≡ true → e.cell.woken ≡ true
-      → (room : ℕ) → capacity ≡ room → later ≡ ids ++ id ∷ []
-      → IsSound next (set slots id.slot (Some (record { number = e.number; cell = pended e.cell p }))) later room undropped
-  end_pending_queued sound id e p there number held woken room same_room longer =
+      → later ≡ ids ++ id ∷ []
+      → IsSound next (set slots id.slot (Some (record { number = e.number; cell = pended e.cell p }))) later undropped
+  end_pending_queued sound id e p there number held woken longer =
       let facts = held_state e.cell.state held in
       queued_sound sound id e (pended e.cell p) there number facts.0
       (ap (λ b. is_scheduled {P = P} {T = T} (cond b (Scheduled p) (Idle p))) woken)
       facts.1
       (ap (λ b. is_idle {P = P} {T = T} (cond b (Scheduled p) (Idle p)) || is_held {P = P} {T = T} (cond b (Scheduled p) (Idle p))) woken)
       (λ dropped. absurd (cc (ap (λ b. is_undropped {P = P} {T = T} (cond b (Scheduled p) (Idle p))) woken, dropped)))
-      room same_room longer
+      longer
 
-  pub end_pending_table : {closed : Bool} {next capacity undropped : ℕ} {slots : List (Option (Numbered (Cell P T W)))} {ids : List TaskId}
-      → IsSound next slots ids capacity undropped
+  pub end_pending_table : {closed : Bool} {next undropped : ℕ} {slots : List (Option (Numbered (Cell P T W)))} {ids : List TaskId}
+      → IsSound next slots ids undropped
       → (q : QueueState) (id : TaskId) (e : Numbered (Cell P T W)) (p : P) (later : List TaskId) → get_or slots id.slot None ≡ Some e → e.number ≡ id.number → takes_back e.cell ≡ true
       → numbers_of later ≡ cond e.cell.woken (numbers_of q.lists.global ++ id.number ∷ []) (numbers_of q.lists.global)
       → table_of next (set slots id.slot (Some (record { number = e.number; cell = pended e.cell p }))) (with_global later q) closed ≡ after_end_pending (table_of next slots q closed) id p
@@ -56,7 +56,7 @@ module _ {P T W : Type 0} where
   after_end_pending-absent table id p None h = refl
   after_end_pending-absent table id p (Some c) h = ap (λ b. cond b (queued_if c.woken (with_cell table id (pended c p)) id) table) h
 
-  pub woken_in_is : {next capacity undropped : ℕ} {slots : List (Option (Numbered (Cell P T W)))} {ids : List TaskId}
-      → IsSound next slots ids capacity undropped → (id : TaskId) (e : Numbered (Cell P T W)) → get_or slots id.slot None ≡ Some e → e.number ≡ id.number
+  pub woken_in_is : {next undropped : ℕ} {slots : List (Option (Numbered (Cell P T W)))} {ids : List TaskId}
+      → IsSound next slots ids undropped → (id : TaskId) (e : Numbered (Cell P T W)) → get_or slots id.slot None ≡ Some e → e.number ≡ id.number
       → woken_in (cell_of slots id) ≡ e.cell.woken
   woken_in_is sound id e there number = ap woken_in (cell_at_entry sound id e there number)

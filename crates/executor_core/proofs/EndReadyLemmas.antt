@@ -18,7 +18,7 @@ use Rattle.std.proofs.Common.{◌-◌, add-zero}
 use Rattle.executor_core.specs.declared.task.table.EndReady.{EndReady}
 use Rattle.executor_core.specs.declared.task.values.Wakeup.{Wakeup}
 use Rattle.executor_core.specs.declared.task.handles.PollHandle.TheVariants.{Cancelled, Pending}
-use Rattle.executor_core.proofs.SlotLemmas.{Changes}
+use Rattle.executor_core.specs.Slots.{Changes}
 use Rattle.executor_core.proofs.TableLemmas.{put_sound}
 use Rattle.executor_core.proofs.WriteLemmas.{law_at}
 use Rattle.executor_core.proofs.RemoveLemmas.{remove_sound, counted_one}
@@ -33,33 +33,32 @@ arith_end u l e f g = rw (f, g) (omega arith)
 
 module _ {P T W : Type 0} where
   -- a write of a cell whose future was out and is dropped now, where its handle is there
-  pub ended_sound : {next capacity undropped : ℕ} {slots : List (Option (Numbered (Cell P T W)))} {ids : List TaskId}
-      → IsSound next slots ids capacity undropped
+  pub ended_sound : {next undropped : ℕ} {slots : List (Option (Numbered (Cell P T W)))} {ids : List TaskId}
+      → IsSound next slots ids undropped
       → (key : ℕ) (e : Numbered (Cell P T W)) (c : Cell P T W) → get_or slots key None ≡ Some e → is_held e.cell.state ≡ true
       → is_scheduled c.state ≡ false → (is_idle c.state || is_held c.state) ≡ false → Settled c
-      → IsSound next (set slots key (Some (record { number = e.number; cell = c }))) ids capacity (undropped - 1)
+      → IsSound next (set slots key (Some (record { number = e.number; cell = c }))) ids (undropped - 1)
   ended_sound {undropped = undropped} {ids = ids} sound key e c there held unqueued unqueueable settled =
       let facts = held_state e.cell.state held in
       let one = counted_one sound key e there facts.1 in
-      let room = sound.room in
-      put_sound sound key e c there ids _ (undropped - 1) (omega arith) (omega arith) settled sound.placed
+      put_sound sound key e c there ids (undropped - 1) (omega arith) settled sound.placed
       (law_at sound key e there ∙ ap (λ b. cond b 1 0) (facts.0 ∙ sym unqueued))
       (λ q far. refl)
       (arith_end undropped (length ids) one facts.1 unqueueable)
 
-  pub ready_sound : {next capacity undropped : ℕ} {slots : List (Option (Numbered (Cell P T W)))} {ids : List TaskId}
-      → IsSound next slots ids capacity undropped
+  pub ready_sound : {next undropped : ℕ} {slots : List (Option (Numbered (Cell P T W)))} {ids : List TaskId}
+      → IsSound next slots ids undropped
       → (key : ℕ) (e : Numbered (Cell P T W)) (t : T) → get_or slots key None ≡ Some e → is_held e.cell.state ≡ true → e.cell.has_handle ≡ true
-      → IsSound next (set slots key (Some (record { number = e.number; cell = readied e.cell t }))) ids capacity (undropped - 1)
+      → IsSound next (set slots key (Some (record { number = e.number; cell = readied e.cell t }))) ids (undropped - 1)
   ready_sound sound key e t there held handle =
       let after = readied_state e.cell.cancelled (readied e.cell t).state t refl in
       ended_sound sound key e (readied e.cell t) there held after.0 after.1 (λ dropped. (refl, handle))
 
-  pub leave_sound : {next capacity undropped : ℕ} {slots : List (Option (Numbered (Cell P T W)))} {ids : List TaskId}
-      → IsSound next slots ids capacity undropped
+  pub leave_sound : {next undropped : ℕ} {slots : List (Option (Numbered (Cell P T W)))} {ids : List TaskId}
+      → IsSound next slots ids undropped
       → (key : ℕ) (e : Numbered (Cell P T W)) → get_or slots key None ≡ Some e → is_held e.cell.state ≡ true
       → (new : List (Option (Numbered (Cell P T W)))) → Changes slots new key None
-      → IsSound next new ids capacity (undropped - 1)
+      → IsSound next new ids (undropped - 1)
   leave_sound {undropped = undropped} sound key e there held new changes =
       let facts = held_state e.cell.state held in
       remove_sound sound key e there facts.0 new changes (undropped - 1) (ap (λ b. (undropped - 1) + cond b 1 0) facts.1 ∙ counted_one sound key e there facts.1)
@@ -78,18 +77,18 @@ module _ {P T W : Type 0} where
   pub answer_some : (t : T) (c : Cell P T W) {b : Bool} → is_held c.state ≡ true → c.has_handle ≡ b → ready_answer t (Some c) ≡ record { awaiter = wakeup_of c.awaiter; unwanted = cond (b && not c.cancelled) None (Some t) }
   answer_some t c held handle = rw (held, handle) refl
 
-  pub await_sound : {next capacity undropped : ℕ} {slots : List (Option (Numbered (Cell P T W)))} {ids : List TaskId}
-      → IsSound next slots ids capacity undropped
+  pub await_sound : {next undropped : ℕ} {slots : List (Option (Numbered (Cell P T W)))} {ids : List TaskId}
+      → IsSound next slots ids undropped
       → (id : TaskId) (e : Numbered (Cell P T W)) (w : W) → get_or slots id.slot None ≡ Some e → is_undropped e.cell.state ≡ true
-      → IsSound next (set slots id.slot (Some (record { number = e.number; cell = awaited e.cell w }))) ids capacity undropped
+      → IsSound next (set slots id.slot (Some (record { number = e.number; cell = awaited e.cell w }))) ids undropped
   await_sound sound id e w there undropped =
       kept_sound sound id e (awaited e.cell w) there refl refl (λ dropped. absurd (cc (undropped, dropped)))
 
-  pub end_handle_sound : {next capacity undropped : ℕ} {slots : List (Option (Numbered (Cell P T W)))} {ids : List TaskId}
-      → IsSound next slots ids capacity undropped
+  pub end_handle_sound : {next undropped : ℕ} {slots : List (Option (Numbered (Cell P T W)))} {ids : List TaskId}
+      → IsSound next slots ids undropped
       → (key : ℕ) (e : Numbered (Cell P T W)) → get_or slots key None ≡ Some e → is_undropped e.cell.state ≡ false
       → (new : List (Option (Numbered (Cell P T W)))) → Changes slots new key None
-      → IsSound next new ids capacity undropped
+      → IsSound next new ids undropped
   end_handle_sound {undropped = undropped} sound key e there dropped new changes =
       let facts = ended_state e.cell.state dropped in
       remove_sound sound key e there facts.0 new changes undropped (ap (λ b. undropped + cond b 1 0) facts.1 ∙ add-zero undropped)
@@ -108,8 +107,8 @@ module _ {P T W : Type 0} where
   pub poll_some : (w : W) (c : Cell P T W) {b : Bool} → c.has_handle ≡ true → is_undropped c.state ≡ b → poll_answer w (Some c) ≡ cond b (Pending c.awaiter) (ended_answer w (output_of c.state))
   poll_some w c handle undropped = rw (handle, undropped) refl
 
-  pub set_table : {closed : Bool} {next capacity undropped : ℕ} {slots : List (Option (Numbered (Cell P T W)))} {ids : List TaskId}
-      → IsSound next slots ids capacity undropped
+  pub set_table : {closed : Bool} {next undropped : ℕ} {slots : List (Option (Numbered (Cell P T W)))} {ids : List TaskId}
+      → IsSound next slots ids undropped
       → (q : QueueState) (id : TaskId) (e : Numbered (Cell P T W)) (c : Cell P T W) → get_or slots id.slot None ≡ Some e → e.number ≡ id.number
       → table_of next (set slots id.slot (Some (record { number = e.number; cell = c }))) q closed ≡ with_cell (table_of next slots q closed) id c
   set_table {closed} {next} {slots = slots} sound q id e c there number = table_set next slots q id e c (numbers_of q.lists.global) sound.distinct there number refl

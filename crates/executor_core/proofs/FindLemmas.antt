@@ -34,8 +34,8 @@ module _ {P T W : Type 0} where
   in_slot_none slot (Some s) h = ap (λ b. cond b (Some s.cell) None) (ne_eqb s.slot slot (h s refl))
 
   -- a slot's cell is the id's, if the number is the id's
-  pub cell_at_entry : {next capacity undropped : ℕ} {slots : List (Option (Numbered (Cell P T W)))} {ids : List TaskId}
-      → IsSound next slots ids capacity undropped
+  pub cell_at_entry : {next undropped : ℕ} {slots : List (Option (Numbered (Cell P T W)))} {ids : List TaskId}
+      → IsSound next slots ids undropped
       → (id : TaskId) (e : Numbered (Cell P T W)) → get_or slots id.slot None ≡ Some e → e.number ≡ id.number → cell_of slots id ≡ Some e.cell
   cell_at_entry {slots = slots} sound id e there number =
       ap (in_slot id.slot) (ap (map.get (cells_of slots)) (sym number) ∙ sees_get slots sound.distinct id.slot e there)
@@ -52,8 +52,8 @@ module _ {P T W : Type 0} where
       absurd (cc (yes, h)))
 
   -- the id's cell is what its slot has for its number
-  pub cell_at_is : {next capacity undropped : ℕ} {slots : List (Option (Numbered (Cell P T W)))} {ids : List TaskId}
-      → IsSound next slots ids capacity undropped → (id : TaskId) → cell_of slots id ≡ cell_in id.number (get_or slots id.slot None)
+  pub cell_at_is : {next undropped : ℕ} {slots : List (Option (Numbered (Cell P T W)))} {ids : List TaskId}
+      → IsSound next slots ids undropped → (id : TaskId) → cell_of slots id ≡ cell_in id.number (get_or slots id.slot None)
   cell_at_is {slots = slots} sound id = by_slot (get_or slots id.slot None) refl
     where
       by_slot : (o : Option (Numbered (Cell P T W))) → get_or slots id.slot None ≡ o → cell_of slots id ≡ cell_in id.number o
@@ -64,14 +64,14 @@ module _ {P T W : Type 0} where
       ]
 
   -- what was read in the id's slot tells its cell
-  pub cell_at_read : {closed : Bool} {next capacity undropped : ℕ} {slots : List (Option (Numbered (Cell P T W)))} {ids : List TaskId} {table : Table P T W}
-      → IsSound next slots ids capacity undropped → (q : QueueState) → table_of next slots q closed ≡ table
+  pub cell_at_read : {closed : Bool} {next undropped : ℕ} {slots : List (Option (Numbered (Cell P T W)))} {ids : List TaskId} {table : Table P T W}
+      → IsSound next slots ids undropped → (q : QueueState) → table_of next slots q closed ≡ table
       → (id : TaskId) {read : Option (Numbered (Cell P T W))} → read ≡ get_or slots id.slot None → cell_in id.number read ≡ cell_at table id
   cell_at_read sound q seen_is id is = ap (cell_in id.number) is ∙ sym (cell_at_is sound id) ∙ ap (λ s. cell_at s id) seen_is
 
   -- what a test finds at the id, it finds in the slot
-  pub test_at : {closed : Bool} {next capacity undropped : ℕ} {slots : List (Option (Numbered (Cell P T W)))} {ids : List TaskId} {table : Table P T W}
-      → IsSound next slots ids capacity undropped → (q : QueueState) → table_of next slots q closed ≡ table
+  pub test_at : {closed : Bool} {next undropped : ℕ} {slots : List (Option (Numbered (Cell P T W)))} {ids : List TaskId} {table : Table P T W}
+      → IsSound next slots ids undropped → (q : QueueState) → table_of next slots q closed ≡ table
       → (F : Option (Cell P T W) → Bool) (id : TaskId) {b : Bool} → b ≡ F (cell_at table id) → F (cell_in id.number (get_or slots id.slot None)) ≡ b
   test_at sound q seen_is F id is = sym (is ∙ ap (λ s. F (cell_at s id)) (sym seen_is) ∙ ap F (cell_at_is sound id))
 
@@ -79,17 +79,18 @@ module _ {P T W : Type 0} where
   pub record PassesAt (F : Option (Cell P T W) → Bool) (slots : List (Option (Numbered (Cell P T W)))) (id : TaskId) : Type 0 where
     pub entry : Numbered (Cell P T W)
     pub there : get_or slots id.slot None ≡ Some entry
+    pub number : entry.number ≡ id.number
     pub passes : F (Some entry.cell) ≡ true
 
-  pub passes_at : {closed : Bool} {next capacity undropped : ℕ} {slots : List (Option (Numbered (Cell P T W)))} {ids : List TaskId} {table : Table P T W}
-      → IsSound next slots ids capacity undropped → (q : QueueState) → table_of next slots q closed ≡ table
+  pub passes_at : {closed : Bool} {next undropped : ℕ} {slots : List (Option (Numbered (Cell P T W)))} {ids : List TaskId} {table : Table P T W}
+      → IsSound next slots ids undropped → (q : QueueState) → table_of next slots q closed ≡ table
       → (F : Option (Cell P T W) → Bool) → F None ≡ false → (id : TaskId) {b : Bool} → b ≡ F (cell_at table id) → b ≡ true → PassesAt F slots id
   passes_at {slots = slots} sound q seen_is F none id {b} is passed = by_slot (get_or slots id.slot None) refl (test_at sound q seen_is F id is ∙ passed)
     where
       by_slot : (o : Option (Numbered (Cell P T W))) → get_or slots id.slot None ≡ o → F (cell_in id.number o) ≡ true → PassesAt F slots id
       by_slot None there h = absurd (cc)
       by_slot (Some e) there h = elim (cases_Bool (e.number == id.number)) [
-        | inl same ↦ record { entry = e; there = there; passes = ap (λ b. F (cond b (Some e.cell) None)) (sym same) ∙ h }
+        | inl same ↦ record { entry = e; there = there; number = eqb-true e.number id.number same; passes = ap (λ b. F (cond b (Some e.cell) None)) (sym same) ∙ h }
         | inr far ↦ absurd (cc)
       ]
 

@@ -1,14 +1,11 @@
 -- All that stands in the runners' queues goes to the end of another queue.
-use Rattle.std.proofs.Common.{◌≡◌, ℕ, zero, suc, ◌+◌, ◌<◌, ◌≤◌, List, [], ◌∷◌, ◌++◌, map, length, take, drop, set, Option, Some, None, refl, sym, ap, subst, ◌∙◌, length-append, append_assoc, append-nil, arith}
-use Rattle.std.proofs.lemmas.List.{map-set, length-map, length-set, map-append}
-use Rattle.std.proofs.lemmas.List.Concat.{flat_map-append}
-use Rattle.std.proofs.lemmas.Option.{slice_get-map, slice_get_read}
-use Rattle.std.proofs.Math.Seq.{take-length}
+use Rattle.std.proofs.Common.{◌≡◌, ℕ, zero, suc, ◌+◌, ◌≤◌, List, [], ◌∷◌, ◌++◌, map, length, set, Some, refl, sym, ap, subst, ◌∙◌, append_assoc, append-nil, arith}
+use Rattle.std.proofs.lemmas.List.{map-set}
+use Rattle.std.proofs.lemmas.Option.{slice_get-map}
 use Rattle.std.specs.Prelude.{option_map, slice_get}
 use Rattle.std.specs.List.Sorted.{IsPermutation}
 use Rattle.std.proofs.lemmas.List.Sorted.{IsPermutation-append_comm}
 use Rattle.executor_core.specs.Queues.{RunnerQueue, QueueLists, all_entries, emptied, local_entries, gathered, map_local}
-use Rattle.executor_core.specs.Queues.State.{QueueState, with_lists}
 use Rattle.executor_core.specs.Queues.View.{local_of, state_of, runners_of, IsQueues}
 use Rattle.executor_core.specs.Ring.{IdRing}
 use Rattle.executor_core.specs.declared.queue.queues.LocalQueue.{LocalQueue}
@@ -67,22 +64,14 @@ module _ {X : Type 0} where
   entries_below-next (suc n) (p ∷ rest) q there =
       ap (λ l. p.entries ++ l) (entries_below-next n rest q there) ∙ sym (append_assoc p.entries (entries_below n rest) q.entries)
 
-  -- no more was moved than stood there
-  few_moved : (n : ℕ) (locals : List (RunnerQueue X)) → length (entries_below n locals) ≤ length (local_entries locals)
-  few_moved n [] = omega arith
-  few_moved zero (q ∷ rest) = omega arith
-  few_moved (suc n) (q ∷ rest) =
-      let inner = few_moved n rest in
-      let one = length-append q.entries (entries_below n rest) in
-      let two = length-append q.entries (local_entries rest) in
-      omega arith
-
--- the ring with these ids
-abbrev pub with_ids : IdRing → List TaskId → IdRing
-with_ids ring ids = record ring { ids = ids }
-
-pub no_move : (ring : IdRing) → with_ids ring (ring.ids ++ []) ≡ ring
-no_move ring = ap (with_ids ring) (append-nil ring.ids)
+module _ {X : Type 0} where
+  -- what was moved, and what was not
+  pub entries_parts : (n : ℕ) (locals : List (RunnerQueue X)) → (rest : List X) × (local_entries locals ≡ entries_below n locals ++ rest)
+  entries_parts n [] = ([], refl)
+  entries_parts zero (q ∷ rest) = (local_entries (q ∷ rest), refl)
+  entries_parts (suc n) (q ∷ rest) =
+      let later = entries_parts n rest in
+      (later.0, ap (λ l. q.entries ++ l) later.1 ∙ sym (append_assoc q.entries (entries_below n rest) later.0))
 
 -- one more queue is moved
 module _ (n : ℕ) (first : List (RunnerQueue TaskId)) (locals : List LocalQueue) (l : LocalQueue) (moved : map local_of locals ≡ emptied_below n first) (there : slice_get locals n ≡ Some l) where
@@ -93,38 +82,17 @@ module _ (n : ℕ) (first : List (RunnerQueue TaskId)) (locals : List LocalQueue
   pub next_entries : entries_below (n + 1) first ≡ entries_below n first ++ l.ring.ids
   next_entries = let next : n + 1 ≡ suc n = omega arith in ap (λ k. entries_below k first) next ∙ entries_below-next n first (local_of l) next_queue
 
-  pub next_room : {count : ℕ} (target : IdRing) {now : IdRing} → count ≡ length l.ring.ids → length target.ids + length (local_entries first) ≤ target.capacity
-      → now ≡ record target { ids = target.ids ++ entries_below n first } → length now.ids + count ≤ now.capacity
-  next_room target {now} count room same =
-      let few = few_moved (n + 1) first in
-      let more = ap length next_entries ∙ length-append (entries_below n first) l.ring.ids in
-      let long : length now.ids ≡ length target.ids + length (entries_below n first) = ap (λ r. length r.ids) same ∙ length-append target.ids (entries_below n first) in
-      let wide : now.capacity ≡ target.capacity = ap (λ r. r.capacity) same in
-      omega arith
-
-  pub next_locals : {ring : IdRing} {count : ℕ} → count ≡ length l.ring.ids → ring ≡ record l.ring { ids = drop count l.ring.ids } → map local_of (set locals n (with_ring l ring)) ≡ emptied_below (n + 1) first
-  next_locals {ring} count is =
+  pub next_locals : {ring : IdRing} → ring ≡ record l.ring { ids = [] } → map local_of (set locals n (with_ring l ring)) ≡ emptied_below (n + 1) first
+  next_locals {ring} is =
       let next : suc n ≡ n + 1 = omega arith in
-      let holds : List TaskId → IdRing = λ ids. record l.ring { ids = ids } in
-      let empty : ring ≡ holds [] = is ∙ ap holds (ap (λ k. drop k l.ring.ids) count ∙ drop_all l.ring.ids) in
       map-set local_of locals n (with_ring l ring)
-      ∙ ap (λ r. set (map local_of locals) n (local_of (with_ring l r))) empty
+      ∙ ap (λ r. set (map local_of locals) n (local_of (with_ring l r))) is
       ∙ ap (λ k. set k n (emptied (local_of l))) moved
       ∙ emptied_below-next n first (local_of l) next_queue ∙ ap (λ k. emptied_below k first) next
-    where
-      drop_all : (xs : List TaskId) → drop (length xs) xs ≡ []
-      drop_all [] = refl
-      drop_all (x ∷ xs) = drop_all xs
 
-  pub next_target : (target : IdRing) {now later : IdRing} {count : ℕ} → count ≡ length l.ring.ids → now ≡ record target { ids = target.ids ++ entries_below n first }
-      → later ≡ record now { ids = now.ids ++ take count l.ring.ids } → later ≡ record target { ids = target.ids ++ entries_below (n + 1) first }
-  next_target target {now} {later} {count} counted same is =
-      let all : take count l.ring.ids ≡ l.ring.ids = ap (λ k. take k l.ring.ids) counted ∙ take-length l.ring.ids in
-      let moves : List TaskId → IdRing → IdRing = λ ids r. record r { ids = r.ids ++ ids } in
-      let holds : List TaskId → IdRing = λ ids. record target { ids = ids } in
-      is ∙ ap (moves (take count l.ring.ids)) same
-      ∙ ap (λ ids. holds ((target.ids ++ entries_below n first) ++ ids)) all
-      ∙ ap holds (append_assoc target.ids (entries_below n first) l.ring.ids ∙ ap (λ ids. target.ids ++ ids) (sym next_entries))
+  -- what stands behind the queue then
+  pub next_queued : (queue : List TaskId) → (queue ++ entries_below n first) ++ l.ring.ids ≡ queue ++ entries_below (n + 1) first
+  next_queued queue = append_assoc queue (entries_below n first) l.ring.ids ∙ ap (λ ids. queue ++ ids) (sym next_entries)
 
 -- the queues after a close
 pub gathered-permutes : (q : QueueLists TaskId) → IsPermutation (all_entries q) (all_entries (gathered q))
@@ -144,6 +112,6 @@ runners_emptied [] = refl
 runners_emptied (l ∷ rest) = ap (λ k. l.runner ∷ k) (runners_emptied rest)
 
 -- the runners stand where they stood
-pub gathered_sound : (g h : IdRing) (items others : List LocalQueue) (next free capacity : ℕ) → map local_of others ≡ map emptied (map local_of items) → IsQueues (state_of g items next free) capacity → IsQueues (state_of h others next free) capacity
+pub gathered_sound : (g h : List TaskId) (items others : List LocalQueue) (next free capacity : ℕ) → map local_of others ≡ map emptied (map local_of items) → IsQueues (state_of g items next free) capacity → IsQueues (state_of h others next free) capacity
 gathered_sound g h items others next free capacity is sound =
     sound_same g h items others next free capacity (ap runners_of is ∙ runners_emptied (map local_of items)) sound

@@ -7,12 +7,14 @@ pub mod EndPendingLemmas
 pub mod EndReadyLemmas
 pub mod FindLemmas
 pub mod GatherLemmas
+pub mod LinkLemmas
 pub mod ListLemmas
 pub mod OrderLemmas
 pub mod QueueLemmas
 pub mod QueueListLemmas
 pub mod QueuePlaceLemmas
 pub mod QueueSearchLemmas
+pub mod QueueSlotLemmas
 pub mod QueueStateLemmas
 pub mod RemoveLemmas
 pub mod RisingLemmas

@@ -9,8 +9,8 @@ use Rattle.executor_core.specs.declared.task.id.TaskId.{TaskId}
 
 module _ {P T W : Type 0} where
   -- the ids in another order
-  pub sound_permuted : {next capacity undropped : ℕ} {slots : List (Option (Numbered (Cell P T W)))} {ids later : List TaskId}
-      → IsSound next slots ids capacity undropped → IsPermutation ids later → IsSound next slots later capacity undropped
+  pub sound_permuted : {next undropped : ℕ} {slots : List (Option (Numbered (Cell P T W)))} {ids later : List TaskId}
+      → IsSound next slots ids undropped → IsPermutation ids later → IsSound next slots later undropped
   sound_permuted {slots = slots} {ids = ids} {later = later} sound permuted =
       let counted = sound.counted in
       let same = length_permutation ids later permuted in
@@ -21,6 +21,5 @@ module _ {P T W : Type 0} where
         law = λ n. sum_by-IsPermutation (λ k. cond (k == n) 1 0) (numbers_of ids) (numbers_of later) (IsPermutation-map (λ id. id.number) ids later permuted) ∙ sound.law n;
         settled = sound.settled;
         counted = omega arith;
-        room = sound.room;
         numbered = sound.numbered;
       }

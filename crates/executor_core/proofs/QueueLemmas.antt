@@ -487,6 +487,13 @@ module _ {X : Type 0} where
   pub unregistered-permutes : (k : ℕ) (q : QueueLists X) → IsPermutation (all_entries q) (all_entries (unregistered k q))
   unregistered-permutes k q = unregistered_at-permutes (position_of k q.locals) q
 
+  unregistered_at-global : (o : Option ℕ) (q : QueueLists X) → (unregistered_at o q).global ≡ q.global ++ local_entries_at o q.locals
+  unregistered_at-global None q = sym (append-nil q.global)
+  unregistered_at-global (Some r) q = refl
+
+  pub unregistered-global : (k : ℕ) (q : QueueLists X) → (unregistered k q).global ≡ q.global ++ entries_of k q.locals
+  unregistered-global k q = unregistered_at-global (position_of k q.locals) q
+
   pub registered-entries : (k capacity : ℕ) (q : QueueLists X) → all_entries (registered k capacity q) ≡ all_entries q
   registered-entries k capacity q =
       ap (λ es. es ++ q.global) (flat_map-append (λ (l : RunnerQueue X). l.entries) q.locals (record { runner = k; entries = []; capacity = capacity } ∷ []) ∙ append-nil (flat_map (λ (l : RunnerQueue X). l.entries) q.locals))

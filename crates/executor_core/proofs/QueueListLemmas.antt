@@ -1,4 +1,4 @@
--- Rings from which entries move to another one, from the front to the end.
+-- Lists from which entries move to another one, from the front to the end.
 use Rattle.std.proofs.Common.{◌≡◌, ℕ, zero, suc, ◌+◌, List, [], ◌∷◌, ◌++◌, take, drop, Some, refl, sym, ap, ◌∙◌, add-one, append_assoc}
 use Rattle.std.specs.Prelude.{slice_get}
 use Rattle.executor_core.specs.Ring.{IdRing}
@@ -17,10 +17,10 @@ module _ {X : Type 0} where
   drop_front (y ∷ ys) zero = refl
   drop_front (y ∷ ys) (suc i) = drop_front ys i
 
-  drop_next : (xs : List X) (i : ℕ) → drop 1 (drop i xs) ≡ drop (i + 1) xs
+  pub drop_next : (xs : List X) (i : ℕ) → drop 1 (drop i xs) ≡ drop (i + 1) xs
   drop_next xs i = rw add-one (drop_front xs i)
 
-  take_next : (xs ys : List X) (i : ℕ) (x : X) → slice_get (drop i xs) 0 ≡ Some x → (ys ++ take i xs) ++ x ∷ [] ≡ ys ++ take (i + 1) xs
+  pub take_next : (xs ys : List X) (i : ℕ) (x : X) → slice_get (drop i xs) 0 ≡ Some x → (ys ++ take i xs) ++ x ∷ [] ≡ ys ++ take (i + 1) xs
   take_next xs ys i x is = append_assoc ys (take i xs) (x ∷ []) ∙ ap (λ l. ys ++ l) (rw add-one (sym (take_front xs i x is)))
 
 -- one entry more has moved: what the source is then, and the target
@@ -28,6 +28,6 @@ pub source_moved : (first before after : IdRing) (i : ℕ) → before ≡ record
 source_moved first before after i was popped =
     popped ∙ ap (λ (r : IdRing). let x : IdRing = record r { ids = drop 1 r.ids } in x) was ∙ ap (λ (l : List TaskId). let x : IdRing = record first { ids = l } in x) (drop_next first.ids i)
 
-pub target_moved : (source left first before after : IdRing) (i : ℕ) (id : TaskId) → left ≡ record source { ids = drop i source.ids } → slice_get left.ids 0 ≡ Some id → before ≡ record first { ids = first.ids ++ take i source.ids } → after ≡ record before { ids = before.ids ++ id ∷ [] } → after ≡ record first { ids = first.ids ++ take (i + 1) source.ids }
+pub target_moved : (source left : List TaskId) (first before after : IdRing) (i : ℕ) (id : TaskId) → left ≡ drop i source → slice_get left 0 ≡ Some id → before ≡ record first { ids = first.ids ++ take i source } → after ≡ record before { ids = before.ids ++ id ∷ [] } → after ≡ record first { ids = first.ids ++ take (i + 1) source }
 target_moved source left first before after i id rest front was pushed =
-    pushed ∙ ap (λ (r : IdRing). let x : IdRing = record r { ids = r.ids ++ id ∷ [] } in x) was ∙ ap (λ (l : List TaskId). let x : IdRing = record first { ids = l } in x) (take_next source.ids first.ids i id (sym (ap (λ r. slice_get r.ids 0) rest) ∙ front))
+    pushed ∙ ap (λ (r : IdRing). let x : IdRing = record r { ids = r.ids ++ id ∷ [] } in x) was ∙ ap (λ (l : List TaskId). let x : IdRing = record first { ids = l } in x) (take_next source first.ids i id (sym (ap (λ l. slice_get l 0) rest) ∙ front))

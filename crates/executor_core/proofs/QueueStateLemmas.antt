@@ -1,13 +1,13 @@
 -- What the fields of `Queues` are seen as once a ring in them has changed, and that they fit together then.
 use Rattle.std.proofs.Common.{◌≡◌, ◌≢◌, ℕ, zero, suc, ◌+◌, ◌-◌, ◌<◌, ◌≤◌, true, false, List, [], ◌∷◌, ◌++◌, map, length, get_or, take, drop, set, Option, Some, None, refl, sym, ap, ◌∙◌, subst, arith}
 use Rattle.std.proofs.lemmas.Bool.{eqb-true, false≢true}
-use Rattle.std.proofs.lemmas.List.{map-set, map-append, length-map, length-set, length-append}
-use Rattle.std.proofs.Math.Seq.{take-length, take-append_seam}
+use Rattle.std.proofs.lemmas.List.{map-set, map-append, length-map, length-set}
+use Rattle.std.proofs.Math.Seq.{take-append_seam}
 use Rattle.std.proofs.lemmas.List.Edits.{length-remove}
 use Rattle.std.proofs.lemmas.Option.{slice_get-map, slice_get_read}
 use Rattle.std.specs.Prelude.{option_map, is_some, unwrap_or, ◌==◌, slice_get, slice_set}
-use Rattle.std.specs.List.{remove, flat_map}
-use Rattle.executor_core.specs.Queues.{RunnerQueue, QueueLists, entries_or, capacity_or, entries_at, capacity_at, set_entries, with_entries, stolen, stolen_locals, stolen_between, global_stolen, position_of, all_entries, unregistered_at}
+use Rattle.std.specs.List.{remove}
+use Rattle.executor_core.specs.Queues.{RunnerQueue, QueueLists, entries_or, capacity_or, entries_at, capacity_at, set_entries, with_entries, stolen, stolen_locals, stolen_between, global_stolen, position_of, unregistered_at}
 use Rattle.executor_core.specs.Queues.State.{QueueState, with_lists}
 use Rattle.executor_core.specs.Queues.View.{local_of, state_of, runners_of, AllDistinct, IsQueues}
 use Rattle.executor_core.specs.Ring.{IdRing}
@@ -18,7 +18,7 @@ use Rattle.executor_core.proofs.QueueLemmas.{remove-map, queues_same}
 use Rattle.executor_core.proofs.QueuePlaceLemmas.{distinct-push, distinct-remove, none_registered, position_of_place}
 
 -- the queue that is read at a position
-pub read_at : (s : QueueState) (g : IdRing) (items : List LocalQueue) (next free r : ℕ) (l : LocalQueue) → state_of g items next free ≡ s → r < length s.lists.locals → l ≡ get_or items r l → slice_get items r ≡ Some l
+pub read_at : (s : QueueState) (g : List TaskId) (items : List LocalQueue) (next free r : ℕ) (l : LocalQueue) → state_of g items next free ≡ s → r < length s.lists.locals → l ≡ get_or items r l → slice_get items r ≡ Some l
 read_at s g items next free r l view within is =
     slice_get_read items (length items) r l refl (subst (λ n. r < n) (ap (λ (t : QueueState). length t.lists.locals) (sym view) ∙ length-map items local_of) within) is
 
@@ -32,11 +32,11 @@ pub capacity_seen : (items : List LocalQueue) (r : ℕ) (l : LocalQueue) → sli
 capacity_seen items r l is = ap capacity_or (seen items r l is)
 
 -- how much has room in the queue that is read
-pub capacity_read : (s : QueueState) (g : IdRing) (items : List LocalQueue) (next free r : ℕ) (l : LocalQueue) → state_of g items next free ≡ s → r < length s.lists.locals → l ≡ get_or items r l → capacity_at r s.lists.locals ≡ l.ring.capacity
+pub capacity_read : (s : QueueState) (g : List TaskId) (items : List LocalQueue) (next free r : ℕ) (l : LocalQueue) → state_of g items next free ≡ s → r < length s.lists.locals → l ≡ get_or items r l → capacity_at r s.lists.locals ≡ l.ring.capacity
 capacity_read s g items next free r l view within is =
     ap (λ (t : QueueState). capacity_at r t.lists.locals) (sym view) ∙ capacity_seen items r l (read_at s g items next free r l view within is)
 
-pub count_seen : (s : QueueState) (g : IdRing) (items : List LocalQueue) (next free n : ℕ) → state_of g items next free ≡ s → n ≡ length items → n ≡ length s.lists.locals
+pub count_seen : (s : QueueState) (g : List TaskId) (items : List LocalQueue) (next free n : ℕ) → state_of g items next free ≡ s → n ≡ length items → n ≡ length s.lists.locals
 count_seen s g items next free n view is = is ∙ sym (length-map items local_of) ∙ ap (λ (t : QueueState). length t.lists.locals) view
 
 -- the queue with another ring
@@ -54,7 +54,7 @@ runners_written (x ∷ xs) zero l ring is = let same : x ≡ l = cc in ap (λ (y
 runners_written (x ∷ xs) (suc r) l ring is = ap (λ n. x.runner ∷ n) (runners_written xs r l ring is)
 
 -- the runners stand where they stood
-pub sound_same : (g h : IdRing) (items others : List LocalQueue) (next free capacity : ℕ) → runners_of (map local_of others) ≡ runners_of (map local_of items) → IsQueues (state_of g items next free) capacity → IsQueues (state_of h others next free) capacity
+pub sound_same : (g h : List TaskId) (items others : List LocalQueue) (next free capacity : ℕ) → runners_of (map local_of others) ≡ runners_of (map local_of items) → IsQueues (state_of g items next free) capacity → IsQueues (state_of h others next free) capacity
 sound_same g h items others next free capacity runners sound =
     let long : length (map local_of others) ≡ length (map local_of items) = sym (length-map (map local_of others) (λ (q : RunnerQueue TaskId). q.runner)) ∙ ap length runners ∙ length-map (map local_of items) (λ (q : RunnerQueue TaskId). q.runner) in
     record {
@@ -62,41 +62,41 @@ sound_same g h items others next free capacity runners sound =
       reserved = subst (λ n. free + n ≤ capacity) (sym long) sound.reserved;
     }
 
-pub sound_written : (g h : IdRing) (items : List LocalQueue) (next free capacity r : ℕ) (l : LocalQueue) (ring : IdRing) → IsQueues (state_of g items next free) capacity → slice_get items r ≡ Some l → IsQueues (state_of h (slice_set items r (with_ring l ring)) next free) capacity
+pub sound_written : (g h : List TaskId) (items : List LocalQueue) (next free capacity r : ℕ) (l : LocalQueue) (ring : IdRing) → IsQueues (state_of g items next free) capacity → slice_get items r ≡ Some l → IsQueues (state_of h (slice_set items r (with_ring l ring)) next free) capacity
 sound_written g h items next free capacity r l ring sound is = sound_same g h items (slice_set items r (with_ring l ring)) next free capacity (runners_written items r l ring is) sound
 
-state_same : (a b : QueueLists TaskId) (c d next free : ℕ) → a ≡ b → c ≡ d → (let s : QueueState = record { lists = a; room = c; next_runner = next; free_places = free } in s) ≡ record { lists = b; room = d; next_runner = next; free_places = free }
-state_same a b c d next free lists room i = record { lists = lists i; room = room i; next_runner = next; free_places = free }
+state_same : (a b : QueueLists TaskId) (next free : ℕ) → a ≡ b → (let s : QueueState = record { lists = a; next_runner = next; free_places = free } in s) ≡ record { lists = b; next_runner = next; free_places = free }
+state_same a b next free lists i = record { lists = lists i; next_runner = next; free_places = free }
 
-pub state_written : (g h : IdRing) (items : List LocalQueue) (next free r : ℕ) (l : LocalQueue) (ring : IdRing) → slice_get items r ≡ Some l → ring.capacity ≡ l.ring.capacity → h.capacity ≡ g.capacity → state_of h (slice_set items r (with_ring l ring)) next free ≡ with_lists (record { global = h.ids; locals = with_entries r ring.ids (map local_of items) }) (state_of g items next free)
-state_written g h items next free r l ring is same room = state_same _ _ _ _ next free (queues_same _ _ _ _ refl (written items r l ring is same)) room
+pub state_written : (g h : List TaskId) (items : List LocalQueue) (next free r : ℕ) (l : LocalQueue) (ring : IdRing) → slice_get items r ≡ Some l → ring.capacity ≡ l.ring.capacity → state_of h (slice_set items r (with_ring l ring)) next free ≡ with_lists (record { global = h; locals = with_entries r ring.ids (map local_of items) }) (state_of g items next free)
+state_written g h items next free r l ring is same = state_same _ _ next free (queues_same _ _ _ _ refl (written items r l ring is same))
 
 -- the front of the queue at r goes
-pub front_gone : (s : QueueState) (g : IdRing) (items : List LocalQueue) (next free r : ℕ) (l : LocalQueue) (ring : IdRing) → state_of g items next free ≡ s → slice_get items r ≡ Some l → ring ≡ record l.ring { ids = drop 1 l.ring.ids } → state_of g (slice_set items r (with_ring l ring)) next free ≡ with_lists (record s.lists { locals = with_entries r (drop 1 (entries_at r s.lists.locals)) s.lists.locals }) s
+pub front_gone : (s : QueueState) (g : List TaskId) (items : List LocalQueue) (next free r : ℕ) (l : LocalQueue) (ring : IdRing) → state_of g items next free ≡ s → slice_get items r ≡ Some l → ring ≡ record l.ring { ids = drop 1 l.ring.ids } → state_of g (slice_set items r (with_ring l ring)) next free ≡ with_lists (record s.lists { locals = with_entries r (drop 1 (entries_at r s.lists.locals)) s.lists.locals }) s
 front_gone s g items next free r l ring view is rest =
     let entries : ring.ids ≡ drop 1 (entries_at r (map local_of items)) = ap (λ (x : IdRing). x.ids) rest ∙ ap (drop 1) (sym (entries_seen items r l is)) in
-    let after : state_of g (slice_set items r (with_ring l ring)) next free ≡ with_lists (record { global = g.ids; locals = with_entries r (drop 1 (entries_at r (map local_of items))) (map local_of items) }) (state_of g items next free) =
-    state_written g g items next free r l ring is (ap (λ (x : IdRing). x.capacity) rest) refl ∙ state_same _ _ _ _ next free (queues_same _ _ _ _ refl (ap (λ es. with_entries r es (map local_of items)) entries)) refl in
+    let after : state_of g (slice_set items r (with_ring l ring)) next free ≡ with_lists (record { global = g; locals = with_entries r (drop 1 (entries_at r (map local_of items))) (map local_of items) }) (state_of g items next free) =
+    state_written g g items next free r l ring is (ap (λ (x : IdRing). x.capacity) rest) ∙ state_same _ _ next free (queues_same _ _ _ _ refl (ap (λ es. with_entries r es (map local_of items)) entries)) in
     subst (λ (t : QueueState). state_of g (slice_set items r (with_ring l ring)) next free ≡ with_lists (record t.lists { locals = with_entries r (drop 1 (entries_at r t.lists.locals)) t.lists.locals }) t) view after
 
 stolen_seen : (source : List TaskId) (items : List LocalQueue) (r : ℕ) (l : LocalQueue) → slice_get items r ≡ Some l → stolen source l.ring.ids l.ring.capacity ≡ stolen source (entries_at r (map local_of items)) (capacity_at r (map local_of items))
 stolen_seen source items r l is =
     ap (λ es. stolen source es l.ring.capacity) (sym (entries_seen items r l is)) ∙ ap (λ c. stolen source (entries_at r (map local_of items)) c) (sym (capacity_seen items r l is))
 
-pub count_stolen : (s : QueueState) (g : IdRing) (items : List LocalQueue) (next free r : ℕ) (l : LocalQueue) → state_of g items next free ≡ s → slice_get items r ≡ Some l → stolen g.ids l.ring.ids l.ring.capacity ≡ stolen s.lists.global (entries_at r s.lists.locals) (capacity_at r s.lists.locals)
+pub count_stolen : (s : QueueState) (g : List TaskId) (items : List LocalQueue) (next free r : ℕ) (l : LocalQueue) → state_of g items next free ≡ s → slice_get items r ≡ Some l → stolen g l.ring.ids l.ring.capacity ≡ stolen s.lists.global (entries_at r s.lists.locals) (capacity_at r s.lists.locals)
 count_stolen s g items next free r l view is =
-    stolen_seen g.ids items r l is ∙ ap (λ (t : QueueState). stolen t.lists.global (entries_at r t.lists.locals) (capacity_at r t.lists.locals)) view
+    stolen_seen g items r l is ∙ ap (λ (t : QueueState). stolen t.lists.global (entries_at r t.lists.locals) (capacity_at r t.lists.locals)) view
 
 -- half of the global queue goes to the one at r
-pub globally_stolen : (s : QueueState) (g h : IdRing) (items : List LocalQueue) (next free r count : ℕ) (l : LocalQueue) (ring : IdRing) → state_of g items next free ≡ s → slice_get items r ≡ Some l → count ≡ stolen g.ids l.ring.ids l.ring.capacity → h ≡ record g { ids = drop count g.ids } → ring ≡ record l.ring { ids = l.ring.ids ++ take count g.ids } → state_of h (slice_set items r (with_ring l ring)) next free ≡ with_lists (global_stolen r s.lists) s
+pub globally_stolen : (s : QueueState) (g h : List TaskId) (items : List LocalQueue) (next free r count : ℕ) (l : LocalQueue) (ring : IdRing) → state_of g items next free ≡ s → slice_get items r ≡ Some l → count ≡ stolen g l.ring.ids l.ring.capacity → h ≡ drop count g → ring ≡ record l.ring { ids = l.ring.ids ++ take count g } → state_of h (slice_set items r (with_ring l ring)) next free ≡ with_lists (global_stolen r s.lists) s
 globally_stolen s g h items next free r count l ring view is counted source target =
     let locals : List (RunnerQueue TaskId) = map local_of items in
-    let whole : count ≡ stolen g.ids (entries_at r locals) (capacity_at r locals) = counted ∙ stolen_seen g.ids items r l is in
-    let entries : ring.ids ≡ entries_at r locals ++ take count g.ids = ap (λ (x : IdRing). x.ids) target ∙ ap (λ es. es ++ take count g.ids) (sym (entries_seen items r l is)) in
-    let moved : ℕ → QueueLists TaskId = λ n. record { global = drop n g.ids; locals = with_entries r (entries_at r locals ++ take n g.ids) locals } in
-    let after : state_of h (slice_set items r (with_ring l ring)) next free ≡ with_lists (global_stolen r (record { global = g.ids; locals = locals })) (state_of g items next free) =
-    state_written g h items next free r l ring is (ap (λ (x : IdRing). x.capacity) target) (ap (λ (x : IdRing). x.capacity) source)
-    ∙ state_same _ _ _ _ next free (queues_same _ _ _ _ (ap (λ (x : IdRing). x.ids) source) (ap (λ es. with_entries r es locals) entries) ∙ ap moved whole) refl in
+    let whole : count ≡ stolen g (entries_at r locals) (capacity_at r locals) = counted ∙ stolen_seen g items r l is in
+    let entries : ring.ids ≡ entries_at r locals ++ take count g = ap (λ (x : IdRing). x.ids) target ∙ ap (λ es. es ++ take count g) (sym (entries_seen items r l is)) in
+    let moved : ℕ → QueueLists TaskId = λ n. record { global = drop n g; locals = with_entries r (entries_at r locals ++ take n g) locals } in
+    let after : state_of h (slice_set items r (with_ring l ring)) next free ≡ with_lists (global_stolen r (record { global = g; locals = locals })) (state_of g items next free) =
+    state_written g h items next free r l ring is (ap (λ (x : IdRing). x.capacity) target)
+    ∙ state_same _ _ next free (queues_same _ _ _ _ source (ap (λ es. with_entries r es locals) entries) ∙ ap moved whole) in
     subst (λ (t : QueueState). state_of h (slice_set items r (with_ring l ring)) next free ≡ with_lists (global_stolen r t.lists) t) view after
 
 -- where the runner's queue stands
@@ -104,7 +104,7 @@ hinted_at : (o : Option LocalQueue) (k : ℕ) → true ≡ unwrap_or (option_map
 hinted_at None k there = absurd (false≢true (sym there))
 hinted_at (Some l) k there = (l, refl, eqb-true l.runner k (sym there))
 
-pub hinted : (s : QueueState) (g : IdRing) (items : List LocalQueue) (next free capacity k hint : ℕ) → IsQueues (state_of g items next free) capacity → state_of g items next free ≡ s → true ≡ unwrap_or (option_map (λ (l : LocalQueue). l.runner == k) (slice_get items hint)) false → Some hint ≡ position_of k s.lists.locals
+pub hinted : (s : QueueState) (g : List TaskId) (items : List LocalQueue) (next free capacity k hint : ℕ) → IsQueues (state_of g items next free) capacity → state_of g items next free ≡ s → true ≡ unwrap_or (option_map (λ (l : LocalQueue). l.runner == k) (slice_get items hint)) false → Some hint ≡ position_of k s.lists.locals
 hinted s g items next free capacity k hint sound view there =
     let at = hinted_at (slice_get items hint) k there in
     sym (position_of_place k hint (map local_of items) (local_of at.0) sound.distinct (seen items hint at.0 at.1) at.2) ∙ ap (λ (t : QueueState). position_of k t.lists.locals) view
@@ -114,7 +114,7 @@ is_none None none = refl
 is_none (Some x) none = absurd (false≢true none)
 
 -- one queue more, in a free place
-pub sound_pushed : (s : QueueState) (g : IdRing) (items more : List LocalQueue) (next free capacity k : ℕ) (l : LocalQueue) (o : Option ℕ) → IsQueues (state_of g items next free) capacity → state_of g items next free ≡ s → more ≡ items ++ l ∷ [] → l.runner ≡ k → o ≡ position_of k s.lists.locals → false ≡ is_some o → 0 < free → IsQueues (state_of g more next (free - 1)) capacity
+pub sound_pushed : (s : QueueState) (g : List TaskId) (items more : List LocalQueue) (next free capacity k : ℕ) (l : LocalQueue) (o : Option ℕ) → IsQueues (state_of g items next free) capacity → state_of g items next free ≡ s → more ≡ items ++ l ∷ [] → l.runner ≡ k → o ≡ position_of k s.lists.locals → false ≡ is_some o → 0 < free → IsQueues (state_of g more next (free - 1)) capacity
 sound_pushed s g items more next free capacity k l o sound view pushed same found none free_place =
     let runners : runners_of (map local_of more) ≡ runners_of (map local_of items) ++ k ∷ [] =
     ap (λ is. runners_of (map local_of is)) pushed
@@ -130,7 +130,7 @@ sound_pushed s g items more next free capacity k l o sound view pushed same foun
     }
 
 -- the queue at r goes
-pub sound_removed : (s : QueueState) (g h : IdRing) (items less : List LocalQueue) (next free capacity r : ℕ) → IsQueues (state_of g items next free) capacity → state_of g items next free ≡ s → less ≡ remove items r → r < length s.lists.locals → IsQueues (state_of h less next free) capacity
+pub sound_removed : (s : QueueState) (g h : List TaskId) (items less : List LocalQueue) (next free capacity r : ℕ) → IsQueues (state_of g items next free) capacity → state_of g items next free ≡ s → less ≡ remove items r → r < length s.lists.locals → IsQueues (state_of h less next free) capacity
 sound_removed s g h items less next free capacity r sound view removed within =
     let runners : runners_of (map local_of less) ≡ remove (runners_of (map local_of items)) r =
     ap (λ is. runners_of (map local_of is)) removed
@@ -144,36 +144,17 @@ sound_removed s g h items less next free capacity r sound view removed within =
       reserved = omega arith;
     }
 
-local_within : (locals : List (RunnerQueue TaskId)) (r : ℕ) (q : RunnerQueue TaskId) → slice_get locals r ≡ Some q → length q.entries ≤ length (flat_map (λ (l : RunnerQueue TaskId). l.entries) locals)
-local_within [] r q is = absurd (cc)
-local_within (l ∷ rest) zero q is =
-    let same : length l.entries ≡ length q.entries = ap (λ (o : Option (RunnerQueue TaskId)). length (entries_or o)) is in
-    let whole = length-append l.entries (flat_map (λ (l : RunnerQueue TaskId). l.entries) rest) in
-    omega arith
-local_within (l ∷ rest) (suc r) q is =
-    let inner = local_within rest r q is in
-    let whole = length-append l.entries (flat_map (λ (l : RunnerQueue TaskId). l.entries) rest) in
-    omega arith
-
--- all that stands in the queue at r has room at the global end
-pub room_to_move : (s : QueueState) (g : IdRing) (items : List LocalQueue) (next free r count : ℕ) (l : LocalQueue) → state_of g items next free ≡ s → slice_get items r ≡ Some l → count ≡ length l.ring.ids → length (all_entries s.lists) ≤ s.room → length g.ids + count ≤ g.capacity
-room_to_move s g items next free r count l view is counted room =
-    let inner = local_within (map local_of items) r (local_of l) (seen items r l is) in
-    let whole = length-append (flat_map (λ (q : RunnerQueue TaskId). q.entries) (map local_of items)) g.ids in
-    let here : length (flat_map (λ (q : RunnerQueue TaskId). q.entries) (map local_of items) ++ g.ids) ≤ g.capacity = subst (λ (t : QueueState). length (all_entries t.lists) ≤ t.room) (sym view) room in
-    omega arith
-
--- and goes there
-pub all_moved : (s : QueueState) (g h : IdRing) (items less : List LocalQueue) (next free r count : ℕ) (l : LocalQueue) → state_of g items next free ≡ s → slice_get items r ≡ Some l → less ≡ remove items r → count ≡ length l.ring.ids → h ≡ record g { ids = g.ids ++ take count l.ring.ids } → state_of h less next free ≡ with_lists (unregistered_at (Some r) s.lists) s
-all_moved s g h items less next free r count l view is removed counted moved =
-    let entries : h.ids ≡ g.ids ++ entries_at r (map local_of items) =
-    ap (λ (x : IdRing). x.ids) moved ∙ ap (λ es. g.ids ++ es) (ap (λ n. take n l.ring.ids) counted ∙ take-length l.ring.ids ∙ sym (entries_seen items r l is)) in
+-- all that stands in the queue at r goes to the global end
+pub all_moved : (s : QueueState) (g h : List TaskId) (items less : List LocalQueue) (next free r : ℕ) (l : LocalQueue) → state_of g items next free ≡ s → slice_get items r ≡ Some l → less ≡ remove items r → h ≡ g ++ l.ring.ids → state_of h less next free ≡ with_lists (unregistered_at (Some r) s.lists) s
+all_moved s g h items less next free r l view is removed moved =
+    let entries : h ≡ g ++ entries_at r (map local_of items) =
+    moved ∙ ap (λ es. g ++ es) (sym (entries_seen items r l is)) in
     let locals : map local_of less ≡ remove (map local_of items) r = ap (map local_of) removed ∙ sym (remove-map local_of items r) in
-    let after : state_of h less next free ≡ with_lists (unregistered_at (Some r) (record { global = g.ids; locals = map local_of items })) (state_of g items next free) =
-    state_same _ _ _ _ next free (queues_same _ _ _ _ entries locals) (ap (λ (x : IdRing). x.capacity) moved) in
+    let after : state_of h less next free ≡ with_lists (unregistered_at (Some r) (record { global = g; locals = map local_of items })) (state_of g items next free) =
+    state_same _ _ next free (queues_same _ _ _ _ entries locals) in
     subst (λ (t : QueueState). state_of h less next free ≡ with_lists (unregistered_at (Some r) t.lists) t) view after
 
-pub count_moved : (s : QueueState) (g : IdRing) (items : List LocalQueue) (next free r count : ℕ) (l : LocalQueue) → state_of g items next free ≡ s → slice_get items r ≡ Some l → count ≡ length l.ring.ids → count ≡ length (entries_at r s.lists.locals)
+pub count_moved : (s : QueueState) (g : List TaskId) (items : List LocalQueue) (next free r count : ℕ) (l : LocalQueue) → state_of g items next free ≡ s → slice_get items r ≡ Some l → count ≡ length l.ring.ids → count ≡ length (entries_at r s.lists.locals)
 count_moved s g items next free r count l view is counted =
     counted ∙ ap length (sym (entries_seen items r l is)) ∙ ap (λ (t : QueueState). length (entries_at r t.lists.locals)) view
 
@@ -264,12 +245,12 @@ runners_stolen s r locals =
 pub cut_off : (n : ℕ) (xs ys zs : List LocalQueue) → length xs ≡ length ys → length ys ≡ n → take n (xs ++ zs) ≡ xs
 cut_off n xs ys zs same long = ap (λ m. take m (xs ++ zs)) (sym (same ∙ long)) ∙ take-append_seam xs zs
 
-pub sound_stolen : (g : IdRing) (items after whole : List LocalQueue) (next free capacity s r : ℕ) → whole ≡ after → map local_of after ≡ stolen_locals s r (map local_of items) → IsQueues (state_of g items next free) capacity → IsQueues (state_of g whole next free) capacity
+pub sound_stolen : (g : List TaskId) (items after whole : List LocalQueue) (next free capacity s r : ℕ) → whole ≡ after → map local_of after ≡ stolen_locals s r (map local_of items) → IsQueues (state_of g items next free) capacity → IsQueues (state_of g whole next free) capacity
 sound_stolen g items after whole next free capacity s r cut stolen_here sound =
     sound_same g g items whole next free capacity (ap (λ l. runners_of (map local_of l)) cut ∙ ap runners_of stolen_here ∙ runners_stolen s r (map local_of items)) sound
 
-pub state_stolen : (t : QueueState) (g : IdRing) (items after whole : List LocalQueue) (next free s r : ℕ) → state_of g items next free ≡ t → whole ≡ after → map local_of after ≡ stolen_locals s r (map local_of items) → state_of g whole next free ≡ with_lists (stolen_between s r t.lists) t
+pub state_stolen : (t : QueueState) (g : List TaskId) (items after whole : List LocalQueue) (next free s r : ℕ) → state_of g items next free ≡ t → whole ≡ after → map local_of after ≡ stolen_locals s r (map local_of items) → state_of g whole next free ≡ with_lists (stolen_between s r t.lists) t
 state_stolen t g items after whole next free s r view cut stolen_here =
-    let done : state_of g whole next free ≡ with_lists (stolen_between s r (record { global = g.ids; locals = map local_of items })) (state_of g items next free) =
-    state_same _ _ _ _ next free (queues_same _ _ _ _ refl (ap (map local_of) cut ∙ stolen_here)) refl in
+    let done : state_of g whole next free ≡ with_lists (stolen_between s r (record { global = g; locals = map local_of items })) (state_of g items next free) =
+    state_same _ _ next free (queues_same _ _ _ _ refl (ap (map local_of) cut ∙ stolen_here)) in
     subst (λ (u : QueueState). state_of g whole next free ≡ with_lists (stolen_between s r u.lists) u) view done

@@ -21,11 +21,12 @@ use Rattle.std.proofs.lemmas.Bool.{cases_eq}
 use Rattle.std.proofs.lemmas.List.Elements.{All-nil, All-cons, All-head, All-tail}
 use Rattle.std.proofs.lemmas.List.Sums.{sum_by-cons}
 use Rattle.std.specs.List.{All}
-use Rattle.executor_core.proofs.SlotLemmas.{same_option, remove_same, remove_other, Changes}
+use Rattle.executor_core.specs.Slots.{Changes}
+use Rattle.executor_core.proofs.SlotLemmas.{same_option, remove_same, remove_other}
 use Rattle.executor_core.proofs.CountLemmas.{recounted, at_least}
 use Rattle.executor_core.proofs.WriteLemmas.{law_at}
 
-no_times : (b : Bool) (n : ℕ) → cond b 1 0 + n ≡ 0 → (b ≡ false) × (n ≡ 0)
+pub no_times : (b : Bool) (n : ℕ) → cond b 1 0 + n ≡ 0 → (b ≡ false) × (n ≡ 0)
 no_times true n h = absurd (omega arith)
 no_times false n h = (refl, omega arith)
 
@@ -92,17 +93,16 @@ module _ {P T W : Type 0} where
       let placed : Placed m id = All-head (Placed m) id rest all in
       All-cons (Placed (map.remove m n)) id rest (placed.0, remove_other m n id.number far ∙ placed.1, placed.2) (placed_removed m n rest parts.1 (All-tail (Placed m) id rest all))
 
-  pub remove_sound : {next capacity undropped : ℕ} {slots : List (Option (Numbered (Cell P T W)))} {ids : List TaskId}
-      → IsSound next slots ids capacity undropped
+  pub remove_sound : {next undropped : ℕ} {slots : List (Option (Numbered (Cell P T W)))} {ids : List TaskId}
+      → IsSound next slots ids undropped
       → (key : ℕ) (e : Numbered (Cell P T W)) → get_or slots key None ≡ Some e → is_scheduled e.cell.state ≡ false
       → (new : List (Option (Numbered (Cell P T W)))) → Changes slots new key None
       → (left : ℕ) → left + cond (is_idle e.cell.state || is_held e.cell.state) 1 0 ≡ undropped
-      → IsSound next new ids capacity left
-  remove_sound {next} {capacity} {undropped} {slots} {ids} sound key e there quiet new changes left balance =
+      → IsSound next new ids left
+  remove_sound {next} {undropped} {slots} {ids} sound key e there quiet new changes left balance =
       let m = cells_of slots in
       let cells = cells_of-removed slots new key e sound.distinct there changes in
       let none : times e.number (numbers_of ids) ≡ 0 = law_at sound key e there ∙ ap (λ b. cond b 1 0) quiet in
-      let room = sound.room in
       let numbered = sound.numbered in
       let sums : count_by is_queueable new + cond (is_queueable (Some e)) 1 0 ≡ count_by is_queueable slots + 0 =
       ap (λ o. count_by is_queueable new + cond (is_queueable o) 1 0) (sym there) ∙ recounted (λ o. cond (is_queueable o) 1 0) refl slots new key changes.others ∙ ap (λ o. count_by is_queueable slots + cond (is_queueable o) 1 0) changes.changed in
@@ -113,7 +113,6 @@ module _ {P T W : Type 0} where
         law = subst (λ n. ScheduledOnce n (numbers_of ids)) (sym cells) (law_removed m (numbers_of ids) e.number sound.law none);
         settled = λ i d found. sound.settled i d (kept i d found);
         counted = less left undropped (length ids) (count_by is_queueable slots) (count_by is_queueable new) _ 0 balance sound.counted sums;
-        room = omega arith;
         numbered = omega arith;
       }
     where
@@ -123,8 +122,8 @@ module _ {P T W : Type 0} where
         | inr far ↦ sym (changes.others k far) ∙ found
       ]
 
-  pub remove_table : {closed : Bool} {next capacity undropped : ℕ} {slots : List (Option (Numbered (Cell P T W)))} {ids : List TaskId}
-      → IsSound next slots ids capacity undropped
+  pub remove_table : {closed : Bool} {next undropped : ℕ} {slots : List (Option (Numbered (Cell P T W)))} {ids : List TaskId}
+      → IsSound next slots ids undropped
       → (q : QueueState) (id : TaskId) (e : Numbered (Cell P T W)) → get_or slots id.slot None ≡ Some e → e.number ≡ id.number
       → (new : List (Option (Numbered (Cell P T W)))) → Changes slots new id.slot None
       → table_of next new q closed ≡ without_cell (table_of next slots q closed) id
@@ -132,8 +131,8 @@ module _ {P T W : Type 0} where
       same_table (table_of next slots q closed) _ _ _ _ (cells_of-removed slots new id.slot e sound.distinct there changes ∙ ap (map.remove (cells_of slots)) number) refl
 
   -- a cell whose future is out is counted
-  pub counted_one : {next capacity undropped : ℕ} {slots : List (Option (Numbered (Cell P T W)))} {ids : List TaskId}
-      → IsSound next slots ids capacity undropped
+  pub counted_one : {next undropped : ℕ} {slots : List (Option (Numbered (Cell P T W)))} {ids : List TaskId}
+      → IsSound next slots ids undropped
       → (key : ℕ) (e : Numbered (Cell P T W)) → get_or slots key None ≡ Some e → (is_idle e.cell.state || is_held e.cell.state) ≡ true → (undropped - 1) + 1 ≡ undropped
   counted_one {slots = slots} sound key e there may =
       let counted = sound.counted in

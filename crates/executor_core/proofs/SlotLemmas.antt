@@ -1,12 +1,14 @@
 -- The slots of a slab as a map from numbers to cells.
-use Rattle.std.proofs.Common.{◌≡◌, ◌≢◌, ℕ, zero, suc, ◌+◌, true, false, List, [], ◌∷◌, get_or, Option, Some, None, is_some, cond, refl, sym, ap, ◌∙◌, inl, inr, add-zero, arith}
+use Rattle.std.proofs.Common.{◌≡◌, ◌≢◌, ℕ, zero, suc, ◌+◌, ◌<◌, true, false, List, [], ◌∷◌, length, set, get_or, Option, Some, None, is_some, cond, refl, sym, ap, ◌∙◌, inl, inr, add-zero, arith}
 use Rattle.std.proofs.lemmas.Bool.{cases_eq, eq-eqb, ne_eqb}
+use Rattle.std.proofs.lemmas.List.{get_or-set_same, get_or-set_other, get_or_past}
 use Rattle.std.specs.Ordering.{nat_cmp, eq_by_cmp}
 use Rattle.std.specs.Cmp.{nat_cmp_total, unsigned_tied}
 use Rattle.std.specs.FinMap as map
 use Rattle.std.specs.FinMap.{find}
 use Rattle.executor_core.specs.Cells.{Slotted}
 use Rattle.executor_core.specs.Cells.View.{seen, by_number, cells_of, Distinct}
+use Rattle.executor_core.specs.Slots.{Changes}
 use Rattle.executor_core.specs.declared.task.cell.Cell.{Cell}
 use Rattle.executor_core.specs.declared.task.cell.Numbered.{Numbered}
 
@@ -38,6 +40,27 @@ module _ {X : Type 0} where
 
   pub remove_other : (m : map.FinMap nat_cmp X) (n q : ℕ) → q ≢ n → map.get (map.remove m n) q ≡ map.get m q
   remove_other m n q d = map.get-remove nat_cmp_total m n q ∙ ap (λ b. cond b None (map.get m q)) (apart q n d)
+
+-- a write of one slot
+module _ {X : Type 0} where
+  pub within : (slots : List (Option X)) (key : ℕ) (e : X) → get_or slots key None ≡ Some e → key < length slots
+  within slots key e there = grind (arith, get_or_past)
+
+  pub set_changes : (slots : List (Option X)) (key : ℕ) (e f : X) → get_or slots key None ≡ Some e → Changes slots (set slots key (Some f)) key (Some f)
+  set_changes slots key e f there =
+      let inside = within slots key e there in
+      record {
+        changed = get_or-set_same slots key (Some f) None inside;
+        others = λ other far. get_or-set_other slots key other (Some f) None far;
+      }
+
+  cleared_at : (slots : List (Option X)) (key : ℕ) → get_or (set slots key None) key None ≡ None
+  cleared_at [] key = refl
+  cleared_at (x ∷ slots) zero = refl
+  cleared_at (x ∷ slots) (suc key) = cleared_at slots key
+
+  pub cleared_changes : (slots : List (Option X)) (key : ℕ) → Changes slots (set slots key None) key None
+  cleared_changes slots key = record { changed = cleared_at slots key; others = λ other far. get_or-set_other slots key other None None far }
 
 module _ {P T W : Type 0} where
   -- the cell of this number is in one of the slots, the first of which is `first`
@@ -98,11 +121,6 @@ module _ {P T W : Type 0} where
   pub record Fits (slots : List (Option (Numbered (Cell P T W)))) (key n : ℕ) : Type 0 where
     pub free : (at : ℕ) (d : Numbered (Cell P T W)) → get_or slots at None ≡ Some d → d.number ≡ n → at ≡ key
     pub own : (d : Numbered (Cell P T W)) → get_or slots key None ≡ Some d → d.number ≡ n
-
-  -- one slot has this, and the others are as they were
-  pub record Changes (old new : List (Option (Numbered (Cell P T W)))) (key : ℕ) (slot : Option (Numbered (Cell P T W))) : Type 0 where
-    pub changed : get_or new key None ≡ slot
-    pub others : (other : ℕ) → other ≢ key → get_or new other None ≡ get_or old other None
 
   pub fits_itself : (slots : List (Option (Numbered (Cell P T W)))) → Distinct slots → (key : ℕ) (c : Numbered (Cell P T W)) → get_or slots key None ≡ Some c → Fits slots key c.number
   fits_itself slots distinct key c e =

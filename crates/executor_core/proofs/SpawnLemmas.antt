@@ -1,5 +1,5 @@
 -- What a spawn keeps and gives.
-use Rattle.std.proofs.Common.{◌≡◌, ◌≢◌, ℕ, Bool, false, ◌+◌, ◌≤◌, List, [], ◌∷◌, ◌++◌, length, get_or, Option, Some, None, cond, refl, sym, ap, subst, ◌∙◌, inl, inr, arith, length-append}
+use Rattle.std.proofs.Common.{◌≡◌, ◌≢◌, ℕ, Bool, false, ◌+◌, List, [], ◌∷◌, ◌++◌, length, get_or, Option, Some, None, cond, refl, sym, ap, subst, ◌∙◌, inl, inr, arith, length-append}
 use Rattle.std.specs.FinMap as map
 use Rattle.std.specs.Ordering.{nat_cmp}
 use Rattle.executor_core.specs.Cells.{Slotted}
@@ -18,7 +18,8 @@ use Rattle.std.proofs.lemmas.List.Elements.{All-push, All-weaker, All-nil}
 use Rattle.std.proofs.Common.{count_by}
 use Rattle.std.proofs.lemmas.Bool.{cases_eq}
 use Rattle.std.specs.List.{All}
-use Rattle.executor_core.proofs.SlotLemmas.{insert_same, insert_other, Fits, Changes, put_distinct, cells_of-put, get-cells_of}
+use Rattle.executor_core.specs.Slots.{Changes}
+use Rattle.executor_core.proofs.SlotLemmas.{insert_same, insert_other, Fits, put_distinct, cells_of-put, get-cells_of}
 use Rattle.executor_core.proofs.TableLemmas.{law_put, times-push_same, times-push_other, numbers_of-push}
 use Rattle.executor_core.proofs.CountLemmas.{recounted}
 
@@ -30,16 +31,9 @@ counts : (u a b s t : ℕ) → u ≡ a + s → b ≡ a + 1 → t + 0 ≡ s + 0 �
 counts u a b s t p q r = omega arith
 
 module _ {P T W : Type 0} where
-  -- the same cells, with more room
-  pub roomier : {next capacity undropped : ℕ} {slots : List (Option (Numbered (Cell P T W)))} {ids : List TaskId}
-      → IsSound next slots ids capacity undropped → (room : ℕ) → capacity ≤ room → IsSound next slots ids room undropped
-  roomier sound room more =
-      let was = sound.room in
-      record { below = sound.below; distinct = sound.distinct; placed = sound.placed; law = sound.law; settled = sound.settled; counted = sound.counted; room = omega arith; numbered = sound.numbered }
-
   -- the next number has no cell
-  next_absent : {next capacity undropped : ℕ} {slots : List (Option (Numbered (Cell P T W)))} {ids : List TaskId}
-      → IsSound next slots ids capacity undropped → map.get (cells_of slots) next ≡ None
+  next_absent : {next undropped : ℕ} {slots : List (Option (Numbered (Cell P T W)))} {ids : List TaskId}
+      → IsSound next slots ids undropped → map.get (cells_of slots) next ≡ None
   next_absent {next} {slots = slots} sound =
       none_of _ (λ t found.
       let sees = get_sees slots next t found in
@@ -47,8 +41,8 @@ module _ {P T W : Type 0} where
       let same = sees.number in
       omega arith)
 
-  new_fits : {next capacity undropped : ℕ} {slots : List (Option (Numbered (Cell P T W)))} {ids : List TaskId}
-      → IsSound next slots ids capacity undropped → (key : ℕ) → get_or slots key None ≡ None → Fits slots key next
+  new_fits : {next undropped : ℕ} {slots : List (Option (Numbered (Cell P T W)))} {ids : List TaskId}
+      → IsSound next slots ids undropped → (key : ℕ) → get_or slots key None ≡ None → Fits slots key next
   new_fits sound key vacant =
       record {
         free = λ at d there same. let below = sound.below at d there in absurd (omega arith);
@@ -70,14 +64,13 @@ module _ {P T W : Type 0} where
       recounted (λ o. cond (is_queueable o) 1 0) refl old new key changes.others
       ∙ ap (λ o. count_by is_queueable old + cond (is_queueable o) 1 0) changes.changed
 
-  pub spawn_sound : {next capacity undropped : ℕ} {slots : List (Option (Numbered (Cell P T W)))} {ids later : List TaskId}
-      → IsSound next slots ids capacity undropped
+  pub spawn_sound : {next undropped : ℕ} {slots : List (Option (Numbered (Cell P T W)))} {ids later : List TaskId}
+      → IsSound next slots ids undropped
       → (p : P) (new : List (Option (Numbered (Cell P T W)))) (key : ℕ) → get_or slots key None ≡ None
       → Changes slots new key (Some (record { number = next; cell = new_cell p }))
       → later ≡ ids ++ record { number = next; slot = key } ∷ []
-      → (room : ℕ) → undropped + 1 ≤ room
-      → IsSound (next + 1) new later room (undropped + 1)
-  spawn_sound {next} {undropped = undropped} {slots = slots} {ids = ids} {later = later} sound p new key vacant changes longer room enough =
+      → IsSound (next + 1) new later (undropped + 1)
+  spawn_sound {next} {undropped = undropped} {slots = slots} {ids = ids} {later = later} sound p new key vacant changes longer =
       let f : Numbered (Cell P T W) = record { number = next; cell = new_cell p } in
       let id : TaskId = record { number = next; slot = key } in
       let m = cells_of slots in
@@ -105,7 +98,6 @@ module _ {P T W : Type 0} where
         law = subst (λ n. ScheduledOnce n (numbers_of later)) (sym cells)
             (law_put m (numbers_of ids) (numbers_of later) next (seen key (new_cell p)) sound.law (ap (times next) lists ∙ once) (λ q far. ap (times q) lists ∙ times-push_other q next (numbers_of ids) far));
         counted = counts _ _ _ _ _ sound.counted (ap length longer ∙ length-append ids (id ∷ [])) (ap (λ o. count_by is_queueable new + cond (is_queueable o) 1 0) (sym vacant) ∙ same_count slots new key (Some f) changes);
-        room = enough;
         numbered = omega arith;
         settled = λ i d found. elim (cases_eq i key) [
           | inl here ↦
@@ -115,8 +107,8 @@ module _ {P T W : Type 0} where
         ];
       }
 
-  pub spawn_table : {closed : Bool} {next capacity undropped : ℕ} {slots : List (Option (Numbered (Cell P T W)))} {ids : List TaskId}
-      → IsSound next slots ids capacity undropped
+  pub spawn_table : {closed : Bool} {next undropped : ℕ} {slots : List (Option (Numbered (Cell P T W)))} {ids : List TaskId}
+      → IsSound next slots ids undropped
       → (q : QueueState) (p : P) (new : List (Option (Numbered (Cell P T W)))) (key : ℕ) → get_or slots key None ≡ None
       → Changes slots new key (Some (record { number = next; cell = new_cell p }))
       → table_of (next + 1) new (with_lists (pushed (record { number = next; slot = key }) q.lists) q) closed ≡ after_spawn (table_of next slots q closed) key p
@@ -125,8 +117,8 @@ module _ {P T W : Type 0} where
       (cells_of-put slots new key (record { number = next; cell = new_cell p }) sound.distinct (new_fits sound key vacant) changes)
       (numbers_of-push q.lists.global (record { number = next; slot = key }))
 
-  pub spawn_free : {next capacity undropped : ℕ} {slots : List (Option (Numbered (Cell P T W)))} {ids : List TaskId}
-      → IsSound next slots ids capacity undropped
+  pub spawn_free : {next undropped : ℕ} {slots : List (Option (Numbered (Cell P T W)))} {ids : List TaskId}
+      → IsSound next slots ids undropped
       → (q : QueueState) (closed : Bool) (key : ℕ) → get_or slots key None ≡ None → IsFree (table_of next slots q closed) key
   spawn_free {slots = slots} sound q closed key vacant n s found taken =
       let sees = get_sees slots n s found in
@@ -135,15 +127,14 @@ module _ {P T W : Type 0} where
       let both : Some sees.cell ≡ None = sym sees.there ∙ ap (λ k. get_or slots k None) place ∙ vacant in
       cc
 
-  pub empty_sound : (first room : ℕ) → IsSound {P = P} {T = T} {W = W} first [] [] room 0
-  empty_sound first room =
+  pub empty_sound : (first : ℕ) → IsSound {P = P} {T = T} {W = W} first [] [] 0
+  empty_sound first =
       record {
         below = λ i c found. absurd (cc);
         distinct = λ i j c d found e. absurd (cc);
         placed = All-nil (Placed (cells_of []));
         law = λ n. sym (ap (λ o. cond (scheduled_in {P = P} {T = T} {W = W} o) 1 0) (get-cells_of {P = P} {T = T} {W = W} [] n));
         counted = refl;
-        room = omega arith;
         numbered = omega arith;
         settled = λ i c found. absurd (cc);
       }
@@ -153,6 +144,6 @@ module _ {P T W : Type 0} where
   empty_is first = refl
 
   -- the slots are the same list by another name
-  pub regrown : {next capacity undropped : ℕ} {slots : List (Option (Numbered (Cell P T W)))} {ids : List TaskId}
-      → IsSound next slots ids capacity undropped → (same : List (Option (Numbered (Cell P T W)))) → same ≡ slots → IsSound next same ids capacity undropped
-  regrown {next} {capacity} {undropped} {slots} {ids} sound same is = subst (λ l. IsSound next l ids capacity undropped) (sym is) sound
+  pub regrown : {next undropped : ℕ} {slots : List (Option (Numbered (Cell P T W)))} {ids : List TaskId}
+      → IsSound next slots ids undropped → (same : List (Option (Numbered (Cell P T W)))) → same ≡ slots → IsSound next same ids undropped
+  regrown {next} {undropped} {slots} {ids} sound same is = subst (λ l. IsSound next l ids undropped) (sym is) sound

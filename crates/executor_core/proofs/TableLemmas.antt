@@ -1,7 +1,6 @@
 -- What keeps `IsSound`, and what is then seen.
 use Rattle.std.proofs.Common.{◌≡◌, ◌≢◌, ℕ, Bool, ◌+◌, ◌<◌, ◌≤◌, ◌==◌, ◌||◌, false, List, [], ◌∷◌, ◌++◌, length, set, get_or, Option, Some, None, cond, refl, sym, ap, subst, ◌∙◌, inl, inr, arith}
 use Rattle.std.proofs.lemmas.Bool.{cases_eq, eq-eqb, ne_eqb}
-use Rattle.std.proofs.lemmas.List.{get_or-set_same, get_or-set_other, get_or_past}
 use Rattle.std.proofs.lemmas.List.Sums.{sum_by-set, sum_by-append}
 use Rattle.std.proofs.lemmas.List.Elements.{All-weaker}
 use Rattle.std.specs.List.{All}
@@ -14,7 +13,7 @@ use Rattle.executor_core.specs.Cell.{is_idle, is_held, is_scheduled}
 use Rattle.executor_core.specs.Cells.Law.{scheduled_in, ScheduledOnce}
 use Rattle.executor_core.specs.Numbers.{times}
 use Rattle.executor_core.specs.Cells.Calls.{with_cell}
-use Rattle.executor_core.proofs.SlotLemmas.{insert_same, insert_other, sees_get, Changes, fits_itself, put_distinct, cells_of-put}
+use Rattle.executor_core.proofs.SlotLemmas.{within, set_changes, insert_same, insert_other, sees_get, fits_itself, put_distinct, cells_of-put}
 use Rattle.executor_core.specs.declared.task.cell.Cell.{Cell}
 use Rattle.executor_core.specs.declared.task.cell.Numbered.{Numbered}
 use Rattle.executor_core.specs.declared.task.id.TaskId.{TaskId}
@@ -44,17 +43,6 @@ recount : (u v a b s t w y g : ℕ) → u ≡ a + s → t + g ≡ s + y → g �
 recount u v a b s t w y g p q r h = omega arith
 
 module _ {P T W : Type 0} where
-  pub within : (slots : List (Option (Numbered (Cell P T W)))) (key : ℕ) (e : Numbered (Cell P T W)) → get_or slots key None ≡ Some e → key < length slots
-  within slots key e there = grind (arith, get_or_past)
-
-  pub set_changes : (slots : List (Option (Numbered (Cell P T W)))) (key : ℕ) (e f : Numbered (Cell P T W)) → get_or slots key None ≡ Some e → Changes slots (set slots key (Some f)) key (Some f)
-  set_changes slots key e f there =
-      let inside = within slots key e there in
-      record {
-        changed = get_or-set_same slots key (Some f) None inside;
-        others = λ other far. get_or-set_other slots key other (Some f) None far;
-      }
-
   pub cells_of-set : (slots : List (Option (Numbered (Cell P T W)))) (key : ℕ) (e : Numbered (Cell P T W)) (c : Cell P T W) → Distinct slots → get_or slots key None ≡ Some e
       → cells_of (set slots key (Some (record { number = e.number; cell = c }))) ≡ map.insert (cells_of slots) e.number (seen key c)
   cells_of-set slots key e c distinct there =
@@ -71,16 +59,16 @@ module _ {P T W : Type 0} where
         | inr far ↦ (placed.0, insert_other m n (seen key c) id.number far ∙ placed.1, placed.2)
       ]
 
-  pub put_sound : {next capacity undropped : ℕ} {slots : List (Option (Numbered (Cell P T W)))} {ids : List TaskId}
-      → IsSound next slots ids capacity undropped
+  pub put_sound : {next undropped : ℕ} {slots : List (Option (Numbered (Cell P T W)))} {ids : List TaskId}
+      → IsSound next slots ids undropped
       → (key : ℕ) (e : Numbered (Cell P T W)) (c : Cell P T W) → get_or slots key None ≡ Some e
-      → (later : List TaskId) (room left : ℕ) → left ≤ room → left ≤ undropped → Settled c
+      → (later : List TaskId) (left : ℕ) → left ≤ undropped → Settled c
       → All (Placed (cells_of slots)) later
       → times e.number (numbers_of later) ≡ cond (is_scheduled c.state) 1 0
       → ((q : ℕ) → q ≢ e.number → times q (numbers_of later) ≡ times q (numbers_of ids))
       → left + (length ids + cond (is_idle e.cell.state || is_held e.cell.state) 1 0) ≡ undropped + (length later + cond (is_idle c.state || is_held c.state) 1 0)
-      → IsSound next (set slots key (Some (record { number = e.number; cell = c }))) later room left
-  put_sound {next} {capacity} {undropped} {slots} {ids} sound key e c there later room left enough fewer settled placed here others balance =
+      → IsSound next (set slots key (Some (record { number = e.number; cell = c }))) later left
+  put_sound {next} {undropped} {slots} {ids} sound key e c there later left fewer settled placed here others balance =
       let f : Numbered (Cell P T W) = record { number = e.number; cell = c } in
       let new = set slots key (Some f) in
       let numbered = sound.numbered in
@@ -102,7 +90,6 @@ module _ {P T W : Type 0} where
             (All-weaker (Placed (cells_of slots)) (Placed (map.insert (cells_of slots) e.number (seen key c))) (λ id. placed_put (cells_of slots) e.number key c e.cell (sees_get slots sound.distinct key e there) id) later placed);
         law = subst (λ m. ScheduledOnce m (numbers_of later)) (sym cells) (law_put (cells_of slots) (numbers_of ids) (numbers_of later) e.number (seen key c) sound.law here others);
         counted = recount _ _ _ _ _ _ _ _ _ sound.counted sums was balance;
-        room = enough;
         numbered = omega arith;
         settled = λ i d found. elim (cases_eq i key) [
           | inl here_i ↦

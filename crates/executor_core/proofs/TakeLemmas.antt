@@ -9,6 +9,7 @@ use Rattle.executor_core.specs.Cell.Changes.{taken}
 use Rattle.executor_core.specs.Cells.Calls.{with_cell, with_taken_at, with_queues, search_to, after_take, take_first, IsTaken}
 use Rattle.executor_core.specs.Queues.{QueueLists, map_queues, search_global, global_front}
 use Rattle.executor_core.specs.Queues.State.{QueueState, with_lists}
+use Rattle.executor_core.specs.Slots.{HasCell}
 use Rattle.executor_core.proofs.TableLemmas.{table_set}
 use Rattle.executor_core.proofs.SlotLemmas.{sees_get}
 use Rattle.executor_core.proofs.WriteLemmas.{unqueued_sound, front_cell}
@@ -20,42 +21,47 @@ use Rattle.executor_core.specs.declared.task.values.Taken.{Taken}
 
 module _ {P T W : Type 0} where
   -- the cell of the first queued id is scheduled
-  pub first_scheduled : {next capacity undropped : ℕ} {slots : List (Option (Numbered (Cell P T W)))} {later : List TaskId} {id : TaskId}
-      → IsSound next slots (id ∷ later) capacity undropped → scheduled_slot (get_or slots id.slot None) ≡ true
+  pub first_scheduled : {next undropped : ℕ} {slots : List (Option (Numbered (Cell P T W)))} {later : List TaskId} {id : TaskId}
+      → IsSound next slots (id ∷ later) undropped → scheduled_slot (get_or slots id.slot None) ≡ true
   first_scheduled {id = id} sound = let at = front_cell sound id refl in ap scheduled_slot at.1 ∙ at.3
 
-  taken_number : {next capacity undropped : ℕ} {slots new : List (Option (Numbered (Cell P T W)))} {later : List TaskId} {id : TaskId} {task : Taken P}
-      → IsSound next slots (id ∷ later) capacity undropped → (takes : TakesOut slots new id task) → takes.entry.number ≡ id.number
+  -- and its number is the id's
+  pub first_there : {next undropped : ℕ} {slots : List (Option (Numbered (Cell P T W)))} {later : List TaskId} {id : TaskId}
+      → IsSound next slots (id ∷ later) undropped → HasCell slots id
+  first_there {id = id} sound = let at = front_cell sound id refl in (at.0, at.1, at.2)
+
+  taken_number : {next undropped : ℕ} {slots new : List (Option (Numbered (Cell P T W)))} {later : List TaskId} {id : TaskId} {task : Taken P}
+      → IsSound next slots (id ∷ later) undropped → (takes : TakesOut slots new id task) → takes.entry.number ≡ id.number
   taken_number {id = id} sound takes =
       let at = front_cell sound id refl in
       let there = takes.there in
       let same : at.0 ≡ takes.entry = cc in
       ap (λ x. x.number) (sym same) ∙ at.2
 
-  taken_get : {next capacity undropped : ℕ} {slots new : List (Option (Numbered (Cell P T W)))} {later : List TaskId} {id : TaskId} {task : Taken P}
-      → IsSound next slots (id ∷ later) capacity undropped → (takes : TakesOut slots new id task) → map.get (cells_of slots) id.number ≡ Some (seen id.slot takes.entry.cell)
+  taken_get : {next undropped : ℕ} {slots new : List (Option (Numbered (Cell P T W)))} {later : List TaskId} {id : TaskId} {task : Taken P}
+      → IsSound next slots (id ∷ later) undropped → (takes : TakesOut slots new id task) → map.get (cells_of slots) id.number ≡ Some (seen id.slot takes.entry.cell)
   taken_get {slots = slots} {id = id} sound takes =
       ap (map.get (cells_of slots)) (sym (taken_number sound takes)) ∙ sees_get slots sound.distinct id.slot takes.entry takes.there
 
-  pub take_sound : {next capacity undropped : ℕ} {slots new : List (Option (Numbered (Cell P T W)))} {later : List TaskId} {id : TaskId} {task : Taken P}
-      → IsSound next slots (id ∷ later) capacity undropped → TakesOut slots new id task → IsSound next new later capacity undropped
-  take_sound {next} {capacity} {undropped} {later = later} {id = id} sound takes =
+  pub take_sound : {next undropped : ℕ} {slots new : List (Option (Numbered (Cell P T W)))} {later : List TaskId} {id : TaskId} {task : Taken P}
+      → IsSound next slots (id ∷ later) undropped → TakesOut slots new id task → IsSound next new later undropped
+  take_sound {next} {undropped} {later = later} {id = id} sound takes =
       let e = takes.entry in
       let scheduled : is_scheduled e.cell.state ≡ true = ap scheduled_slot (sym takes.there) ∙ first_scheduled sound in
-      subst (λ l. IsSound next l later capacity undropped) (sym takes.written)
-      (unqueued_sound sound id e (taken e.cell) takes.there (taken_number sound takes) scheduled refl (scheduled_state e.cell.state scheduled) refl (λ dropped. absurd (cc (dropped))) capacity refl refl)
+      subst (λ l. IsSound next l later undropped) (sym takes.written)
+      (unqueued_sound sound id e (taken e.cell) takes.there (taken_number sound takes) scheduled refl (scheduled_state e.cell.state scheduled) refl (λ dropped. absurd (cc (dropped))) refl)
 
   -- what is seen after a take, where these are the queues then
-  take_table : {closed : Bool} {next capacity undropped : ℕ} {slots new : List (Option (Numbered (Cell P T W)))} {later : List TaskId} {id : TaskId} {task : Taken P}
-      → IsSound next slots (id ∷ later) capacity undropped → (takes : TakesOut slots new id task) → (q : QueueState)
+  take_table : {closed : Bool} {next undropped : ℕ} {slots new : List (Option (Numbered (Cell P T W)))} {later : List TaskId} {id : TaskId} {task : Taken P}
+      → IsSound next slots (id ∷ later) undropped → (takes : TakesOut slots new id task) → (q : QueueState)
       → table_of next new q closed ≡ with_cell (table_of next slots q closed) id (taken takes.entry.cell)
   take_table {closed} {next} {slots = slots} {id = id} sound takes q =
       ap (λ l. table_of next l q closed) takes.written
       ∙ table_set next slots q id takes.entry (taken takes.entry.cell) (numbers_of q.lists.global) sound.distinct takes.there (taken_number sound takes) refl
 
   -- a search found the task, and left these queues
-  pub found_table : {closed : Bool} {next capacity undropped : ℕ} {slots new : List (Option (Numbered (Cell P T W)))} {later : List TaskId} {id : TaskId} {task : Taken P}
-      → IsSound next slots (id ∷ later) capacity undropped → (takes : TakesOut slots new id task)
+  pub found_table : {closed : Bool} {next undropped : ℕ} {slots new : List (Option (Numbered (Cell P T W)))} {later : List TaskId} {id : TaskId} {task : Taken P}
+      → IsSound next slots (id ∷ later) undropped → (takes : TakesOut slots new id task)
       → (q : QueueState) (lists : QueueLists TaskId) (found : Option ℕ × QueueLists ℕ) → found.0 ≡ Some id.number → found.1 ≡ map_queues (λ i. i.number) lists
       → table_of next new (with_lists lists q) closed ≡ search_to found (table_of next slots q closed)
   found_table {closed} {next} {slots = slots} {id = id} sound takes q lists found number left =
@@ -81,8 +87,8 @@ module _ {P T W : Type 0} where
       by_global [] = refl
       by_global (n ∷ rest) = by_cell n rest (map.get table.cells n)
 
-  pub is_taken : {closed : Bool} {next capacity undropped : ℕ} {slots new : List (Option (Numbered (Cell P T W)))} {later : List TaskId} {id : TaskId} {task : Taken P}
-      → IsSound next slots (id ∷ later) capacity undropped → (takes : TakesOut slots new id task) → (q : QueueState) → IsTaken (table_of next slots q closed) task
+  pub is_taken : {closed : Bool} {next undropped : ℕ} {slots new : List (Option (Numbered (Cell P T W)))} {later : List TaskId} {id : TaskId} {task : Taken P}
+      → IsSound next slots (id ∷ later) undropped → (takes : TakesOut slots new id task) → (q : QueueState) → IsTaken (table_of next slots q closed) task
   is_taken {slots = slots} sound takes q =
       record {
         cell = takes.entry.cell;

@@ -187,10 +187,10 @@ module _ {P T W : Type 0} where
       apart k c there number i far None is = refl
       apart k c there number i far (Some e) is = ap (λ b. cond b 1 0) (ne_eqb id.number e.number (λ same. far (distinct i k e c is there (sym same ∙ sym number))))
 
-  pub undropped_is : {next capacity undropped : ℕ} {slots : List (Option (Numbered (Cell P T W)))} {ids : List TaskId}
-      → IsSound next slots ids capacity undropped → undropped ≡ count_by (λ s. is_undropped s.cell.state) (map.values (cells_of slots))
+  pub undropped_is : {next undropped : ℕ} {slots : List (Option (Numbered (Cell P T W)))} {ids : List TaskId}
+      → IsSound next slots ids undropped → undropped ≡ count_by (λ s. is_undropped s.cell.state) (map.values (cells_of slots))
   unfolding cells_of
-  undropped_is {next} {capacity} {undropped} {slots} {ids} sound =
+  undropped_is {next} {undropped} {slots} {ids} sound =
       let queued = queued_sum slots sound.distinct ids sound.placed in
       let scheduled = sum_by_same (queued_times ids) (λ s. cond (scheduled_slot s) 1 0) None slots (λ i. lawful i (get_or slots i None) refl) in
       let parts = sum_by_plus (λ s. cond (undropped_slot s) 1 0) (λ s. cond (scheduled_slot s) 1 0) (λ s. cond (is_queueable s) 1 0) slots undropped_parts in
@@ -203,8 +203,8 @@ module _ {P T W : Type 0} where
       lawful i (Some e) is = sound.law e.number ∙ ap (λ o. cond (scheduled_in o) 1 0) (sees_get slots sound.distinct i e is)
 
   -- nothing is undropped where the count is zero
-  pub all_dropped : {next capacity : ℕ} {slots : List (Option (Numbered (Cell P T W)))} {ids : List TaskId}
-      → IsSound next slots ids capacity 0 → (q : QueueState) (closed : Bool) → AllDropped (table_of next slots q closed)
+  pub all_dropped : {next : ℕ} {slots : List (Option (Numbered (Cell P T W)))} {ids : List TaskId}
+      → IsSound next slots ids 0 → (q : QueueState) (closed : Bool) → AllDropped (table_of next slots q closed)
   all_dropped {slots = slots} {ids = ids} sound q closed n s found =
       let sees = get_sees slots n s found in
       let part : cond (is_queueable (get_or slots sees.at None)) 1 0 ≤ count_by is_queueable slots = at_least (λ o. cond (is_queueable o) 1 0) refl slots sees.at in
@@ -217,8 +217,8 @@ module _ {P T W : Type 0} where
       let queued : cond (is_scheduled sees.cell.cell.state) 1 0 ≤ 0 = omega arith in
       ap (λ x. is_undropped x.cell.state) sees.is ∙ undropped_by sees.cell.cell.state may (no_one _ queued)
 
-  pub none_undropped : {next capacity undropped : ℕ} {slots : List (Option (Numbered (Cell P T W)))} {ids : List TaskId}
-      → IsSound next slots ids capacity undropped → (q : QueueState) (closed : Bool) → AllDropped (table_of next slots q closed) → undropped ≡ 0
+  pub none_undropped : {next undropped : ℕ} {slots : List (Option (Numbered (Cell P T W)))} {ids : List TaskId}
+      → IsSound next slots ids undropped → (q : QueueState) (closed : Bool) → AllDropped (table_of next slots q closed) → undropped ≡ 0
   none_undropped {slots = slots} {ids = ids} sound q closed dropped =
       let empty : length ids ≡ 0 = no_ids ids refl in
       let none : count_by is_queueable slots ≡ 0 = sum_by_zero (λ o. cond (is_queueable o) 1 0) None slots (λ k. by_slot k (get_or slots k None) refl) in

@@ -1,17 +1,20 @@
 -- A walk over the slots that changes each cell and queues what was idle.
-use Rattle.std.proofs.Common.{◌≡◌, ℕ, zero, suc, ◌+◌, ◌<◌, ◌≤◌, ◌||◌, Bool, true, false, List, [], ◌∷◌, ◌++◌, length, map, set, get_or, Option, Some, None, cond, refl, sym, ap, ◌∙◌, arith}
-use Rattle.std.specs.Prelude.{nat_lt, count_by}
+use Rattle.std.proofs.Common.{◌≡◌, ℕ, zero, suc, ◌+◌, ◌≤◌, true, List, [], ◌∷◌, ◌++◌, length, map, set, get_or, Option, Some, None, refl, sym, ap, subst, ◌∙◌, arith}
+use Rattle.std.specs.Prelude.{nat_lt}
 use Rattle.std.specs.List.{cons_option}
 use Rattle.std.proofs.lemmas.Bool.{lt-ltb}
-use Rattle.std.proofs.lemmas.List.Sums.{sum_by-cons}
 use Rattle.std.proofs.Common.{length-append, append_assoc, append-nil}
-use Rattle.executor_core.specs.Cell.{is_idle, is_held}
+use Rattle.executor_core.specs.Slots.{HasCell, IsQueue}
+use Rattle.executor_core.proofs.LinkLemmas.{prefix_queue}
 use Rattle.executor_core.specs.Queues.State.{QueueState, with_lists, pushed, pushed_all}
-use Rattle.executor_core.specs.Cells.View.{changed_slot, idle_id, idle_ids, is_queueable}
+use Rattle.executor_core.specs.Cells.View.{changed_slot, idle_id, idle_ids}
 use Rattle.executor_core.specs.declared.task.cell.Cell.{Cell}
 use Rattle.executor_core.specs.declared.task.cell.Numbered.{Numbered}
-use Rattle.executor_core.specs.declared.task.cell.CellState.{CellState}
 use Rattle.executor_core.specs.declared.task.id.TaskId.{TaskId}
+
+cons_append : (o : Option TaskId) (xs ys : List TaskId) → cons_option o (xs ++ ys) ≡ cons_option o xs ++ ys
+cons_append None xs ys = refl
+cons_append (Some x) xs ys = refl
 
 module _ {P T W : Type 0} where
   -- the slots once so many of them were visited
@@ -68,34 +71,14 @@ module _ {P T W : Type 0} where
       let same : first + 1 + n ≡ first + suc n = omega arith in
       ap (cons_option (idle_id first s)) (idle_below-next (first + 1) n rest ∙ ap (λ k. idle_below (first + 1) n rest ++ cons_option (idle_id k (get_or rest n None)) []) same)
       ∙ cons_append (idle_id first s) _ _
-    where
-      cons_append : (o : Option TaskId) (xs ys : List TaskId) → cons_option o (xs ++ ys) ≡ cons_option o xs ++ ys
-      cons_append None xs ys = refl
-      cons_append (Some x) xs ys = refl
 
-  one_idle : (n : ℕ) (s : Option (Numbered (Cell P T W))) → length (cons_option (idle_id n s) []) ≤ cond (is_queueable s) 1 0
-  one_idle n None = omega arith
-  one_idle n (Some e) = by (record { number = e.number; slot = n }) (is_idle e.cell.state) (is_held e.cell.state)
-    where
-      by : (id : TaskId) (b h : Bool) → length (cons_option (cond b (Some id) None) []) ≤ cond (b || h) 1 0
-      by id true h = omega arith
-      by id false true = omega arith
-      by id false false = omega arith
-
-  -- no more are idle than may be queued
-  pub few_idle : (first n : ℕ) (slots : List (Option (Numbered (Cell P T W)))) → length (idle_below first n slots) ≤ count_by is_queueable slots
-  few_idle first n [] = omega arith
-  few_idle first zero (s ∷ rest) = omega arith
-  few_idle first (suc n) (s ∷ rest) =
-      let inner = few_idle (first + 1) n rest in
-      let one = one_idle first s in
-      let more = sum_by-cons (λ x. cond (is_queueable x) 1 0) s rest in
-      let long = length_cons (idle_id first s) (idle_below (first + 1) n rest) in
-      omega arith
-    where
-      length_cons : (o : Option TaskId) (xs : List TaskId) → length (cons_option o xs) ≡ length (cons_option o []) + length xs
-      length_cons None xs = omega arith
-      length_cons (Some x) xs = omega arith
+  -- what was visited, and what was not
+  pub idle_parts : (first n : ℕ) (slots : List (Option (Numbered (Cell P T W)))) → (rest : List TaskId) × (idle_ids first slots ≡ idle_below first n slots ++ rest)
+  idle_parts first n [] = ([], refl)
+  idle_parts first zero (s ∷ rest) = (idle_ids first (s ∷ rest), refl)
+  idle_parts first (suc n) (s ∷ rest) =
+      let later = idle_parts (first + 1) n rest in
+      (later.0, ap (cons_option (idle_id first s)) later.1 ∙ cons_append (idle_id first s) (idle_below (first + 1) n rest) later.0)
 
 -- nothing is queued
 pub no_push : (q : QueueState) → with_lists (pushed_all [] q.lists) q ≡ q
@@ -129,15 +112,39 @@ module _ {P T W : Type 0} (change : Cell P T W → Cell P T W) (n : ℕ) (slots 
   pub ids_kept : {found : Option TaskId} → found ≡ idle_id n (get_or now n None) → found ≡ None → idle_below 0 (n + 1) slots ≡ idle_below 0 n slots
   ids_kept is none = ids_walked is ∙ ap (λ o. idle_below 0 n slots ++ cons_option o []) none ∙ append-nil (idle_below 0 n slots)
 
-  pub room_walked : {id : TaskId} {found : Option TaskId} → found ≡ idle_id n (get_or now n None) → found ≡ Some id
-      → (first : QueueState) {q : QueueState} → length first.lists.global + count_by is_queueable slots ≤ first.room → q ≡ with_lists (pushed_all (idle_below 0 n slots) first.lists) first
-      → length q.lists.global < q.room
-  room_walked {id} is some first {q} room same =
-      let few = few_idle 0 (n + 1) slots in
+  -- there is the next id too, and the others come behind it
+  pub queue_walked : {id : TaskId} {found : Option TaskId} → found ≡ idle_id n (get_or now n None) → found ≡ Some id
+      → (first : QueueState) {q : QueueState} → IsQueue slots (first.lists.global ++ idle_ids 0 slots) → q ≡ with_lists (pushed_all (idle_below 0 n slots) first.lists) first
+      → IsQueue slots (q.lists.global ++ id ∷ [])
+  queue_walked {id} is some first queue same =
+      let parts = idle_parts 0 (n + 1) slots in
+      let global = first.lists.global in
+      let next = ap (λ s. s.lists.global ++ id ∷ []) same ∙ append_assoc global (idle_below 0 n slots) (id ∷ []) ∙ ap (λ l. global ++ l) (sym (ids_pushed is some)) in
+      let whole = ap (λ l. global ++ l) parts.1 ∙ sym (append_assoc global (idle_below 0 (n + 1) slots) parts.0) in
+      subst (IsQueue slots) (sym next) (prefix_queue slots (global ++ idle_below 0 (n + 1) slots) parts.0 (subst (IsQueue slots) whole queue))
+
+  -- there are no more of them than in the end
+  pub count_walked : {id : TaskId} {found : Option TaskId} → found ≡ idle_id n (get_or now n None) → found ≡ Some id
+      → (first : QueueState) {q : QueueState} → q ≡ with_lists (pushed_all (idle_below 0 n slots) first.lists) first
+      → length q.lists.global + 1 ≤ length (first.lists.global ++ idle_ids 0 slots)
+  count_walked {id} is some first same =
+      let parts = idle_parts 0 (n + 1) slots in
+      let all = ap length parts.1 ∙ length-append (idle_below 0 (n + 1) slots) parts.0 in
       let longer = ap length (ids_pushed is some) ∙ length-append (idle_below 0 n slots) (id ∷ []) in
-      let long : length q.lists.global ≡ length first.lists.global + length (idle_below 0 n slots) = ap (λ s. length s.lists.global) same ∙ length-append first.lists.global (idle_below 0 n slots) in
-      let wide : q.room ≡ first.room = ap (λ s. s.room) same in
+      let long = ap (λ s. length s.lists.global) same ∙ length-append first.lists.global (idle_below 0 n slots) in
+      let end = length-append first.lists.global (idle_ids 0 slots) in
       omega arith
+
+  -- the cells that a walk has changed are under their numbers
+  pub has_walked : (id : TaskId) → HasCell slots id → HasCell (changed_below change n slots) id
+  has_walked id has = below n slots id.slot has.1
+    where
+      below : (k : ℕ) (old : List (Option (Numbered (Cell P T W)))) (at : ℕ) → get_or old at None ≡ Some has.0
+          → (e : Numbered (Cell P T W)) × (get_or (changed_below change k old) at None ≡ Some e) × (e.number ≡ id.number)
+      below k [] at there = absurd (cc)
+      below zero (s ∷ rest) at there = (has.0, there, has.2)
+      below (suc k) (s ∷ rest) zero there = (record { number = has.0.number; cell = change has.0.cell }, ap (changed_slot change) there, has.2)
+      below (suc k) (s ∷ rest) (suc at) there = below k rest at there
 
   pub queues_walked : {id : TaskId} {found : Option TaskId} → found ≡ idle_id n (get_or now n None) → found ≡ Some id
       → (first : QueueState) {q later : QueueState} → q ≡ with_lists (pushed_all (idle_below 0 n slots) first.lists) first → later ≡ with_lists (pushed id q.lists) q

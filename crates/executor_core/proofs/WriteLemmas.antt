@@ -1,5 +1,5 @@
 -- What a write of one cell keeps and gives.
-use Rattle.std.proofs.Common.{◌≡◌, ◌≢◌, ℕ, suc, ◌+◌, ◌≤◌, ◌==◌, ◌||◌, Bool, true, false, List, [], ◌∷◌, ◌++◌, length, set, get_or, Option, Some, None, cond, refl, sym, ap, subst, ◌∙◌, arith, length-append, zero-add}
+use Rattle.std.proofs.Common.{◌≡◌, ◌≢◌, ℕ, suc, ◌+◌, ◌==◌, ◌||◌, Bool, true, false, List, [], ◌∷◌, ◌++◌, length, set, get_or, Option, Some, None, cond, refl, sym, ap, subst, ◌∙◌, arith, length-append, zero-add}
 use Rattle.std.proofs.lemmas.List.Elements.{All-push, All-head, All-tail}
 use Rattle.std.proofs.lemmas.Bool.{eq-eqb, ne_eqb}
 use Rattle.std.proofs.lemmas.List.Sums.{sum_by-cons}
@@ -28,37 +28,37 @@ times-front_other q n numbers far =
 
 module _ {P T W : Type 0} where
   -- how often a cell's number is queued
-  pub law_at : {next capacity undropped : ℕ} {slots : List (Option (Numbered (Cell P T W)))} {ids : List TaskId}
-      → IsSound next slots ids capacity undropped
+  pub law_at : {next undropped : ℕ} {slots : List (Option (Numbered (Cell P T W)))} {ids : List TaskId}
+      → IsSound next slots ids undropped
       → (key : ℕ) (e : Numbered (Cell P T W)) → get_or slots key None ≡ Some e
       → times e.number (numbers_of ids) ≡ cond (is_scheduled e.cell.state) 1 0
   law_at {slots = slots} sound key e there = sound.law e.number ∙ ap (λ o. cond (scheduled_in o) 1 0) (sees_get slots sound.distinct key e there)
 
   -- a write that changes no queue
-  pub kept_sound : {next capacity undropped : ℕ} {slots : List (Option (Numbered (Cell P T W)))} {ids : List TaskId}
-      → IsSound next slots ids capacity undropped
+  pub kept_sound : {next undropped : ℕ} {slots : List (Option (Numbered (Cell P T W)))} {ids : List TaskId}
+      → IsSound next slots ids undropped
       → (id : TaskId) (e : Numbered (Cell P T W)) (c : Cell P T W) → get_or slots id.slot None ≡ Some e
       → is_scheduled c.state ≡ is_scheduled e.cell.state → (is_idle c.state || is_held c.state) ≡ (is_idle e.cell.state || is_held e.cell.state) → Settled c
-      → IsSound next (set slots id.slot (Some (record { number = e.number; cell = c }))) ids capacity undropped
-  kept_sound {capacity = capacity} {undropped = undropped} {slots = slots} {ids = ids} sound id e c there same may settled =
-      put_sound sound id.slot e c there ids capacity undropped sound.room (omega arith) settled sound.placed
+      → IsSound next (set slots id.slot (Some (record { number = e.number; cell = c }))) ids undropped
+  kept_sound {undropped = undropped} {slots = slots} {ids = ids} sound id e c there same may settled =
+      put_sound sound id.slot e c there ids undropped (omega arith) settled sound.placed
       (law_at sound id.slot e there ∙ ap (λ b. cond b 1 0) (sym same))
       (λ q far. refl)
       (ap (λ b. undropped + (length ids + cond b 1 0)) (sym may))
 
   -- a write that makes a cell scheduled, and its number is queued
-  pub queued_sound : {next capacity undropped : ℕ} {slots : List (Option (Numbered (Cell P T W)))} {ids later : List TaskId}
-      → IsSound next slots ids capacity undropped
+  pub queued_sound : {next undropped : ℕ} {slots : List (Option (Numbered (Cell P T W)))} {ids later : List TaskId}
+      → IsSound next slots ids undropped
       → (id : TaskId) (e : Numbered (Cell P T W)) (c : Cell P T W) → get_or slots id.slot None ≡ Some e → e.number ≡ id.number
       → is_scheduled e.cell.state ≡ false → is_scheduled c.state ≡ true → (is_idle e.cell.state || is_held e.cell.state) ≡ true → (is_idle c.state || is_held c.state) ≡ false
-      → Settled c → (room : ℕ) → capacity ≡ room → later ≡ ids ++ id ∷ []
-      → IsSound next (set slots id.slot (Some (record { number = e.number; cell = c }))) later room undropped
-  queued_sound {undropped = undropped} {slots = slots} {ids = ids} {later = later} sound id e c there number f0 f1 f2 f3 settled room same_room longer =
+      → Settled c → later ≡ ids ++ id ∷ []
+      → IsSound next (set slots id.slot (Some (record { number = e.number; cell = c }))) later undropped
+  queued_sound {undropped = undropped} {slots = slots} {ids = ids} {later = later} sound id e c there number f0 f1 f2 f3 settled longer =
       let lists : numbers_of later ≡ numbers_of ids ++ e.number ∷ [] = ap numbers_of longer ∙ numbers_of-push ids id ∙ ap (λ n. numbers_of ids ++ n ∷ []) (sym number) in
       let was : times e.number (numbers_of ids) ≡ 0 = law_at sound id.slot e there ∙ ap (λ b. cond b 1 0) f0 in
       let more : times e.number (numbers_of ids ++ e.number ∷ []) ≡ times e.number (numbers_of ids) + 1 = times-push_same e.number (numbers_of ids) in
       let once : times e.number (numbers_of ids ++ e.number ∷ []) ≡ 1 = omega (arith, was, more) in
-      put_sound sound id.slot e c there later room undropped (subst (λ r. undropped ≤ r) same_room sound.room) (omega arith) settled
+      put_sound sound id.slot e c there later undropped (omega arith) settled
       (subst (All (Placed (cells_of slots))) (sym longer) (All-push (Placed (cells_of slots)) ids id sound.placed (seen id.slot e.cell, ap (λ n. map.get (cells_of slots) n) (sym number) ∙ sees_get slots sound.distinct id.slot e there, refl)))
       (ap (times e.number) lists ∙ once ∙ ap (λ b. cond b 1 0) (sym f1))
       (λ q far. ap (times q) lists ∙ times-push_other q e.number (numbers_of ids) far)
@@ -68,17 +68,17 @@ module _ {P T W : Type 0} where
       balance u l k e f g = rw (f, g) (omega arith)
 
   -- a write that takes the first number off the queue
-  pub unqueued_sound : {next capacity undropped : ℕ} {slots : List (Option (Numbered (Cell P T W)))} {ids later : List TaskId}
-      → IsSound next slots ids capacity undropped
+  pub unqueued_sound : {next undropped : ℕ} {slots : List (Option (Numbered (Cell P T W)))} {ids later : List TaskId}
+      → IsSound next slots ids undropped
       → (id : TaskId) (e : Numbered (Cell P T W)) (c : Cell P T W) → get_or slots id.slot None ≡ Some e → e.number ≡ id.number
       → is_scheduled e.cell.state ≡ true → is_scheduled c.state ≡ false → (is_idle e.cell.state || is_held e.cell.state) ≡ false → (is_idle c.state || is_held c.state) ≡ true
-      → Settled c → (room : ℕ) → capacity ≡ room → ids ≡ id ∷ later
-      → IsSound next (set slots id.slot (Some (record { number = e.number; cell = c }))) later room undropped
-  unqueued_sound {undropped = undropped} {slots = slots} {ids = ids} {later = later} sound id e c there number f0 f1 f2 f3 settled room same_room shorter =
+      → Settled c → ids ≡ id ∷ later
+      → IsSound next (set slots id.slot (Some (record { number = e.number; cell = c }))) later undropped
+  unqueued_sound {undropped = undropped} {slots = slots} {ids = ids} {later = later} sound id e c there number f0 f1 f2 f3 settled shorter =
       let was : times e.number (numbers_of ids) ≡ 1 = law_at sound id.slot e there ∙ ap (λ b. cond b 1 0) f0 in
       let front : times e.number (numbers_of ids) ≡ times e.number (numbers_of later) + 1 = ap (λ l. times e.number (numbers_of l)) shorter ∙ times-front_same e.number id.number (numbers_of later) (sym number) in
       let none : times e.number (numbers_of later) ≡ 0 = omega (arith, was, front) in
-      put_sound sound id.slot e c there later room undropped (subst (λ r. undropped ≤ r) same_room sound.room) (omega arith) settled
+      put_sound sound id.slot e c there later undropped (omega arith) settled
       (All-tail (Placed (cells_of slots)) id later (subst (All (Placed (cells_of slots))) shorter sound.placed))
       (none ∙ ap (λ b. cond b 1 0) (sym f1))
       (λ q far. sym (ap (λ l. times q (numbers_of l)) shorter ∙ times-front_other q id.number (numbers_of later) (λ same. far (same ∙ sym number))))
@@ -88,8 +88,8 @@ module _ {P T W : Type 0} where
       balance u l k e f g = rw (f, g) (omega arith)
 
   -- the front of the queue has a scheduled cell in its slot
-  pub front_cell : {next capacity undropped : ℕ} {slots : List (Option (Numbered (Cell P T W)))} {ids later : List TaskId}
-      → IsSound next slots ids capacity undropped
+  pub front_cell : {next undropped : ℕ} {slots : List (Option (Numbered (Cell P T W)))} {ids later : List TaskId}
+      → IsSound next slots ids undropped
       → (id : TaskId) → ids ≡ id ∷ later → (e : Numbered (Cell P T W)) × (get_or slots id.slot None ≡ Some e) × (e.number ≡ id.number) × (is_scheduled e.cell.state ≡ true)
   front_cell {slots = slots} {ids = ids} {later = later} sound id front =
       let placed : Placed (cells_of slots) id = All-head (Placed (cells_of slots)) id later (subst (All (Placed (cells_of slots))) front sound.placed) in

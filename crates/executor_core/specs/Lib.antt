@@ -5,5 +5,6 @@ pub mod Polling
 pub mod Queues
 pub mod Ring
 pub mod Sleepers
+pub mod Slots
 pub mod SpawnError
 pub mod World

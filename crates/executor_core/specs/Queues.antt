@@ -1,4 +1,6 @@
 -- The queues as lists: the global one, and those of the registered runners in order of registration.
+pub mod Lends
+pub mod Slots
 pub mod State
 pub mod View
 use Rattle.std.specs.Prelude.{◌≡◌, ℕ, ◌+◌, ◌-◌, ◌/◌, ◌%◌, ◌==◌, min, nat_lt, Bool, true, false, not, ◌&&◌, List, [], ◌∷◌, ◌++◌, length, map, take, drop, set, cond, Option, Some, None, is_some, slice_get, refl}

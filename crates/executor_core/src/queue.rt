@@ -10,17 +10,18 @@ ghost use Rattle.executor_core.specs.SpawnError.{last_number};
 ghost use Rattle.executor_core.specs.Queues.{entries_at, fair_count, is_registered};
 ghost use Rattle.executor_core.specs.Cells.Law.{queues_of};
 ghost use Rattle.executor_core.specs.Cells.View.{scheduled_slot, TakesOut};
+ghost use Rattle.executor_core.specs.Slots.{HasCell};
 ghost use Rattle.executor_core.specs.Cells.Calls.{after_take, TakesFront, after_search, search_in, TakesFound, after_drain_next, draining, after_fair, after_reserve_runner, after_release_runner, may_register, after_register, after_unregister, unregister_queues};
 
 pub(crate) mod queues;
 pub(crate) mod ring;
 pub(crate) mod runner;
 
-use crate::task::cell::{Cell, Numbered, take_cell};
-use crate::task::{Again, Cells, Held, Notice, Taken, TaskId};
+use crate::queue::queues::Queues;
+use crate::task::cell::take_cell;
+use crate::task::{Again, Cells, Held, Notice, QueuedNumbers, Taken, TaskId};
 pub use ring::{Ring, steal};
 pub use runner::{RunnerError, RunnerKey};
-use slab::Slab;
 
 impl<P, T, W> Cells<P, T, W> {
     /// Takes the task at the global front, or none where the queue is empty. It takes no memory.
@@ -37,7 +38,7 @@ impl<P, T, W> Cells<P, T, W> {
         let Some(id) = self.queues.take_front() else {
             return None;
         };
-        let taken = take_out(&mut self.cells, id);
+        let taken = take_out(&mut self.queues, id);
         Some((taken, Notice { unspent: () }))
     }
 
@@ -80,7 +81,7 @@ impl<P, T, W> Cells<P, T, W> {
         let Some(id) = self.queues.search(key, word) else {
             return None;
         };
-        let taken = take_out(&mut self.cells, id);
+        let taken = take_out(&mut self.queues, id);
         Some((taken, Notice { unspent: () }))
     }
 
@@ -156,11 +157,20 @@ impl<P, T, W> Cells<P, T, W> {
         self.queues.global_len()
     }
 
-    /// The number of the task at this place of the global queue, the front being 0.
+    /// The number of the task at this place of the global queue, the front being 0. It makes a step for
+    /// each task before it: `global_numbers` is for the whole queue.
     pub fn global_at(&self, i: usize) -> Option<u64>
         ensures { result ≡ slice_get self.now.global i }
     {
         self.queues.global_at(i)
+    }
+
+    /// The numbers of the tasks in the global queue, from the front on. It takes no memory, and makes
+    /// one step for each number.
+    pub fn global_numbers(&self) -> QueuedNumbers<'_, P, T, W>
+        ensures { result ≡ self.now.global }
+    {
+        self.queues.global_numbers()
     }
 
     /// How many runners are registered.
@@ -186,11 +196,13 @@ impl<P, T, W> Cells<P, T, W> {
 }
 
 // Takes the task out of its cell, which is scheduled.
-fn take_out<P, T, W>(cells: &mut Slab<Numbered<Cell<P, T, W>>>, id: TaskId) -> Taken<P>
-    requires { scheduled_slot (slice_index_or cells.old.slots id.slot None) ≡ true }
-    ensures { TakesOut cells.old.slots cells.new.slots id result }
+fn take_out<P, T, W>(queues: &mut Queues<P, T, W>, id: TaskId) -> Taken<P>
+    requires there { HasCell queues.old.slots id }
+    requires scheduled { scheduled_slot (slice_index_or queues.old.slots id.slot None) ≡ true }
+    ensures slots { TakesOut queues.old.slots queues.new.slots id result }
+    ensures state { queues.new.state ≡ queues.old.state }
 {
-    let (future, cancelled) = take_cell(&mut cells[id.slot].cell);
+    let (future, cancelled) = take_cell(queues.cell_mut(id));
     let held = Held { id, to_drop: false };
     Taken {
         id,

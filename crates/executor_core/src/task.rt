@@ -46,6 +46,7 @@ pub(crate) mod future;
 pub(crate) mod handles;
 pub(crate) mod id;
 pub(crate) mod polling;
+pub(crate) mod slots;
 pub(crate) mod table;
 pub(crate) mod values;
 
@@ -54,5 +55,6 @@ pub use future::{Future, Poll, Wake};
 pub use handles::PollHandle;
 pub use id::TaskId;
 pub use polling::{Polled, Poller, Ran, run_taken};
+pub use slots::QueuedNumbers;
 pub use table::{Cells, EndPending, EndReady};
 pub use values::{Again, Change, Held, Notice, Pick, Taken, Wakeup};

@@ -10,26 +10,17 @@ use std::alloc::Global;
 /// So many runners that each table of theirs grows more than once.
 const RUNNERS: u64 = 5;
 
-// Nobody sleeps, so nobody is to be notified.
-fn spend(notice: Notice) {
+/// Nobody sleeps, so nobody is to be notified.
+pub fn spend(notice: Notice) {
     match FlagValue::new().exchange(notice) {
         None => {}
         Some(_) => unreachable!(),
     }
 }
 
-// A table, made again where that is refused.
-fn new_cells(alloc: Global, outcome: &mut Outcome) -> Option<Cells<u8, (), ()>> {
-    if let Ok(cells) = Cells::new(alloc) {
-        return Some(cells);
-    }
-    count(&mut outcome.cells_new);
-    Cells::new(alloc).ok()
-}
-
 /// Spawns a task in a table, and again where that is refused: with the same number.
 pub fn spawn_task(alloc: Global, outcome: &mut Outcome) {
-    let Some(mut cells) = new_cells(alloc, outcome) else {
+    let Ok(mut cells) = Cells::<u8, (), ()>::new(alloc) else {
         return outcome.expect(false);
     };
     let future = match cells.spawn(7) {
@@ -52,7 +43,7 @@ pub fn spawn_task(alloc: Global, outcome: &mut Outcome) {
 
 /// Reserves places for runners in a table, each again where that is refused: no number is lost.
 pub fn reserve_runners(alloc: Global, outcome: &mut Outcome) {
-    let Some(mut cells) = new_cells(alloc, outcome) else {
+    let Ok(mut cells) = Cells::<u8, (), ()>::new(alloc) else {
         return outcome.expect(false);
     };
     let mut last = None;
@@ -84,18 +75,9 @@ pub fn reserve_place(alloc: Global, outcome: &mut Outcome) {
     }
 }
 
-// A core, made again where that is refused.
-fn new_core(alloc: Global, outcome: &mut Outcome) -> Option<Core<(), (), ()>> {
-    if let Ok(core) = Core::new(alloc) {
-        return Some(core);
-    }
-    count(&mut outcome.core_new);
-    Core::new(alloc).ok()
-}
-
 /// Reserves a sleeper's place in a core, and again where that is refused.
 pub fn reserve_in_core(alloc: Global, outcome: &mut Outcome) {
-    let Some(mut core) = new_core(alloc, outcome) else {
+    let Ok(mut core) = Core::<(), (), ()>::new(alloc) else {
         return outcome.expect(false);
     };
     if core.reserve().is_err() {

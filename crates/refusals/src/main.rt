@@ -4,6 +4,7 @@
 #![tactic(auto)]
 
 mod core_calls;
+mod growth;
 mod outcome;
 mod rooms;
 mod running;
@@ -36,15 +37,16 @@ fn main(rt: HostRuntime) -> io::Result<ExitCode> {
     if let Some((sleepers, runners)) = rooms::keep_rooms(&rt, alloc, &mut outcome) {
         println!(rt; "room for {sleepers} sleepers and {runners} runners")?;
     }
+    if let Some((spawns, inserts)) = growth::count_requests(alloc, &mut outcome) {
+        println!(rt; "requests for memory: {spawns} of the spawns, {inserts} of the inserts")?;
+    }
     let wrong = outcome.wrong.saturating_add(refused.wrong);
     println!(rt;
-        "refused: Cells::new {}, Cells::spawn {}, Cells::reserve_runner {}, Ring::new {}, Sleepers::reserve {}, Core::new {}, Core::reserve {}, World::new {}, World::run {}, World::step {}, Executor::new {}, Executor::spawn {}, Executor::spawn_many {}, Executor::tick {}, Executor::run {}, block_on {}, JoinAll::new {}, Signal::new {}, Signal::waiting {}, bounded {}, Sender::copy {}, Receiver::copy {}, lists {}, steps {}, orders {}; wrong: {}",
-        outcome.cells_new,
+        "refused: Cells::spawn {}, Cells::reserve_runner {}, Ring::new {}, Sleepers::reserve {}, Core::reserve {}, World::new {}, World::run {}, World::step {}, Executor::new {}, Executor::spawn {}, Executor::spawn_many {}, Executor::tick {}, Executor::run {}, block_on {}, JoinAll::new {}, Signal::new {}, Signal::waiting {}, bounded {}, Sender::copy {}, Receiver::copy {}, lists {}, steps {}, orders {}; wrong: {}",
         outcome.cells_spawn,
         outcome.cells_reserve_runner,
         outcome.ring_new,
         outcome.sleepers_reserve,
-        outcome.core_new,
         outcome.core_reserve,
         outcome.world_new,
         outcome.world_run,

@@ -4,12 +4,10 @@
 /// and how many answers were wrong.
 #[derive(Drop)]
 pub struct Outcome {
-    pub cells_new: u32,
     pub cells_spawn: u32,
     pub cells_reserve_runner: u32,
     pub ring_new: u32,
     pub sleepers_reserve: u32,
-    pub core_new: u32,
     pub core_reserve: u32,
     pub world_new: u32,
     pub world_run: u32,
@@ -28,12 +26,10 @@ impl Outcome {
     /// Nothing was refused, and nothing wrong.
     pub fn new() -> Outcome {
         Outcome {
-            cells_new: 0,
             cells_spawn: 0,
             cells_reserve_runner: 0,
             ring_new: 0,
             sleepers_reserve: 0,
-            core_new: 0,
             core_reserve: 0,
             world_new: 0,
             world_run: 0,

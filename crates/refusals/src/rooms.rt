@@ -19,7 +19,8 @@ const MOST: usize = 100;
 /// For so many sleepers there is room at first, which is more than there is for runners.
 const SLEEPERS: usize = 20;
 
-fn order(alloc: Global, request: usize) -> bool {
+/// Orders that this request be refused, of those that follow; none where it is 0.
+pub fn order(alloc: Global, request: usize) -> bool {
     Ring::new(alloc, ORDER.saturating_add(request)).is_ok()
 }
 
@@ -27,8 +28,8 @@ fn is_ring_refused(alloc: Global) -> bool {
     Ring::new(alloc, 1).is_err()
 }
 
-// Whether the library takes orders. If it does not, it refuses one of these requests at most.
-fn takes_orders(alloc: Global, outcome: &mut Outcome) -> bool {
+/// Whether the library takes orders. If it does not, it refuses one of these requests at most.
+pub fn takes_orders(alloc: Global, outcome: &mut Outcome) -> bool {
     let refused = [
         !order(alloc, 1),
         is_ring_refused(alloc),

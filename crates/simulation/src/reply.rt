@@ -78,31 +78,29 @@ fn separator(place: usize) -> &'static str {
     if place > 0 { ", " } else { "" }
 }
 
-// The global queue, or that of the runner at this position.
+// The global queue.
 #[derive(Drop)]
-struct QueueText<'a>(&'a Cells<(), u64, ()>, Option<usize>);
+struct GlobalText<'a>(&'a Cells<(), u64, ()>);
 
-impl QueueText<'_> {
-    fn len(&self) -> usize {
-        match self.1 {
-            None => self.0.global_len(),
-            Some(runner) => self.0.local_len(runner).unwrap_or(0),
+impl fmt::Display for GlobalText<'_> {
+    fn fmt<W: fmt::Write>(&self, f: &mut fmt::Formatter<W>) -> fmt::Result {
+        f.write_str("[")?;
+        for (place, n) in self.0.global_numbers().enumerate() {
+            write!(f, "{}{n}", separator(place))?;
         }
-    }
-
-    fn number_at(&self, place: usize) -> Option<u64> {
-        match self.1 {
-            None => self.0.global_at(place),
-            Some(runner) => self.0.local_at(runner, place),
-        }
+        f.write_str("]")
     }
 }
 
-impl fmt::Display for QueueText<'_> {
+// The queue of the runner at this position.
+#[derive(Drop)]
+struct LocalText<'a>(&'a Cells<(), u64, ()>, usize);
+
+impl fmt::Display for LocalText<'_> {
     fn fmt<W: fmt::Write>(&self, f: &mut fmt::Formatter<W>) -> fmt::Result {
         f.write_str("[")?;
-        for place in 0..self.len() {
-            if let Some(n) = self.number_at(place) {
+        for place in 0..self.0.local_len(self.1).unwrap_or(0) {
+            if let Some(n) = self.0.local_at(self.1, place) {
                 write!(f, "{}{n}", separator(place))?;
             }
         }
@@ -136,9 +134,9 @@ impl fmt::Display for CountsText<'_> {
 impl fmt::Display for StateText<'_> {
     fn fmt<W: fmt::Write>(&self, f: &mut fmt::Formatter<W>) -> fmt::Result {
         let cells = self.0.cells();
-        write!(f, "global {} locals [", QueueText(cells, None))?;
+        write!(f, "global {} locals [", GlobalText(cells))?;
         for runner in 0..cells.runners() {
-            write!(f, "{}{}", separator(runner), QueueText(cells, Some(runner)))?;
+            write!(f, "{}{}", separator(runner), LocalText(cells, runner))?;
         }
         write!(f, "] {}", CountsText(self.0))
     }

@@ -94,13 +94,12 @@ module _ {P T W : Type 0} where
   abbrev pub Settled : Cell P T W → Type 0
   Settled c = is_undropped c.state ≡ false → (c.awaiter ≡ None) × (c.has_handle ≡ true)
 
-  -- the slots, the ids of all queues, the room of the global one, and the count of undropped futures fit together
-  pub record IsSound (next : ℕ) (slots : List (Option (Numbered (Cell P T W)))) (ids : List TaskId) (capacity undropped : ℕ) : Type 0 where
+  -- the slots, the ids of all queues, and the count of undropped futures fit together
+  pub record IsSound (next : ℕ) (slots : List (Option (Numbered (Cell P T W)))) (ids : List TaskId) (undropped : ℕ) : Type 0 where
     pub below : (i : ℕ) (c : Numbered (Cell P T W)) → slice_index_or slots i None ≡ Some c → c.number < next
     pub distinct : Distinct slots
     pub placed : All (Placed (cells_of slots)) ids
     pub law : ScheduledOnce (cells_of slots) (numbers_of ids)
     pub settled : (i : ℕ) (c : Numbered (Cell P T W)) → slice_index_or slots i None ≡ Some c → Settled c.cell
     pub counted : undropped ≡ length ids + count_by is_queueable slots
-    pub room : undropped ≤ capacity
     pub numbered : undropped ≤ next

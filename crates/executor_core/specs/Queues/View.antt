@@ -2,18 +2,16 @@
 use Rattle.std.specs.Prelude.{◌≡◌, ℕ, ◌+◌, ◌≤◌, List, length, map, Some, slice_get}
 use Rattle.executor_core.specs.Queues.{RunnerQueue}
 use Rattle.executor_core.specs.Queues.State.{QueueState}
-use Rattle.executor_core.specs.Ring.{IdRing}
 use Rattle.executor_core.specs.declared.queue.queues.LocalQueue.{LocalQueue}
 use Rattle.executor_core.specs.declared.task.id.TaskId.{TaskId}
 
 abbrev pub local_of : LocalQueue → RunnerQueue TaskId
 local_of l = record { runner = l.runner; entries = l.ring.ids; capacity = l.ring.capacity }
 
-abbrev pub state_of : IdRing → List LocalQueue → ℕ → ℕ → QueueState
+abbrev pub state_of : List TaskId → List LocalQueue → ℕ → ℕ → QueueState
 state_of global locals next_runner free_places =
     record {
-      lists = record { global = global.ids; locals = map local_of locals };
-      room = global.capacity;
+      lists = record { global = global; locals = map local_of locals };
       next_runner = next_runner;
       free_places = free_places;
     }

@@ -1,22 +1,28 @@
 //! All queues of the cells: the global one, and one for each registered runner.
 //!
-//! The global queue has room for every future that is not dropped, reserved as a task is spawned,
-//! so a task that is queued there takes no memory. A runner's queue is a ring of its own, which the
-//! runner brings when it registers; places for runners are reserved before.
+//! The global queue is linked through the slots of the cells, which therefore stand here, and a task
+//! that is queued there takes no memory. A runner's queue is a ring of its own, which the runner
+//! brings when it registers; places for runners are reserved before.
 //!
 //! A runner finds its queue where it stood the last time: `positions` keeps that for each runner,
 //! and is only a hint. Where the queue stands there no more, since another runner left, it is looked
 //! for.
-ghost use Rattle.std.specs.Prelude.{◌≡◌, ◌≢◌, ◌+◌, ◌-◌, ◌<◌, ◌≤◌, ◌↔◌, ◌&&◌, ◌++◌, nat_lt, not, true, false, is_some, cond, [], ◌==◌, map, drop, IfOk, IfErr, IsOk, IsErr, OnOk, OnErr, length, option_map, unwrap_or, slice_get};
+ghost use Rattle.std.specs.Prelude.{◌≡◌, ◌≢◌, ◌+◌, ◌-◌, ◌<◌, ◌≤◌, ◌^◌, ◌↔◌, ◌&&◌, ◌∷◌, ◌++◌, nat_lt, not, true, false, is_some, cond, [], Some, None, ◌==◌, map, drop, IfOk, IfErr, IsOk, IsErr, OnOk, OnErr, length, option_copied, option_map, unwrap_or, slice_get, slice_index_or, slice_set};
 ghost use Rattle.std.specs.List.{position, find, range_with_len};
 ghost use Rattle.executor_core.specs.SpawnError.{last_number};
-ghost use Rattle.executor_core.specs.Queues.{all_entries, position_of, is_registered, search_global, search, gives, victim, fair, fair_count, registered, unregistered, unregistered_at, stolen_between, stolen_locals, global_stolen, stolen, with_entries, entries_at, capacity_at, entries_of, emptied, local_entries, gathered};
+ghost use Rattle.executor_core.specs.Queues.{position_of, is_registered, search_global, search, gives, victim, fair, fair_count, registered, unregistered, unregistered_at, stolen_between, stolen_locals, global_stolen, stolen, with_entries, entries_at, capacity_at, entries_of, emptied, local_entries, gathered};
 ghost use Rattle.executor_core.specs.Queues.View.{local_of};
 ghost use Rattle.executor_core.specs.Queues.State.{no_queues, with_lists, pushed};
+ghost use Rattle.executor_core.specs.Queues.Slots.{with_state};
+ghost use Rattle.executor_core.specs.Slots.{Changes, HasCell, IsQueue, numbered, with_queue};
+ghost use Rattle.executor_core.specs.Cell.Changes.{new_cell};
+ghost use Rattle.std.specs.Borrow.{sem};
 
-use crate::queue::ring::{Ring, move_first, steal};
+use crate::queue::ring::{Ring, steal};
 use crate::queue::runner::{RunnerError, RunnerKey};
-use crate::task::{Notice, OutOfMemory, TaskId};
+use crate::task::cell::{Cell, Numbered};
+use crate::task::slots::{QueuedNumbers, Slots};
+use crate::task::{Notice, TaskId};
 use std::alloc::{AllocError, Global};
 use std::marker::Model;
 
@@ -29,11 +35,11 @@ struct LocalQueue {
 
 /// The queues, and the places that are reserved for runners.
 ///
-/// A contract sees it as a `QueueState`: the queues as lists of ids, for how many ids the global
-/// one has room, the number of the next runner, and how many reserved places are free.
+/// A contract sees it as `QueuedSlots`: what each slot has, and a `QueueState` with the queues as
+/// lists of ids, the number of the next runner, and how many reserved places are free.
 #[derive(Drop)]
-pub(crate) struct Queues {
-    global: Ring,
+pub(crate) struct Queues<P, T, W> {
+    slots: Slots<P, T, W>,
     // In order of registration.
     locals: Vec<LocalQueue>,
     next_runner: u64,
@@ -42,85 +48,138 @@ pub(crate) struct Queues {
     positions: Vec<usize>,
 }
 
-impl Model for Queues {
-    ghost use Rattle.executor_core.specs.Queues.State.{QueueState, queue_state_code};
+impl<P, T, W> Model for Queues<P, T, W> {
+    ghost use Rattle.executor_core.specs.Queues.Slots.{QueuedSlots, queued_slots_code};
 
-    ghost Value = { QueueState };
+    ghost Value = { QueuedSlots P T W };
 
-    ghost coded = { queue_state_code };
+    ghost coded = { queued_slots_code P.code T.code W.code };
 
     ghost use Rattle.std.specs.Vec.{vec_capacity};
     ghost use Rattle.executor_core.specs.Queues.View.{state_of, IsQueues};
 
-    ghost view = { λ q. state_of q.global q.locals.items q.next_runner q.free_places };
+    ghost view = { λ q. record { slots = q.slots.slots; state = state_of q.slots.queue q.locals.items q.next_runner q.free_places } };
 
-    ghost invariant = { λ q. IsQueues (state_of q.global q.locals.items q.next_runner q.free_places) (vec_capacity q.locals) };
+    ghost invariant = { λ q. IsQueues (state_of q.slots.queue q.locals.items q.next_runner q.free_places) (vec_capacity q.locals) };
 }
 
-// The global queue.
-impl Queues {
-    // No task is queued, and no runner is registered.
-    pub(crate) fn new(alloc: Global) -> Result<Self, OutOfMemory>
-        ensures { IfOk result (λ queues. queues ≡ no_queues) }
+// The slots and their cells.
+impl<P, T, W> Queues<P, T, W> {
+    ghost use Rattle.executor_core.specs.Queues.Lends.{lends_cell};
+
+    // No task is there, and no runner is registered.
+    pub(crate) fn new(alloc: Global) -> Self
+        ensures { result ≡ record { slots = []; state = no_queues } }
     {
-        Ok(Queues {
-            global: Ring::new(alloc, 0)?,
+        Queues {
+            slots: Slots::new(alloc),
             locals: Vec::new(alloc),
             next_runner: 0,
             free_places: 0,
             positions: Vec::new(alloc),
-        })
-    }
-
-    // Room at the global end for one task beside this many. The room doubles, so that the ring is
-    // seldom moved. Where there is room, nothing is refused.
-    #[inline(always)]
-    pub(crate) fn reserve_beside(&mut self, others: usize) -> Result<(), OutOfMemory>
-        requires queued { length self.old.lists.global ≤ others }
-        requires within { others ≤ self.old.room }
-        ensures same { self.new ≡ record self.old { room = self.new.room } }
-        ensures room { self.old.room ≤ self.new.room }
-        ensures ok { OnOk result (others + 1 ≤ self.new.room) }
-        ensures refused { OnErr result ((self.old.room ≡ others) × (self.new ≡ self.old)) }
-    {
-        if others < self.global.capacity() {
-            return Ok(());
         }
-        self.global.grow((others + 1).saturating_mul(2))
     }
 
+    // As many slots as there are, or more.
+    pub(crate) fn capacity(&self) -> usize
+        ensures { length self.now.slots ≤ result }
+    {
+        self.slots.capacity()
+    }
+
+    // The cell in this slot, with its number.
+    pub(crate) fn get(&self, slot: usize) -> Option<&Numbered<Cell<P, T, W>>>
+        ensures { option_copied result ≡ slice_index_or self.now.slots slot None }
+    {
+        self.slots.get(slot)
+    }
+
+    // The cell of the task.
+    pub(crate) fn cell(&self, id: TaskId) -> &Cell<P, T, W>
+        requires { HasCell self.now.slots id }
+        ensures { slice_index_or self.now.slots id.slot None ≡ Some (numbered id result.now) }
+    {
+        self.slots.cell(id)
+    }
+
+    // The cell of the task, for a change of it.
+    pub(crate) fn cell_mut(&mut self, id: TaskId) -> &mut Cell<P, T, W>
+        requires { HasCell self.old.slots id }
+        ensures* writes_back { sem 𝓛 (lends_cell P.row T.row W.row self.entry id result) }
+        ensures value { slice_index_or self.old.slots id.slot None ≡ Some (numbered id result.now) }
+    {
+        self.slots.cell_mut(id)
+    }
+
+    // Makes the cell of a new task of this future, and queues the task at the global end. Where a
+    // growth was refused, the future comes back. Nobody queues a task without its notice, which comes
+    // from here.
+    #[inline(always)]
+    pub(crate) fn insert(&mut self, number: u64, future: P) -> Result<(TaskId, Notice), P>
+        requires { length self.old.state.lists.global + 1 < 2 ^ 64 }
+        ensures number { IfOk result (λ r. r.0.number ≡ number) }
+        ensures vacant { IfOk result (λ r. slice_index_or self.old.slots r.0.slot None ≡ None) }
+        ensures slots { IfOk result (λ r. Changes self.old.slots self.new.slots r.0.slot (Some (record { number = number; cell = new_cell future }))) }
+        ensures state { IfOk result (λ r. self.new.state ≡ with_lists (pushed r.0 self.old.state.lists) self.old.state) }
+        ensures refused { IfErr result (λ back. (back ≡ future) × (self.new ≡ self.old)) }
+    {
+        let id = self.slots.insert(number, future)?;
+        Ok((id, Notice { unspent: () }))
+    }
+
+    // Takes the cell of the task away, which stands in no global queue.
+    pub(crate) fn remove(&mut self, id: TaskId) -> Cell<P, T, W>
+        requires there { HasCell self.old.slots id }
+        requires unqueued { IsQueue (slice_set self.old.slots id.slot None) self.old.state.lists.global }
+        ensures value { slice_index_or self.old.slots id.slot None ≡ Some (numbered id result) }
+        ensures slots { self.new ≡ record self.old { slots = slice_set self.old.slots id.slot None } }
+    {
+        self.slots.remove(id)
+    }
+}
+
+// The global queue.
+impl<P, T, W> Queues<P, T, W> {
     // Queues the task at the global end. Nobody queues a task without its notice, which comes from
     // here.
     pub(crate) fn push(&mut self, id: TaskId) -> Notice
-        requires { length self.old.lists.global < self.old.room }
-        ensures { self.new ≡ with_lists (pushed id self.old.lists) self.old }
+        requires queue { IsQueue self.old.slots (self.old.state.lists.global ++ id ∷ []) }
+        requires counted { length self.old.state.lists.global + 1 < 2 ^ 64 }
+        ensures slots { self.new.slots ≡ self.old.slots }
+        ensures lists { self.new.state ≡ with_lists (pushed id self.old.state.lists) self.old.state }
     {
-        let Ok(()) = self.global.push(id) else {
-            unreachable!()
-        };
+        self.slots.push(id);
         Notice { unspent: () }
     }
 
     // Takes the task at the global front.
     pub(crate) fn take_front(&mut self) -> Option<TaskId>
-        ensures front { result ≡ (search_global self.old.lists).0 }
-        ensures rest { self.new ≡ with_lists (search_global self.old.lists).1 self.old }
+        ensures front { result ≡ (search_global self.old.state.lists).0 }
+        ensures slots { self.new.slots ≡ self.old.slots }
+        ensures rest { self.new.state ≡ with_lists (search_global self.old.state.lists).1 self.old.state }
     {
-        self.global.pop()
+        self.slots.pop()
     }
 
     // How many tasks stand in the global queue.
     pub(crate) fn global_len(&self) -> usize
-        ensures { result ≡ length self.now.lists.global }
+        ensures { result ≡ length self.now.state.lists.global }
     {
-        self.global.len()
+        self.slots.len()
     }
 
     // The number of the task at this place of the global queue, the front being 0.
     pub(crate) fn global_at(&self, place: usize) -> Option<u64>
-        ensures { result ≡ option_map (λ id. id.number) (slice_get self.now.lists.global place) }
+        ensures { result ≡ option_map (λ id. id.number) (slice_get self.now.state.lists.global place) }
     {
-        self.global.number_at(place)
+        self.slots.number_at(place)
+    }
+
+    // The numbers of the tasks in the global queue, from the front on.
+    pub(crate) fn global_numbers(&self) -> QueuedNumbers<'_, P, T, W>
+        ensures { result ≡ map (λ id. id.number) self.now.state.lists.global }
+    {
+        self.slots.numbers()
     }
 }
 
@@ -157,28 +216,29 @@ fn steal_within(locals: &mut [LocalQueue], from: usize, to: usize)
     }
 }
 
-// Moves all that stands in these queues to the end of the target, one queue after another.
-fn move_all(locals: &mut [LocalQueue], target: &mut Ring)
-    requires { length target.old.ids + length (local_entries (map local_of locals.old)) ≤ target.old.capacity }
+// Moves all that stands in these queues to the global end, one queue after another.
+fn move_all<P, T, W>(locals: &mut [LocalQueue], slots: &mut Slots<P, T, W>)
+    requires queue { IsQueue slots.old.slots (slots.old.queue ++ local_entries (map local_of locals.old)) }
+    requires counted { length slots.old.queue + length (local_entries (map local_of locals.old)) < 2 ^ 64 }
     ensures locals { map local_of locals.new ≡ map emptied (map local_of locals.old) }
-    ensures target { target.new ≡ record target.old { ids = target.old.ids ++ local_entries (map local_of locals.old) } }
+    ensures queue { slots.new ≡ with_queue (slots.old.queue ++ local_entries (map local_of locals.old)) slots.old }
 {
     for position in 0..locals.len() {
-        let ring = &mut locals[position].ring;
-        let count = ring.len();
-        move_first(ring, target, count);
+        slots.append(&mut locals[position].ring);
     }
 }
 
 // The places of the runners.
-impl Queues {
+impl<P, T, W> Queues<P, T, W> {
     // One place more, and the key of a new runner.
     pub(crate) fn reserve_runner(&mut self) -> Result<RunnerKey, RunnerError>
-        ensures ok { IfOk result (λ key. self.new ≡ record self.old { next_runner = self.old.next_runner + 1; free_places = self.old.free_places + 1 }) }
-        ensures key { IfOk result (λ key. key.number ≡ self.old.next_runner) }
+        ensures slots { self.new.slots ≡ self.old.slots }
+        ensures lists { self.new.state.lists ≡ self.old.state.lists }
+        ensures ok { IfOk result (λ key. self.new ≡ with_state (record self.old.state { next_runner = self.old.state.next_runner + 1; free_places = self.old.state.free_places + 1 }) self.old) }
+        ensures key { IfOk result (λ key. key.number ≡ self.old.state.next_runner) }
         ensures refused { OnErr result (self.new ≡ self.old) }
-        ensures cause { IfErr result (λ error. (error ≡ RunnerError.Exhausted) ↔ (self.old.next_runner ≡ last_number)) }
-        ensures exhausted { self.old.next_runner ≡ last_number → IsErr result }
+        ensures cause { IfErr result (λ error. (error ≡ RunnerError.Exhausted) ↔ (self.old.state.next_runner ≡ last_number)) }
+        ensures exhausted { self.old.state.next_runner ≡ last_number → IsErr result }
     {
         if self.next_runner == u64::MAX {
             return Err(RunnerError::Exhausted);
@@ -207,7 +267,9 @@ impl Queues {
 
     // Gives a free place back, unless the runner is registered.
     pub(crate) fn release_runner(&mut self, key: RunnerKey)
-        ensures { self.new ≡ cond (is_registered key.number self.old.lists.locals) self.old (record self.old { free_places = self.old.free_places - 1 }) }
+        ensures slots { self.new.slots ≡ self.old.slots }
+        ensures lists { self.new.state.lists ≡ self.old.state.lists }
+        ensures places { self.new ≡ cond (is_registered key.number self.old.state.lists.locals) self.old (with_state (record self.old.state { free_places = self.old.state.free_places - 1 }) self.old) }
     {
         if self.find(key).is_none() && self.free_places > 0 {
             self.free_places -= 1;
@@ -217,8 +279,8 @@ impl Queues {
     // Makes the ring the runner's queue, the last in order of registration.
     pub(crate) fn register(&mut self, key: RunnerKey, ring: Ring) -> Result<(), Ring>
         requires { ring.ids ≡ [] }
-        ensures variant { IsOk result ↔ ((nat_lt 0 self.old.free_places && not (is_registered key.number self.old.lists.locals)) ≡ true) }
-        ensures ok { OnOk result (self.new ≡ record (with_lists (registered key.number ring.capacity self.old.lists) self.old) { free_places = self.old.free_places - 1 }) }
+        ensures variant { IsOk result ↔ ((nat_lt 0 self.old.state.free_places && not (is_registered key.number self.old.state.lists.locals)) ≡ true) }
+        ensures ok { OnOk result (self.new ≡ with_state (record (with_lists (registered key.number ring.capacity self.old.state.lists) self.old.state) { free_places = self.old.state.free_places - 1 }) self.old) }
         ensures refused { IfErr result (λ back. (back ≡ ring) × (self.new ≡ self.old)) }
     {
         if self.free_places == 0 || self.find(key).is_some() {
@@ -234,9 +296,11 @@ impl Queues {
 
     // Takes the runner's queue and its place away. What stood there goes to the global end.
     pub(crate) fn unregister(&mut self, key: RunnerKey) -> Option<Notice>
-        requires room { length (all_entries self.old.lists) ≤ self.old.room }
-        ensures lists { self.new ≡ with_lists (unregistered key.number self.old.lists) self.old }
-        ensures notice { is_some result ≡ nat_lt 0 (length (entries_of key.number self.old.lists.locals)) }
+        requires queue { IsQueue self.old.slots (self.old.state.lists.global ++ entries_of key.number self.old.state.lists.locals) }
+        requires counted { length (self.old.state.lists.global ++ entries_of key.number self.old.state.lists.locals) < 2 ^ 64 }
+        ensures slots { self.new.slots ≡ self.old.slots }
+        ensures lists { self.new.state ≡ with_lists (unregistered key.number self.old.state.lists) self.old.state }
+        ensures notice { is_some result ≡ nat_lt 0 (length (entries_of key.number self.old.state.lists.locals)) }
     {
         let position = self.find(key)?;
         if self.remove_local(position) == 0 {
@@ -248,36 +312,40 @@ impl Queues {
     // The queue at this position goes, and what stood there goes to the global end. Says how many
     // tasks that are.
     fn remove_local(&mut self, position: usize) -> usize
-        requires within { position < length self.old.lists.locals }
-        requires room { length (all_entries self.old.lists) ≤ self.old.room }
-        ensures lists { self.new ≡ with_lists (unregistered_at (Some position) self.old.lists) self.old }
-        ensures count { result ≡ length (entries_at position self.old.lists.locals) }
+        requires within { position < length self.old.state.lists.locals }
+        requires queue { IsQueue self.old.slots (self.old.state.lists.global ++ entries_at position self.old.state.lists.locals) }
+        requires counted { length (self.old.state.lists.global ++ entries_at position self.old.state.lists.locals) < 2 ^ 64 }
+        ensures slots { self.new.slots ≡ self.old.slots }
+        ensures lists { self.new.state ≡ with_lists (unregistered_at (Some position) self.old.state.lists) self.old.state }
+        ensures count { result ≡ length (entries_at position self.old.state.lists.locals) }
     {
         let LocalQueue {
             runner: _,
             mut ring,
         } = self.locals.remove(position);
         let count = ring.len();
-        move_first(&mut ring, &mut self.global, count);
+        self.slots.append(&mut ring);
         count
     }
 
     // All that stands in the runners' queues goes to the global end, in order of registration. Says
     // whether there was something.
     pub(crate) fn gather(&mut self) -> bool
-        requires { length (all_entries self.old.lists) ≤ self.old.room }
-        ensures lists { self.new ≡ with_lists (gathered self.old.lists) self.old }
-        ensures moved { result ≡ nat_lt 0 (length (local_entries self.old.lists.locals)) }
+        requires queue { IsQueue self.old.slots (self.old.state.lists.global ++ local_entries self.old.state.lists.locals) }
+        requires counted { length (self.old.state.lists.global ++ local_entries self.old.state.lists.locals) < 2 ^ 64 }
+        ensures slots { self.new.slots ≡ self.old.slots }
+        ensures lists { self.new.state ≡ with_lists (gathered self.old.state.lists) self.old.state }
+        ensures moved { result ≡ nat_lt 0 (length (local_entries self.old.state.lists.locals)) }
     {
-        let before = self.global.len();
-        move_all(&mut self.locals, &mut self.global);
-        self.global.len() > before
+        let before = self.slots.len();
+        move_all(&mut self.locals, &mut self.slots);
+        self.slots.len() > before
     }
 
     // At which position the runner's queue stands.
     fn find(&mut self, key: RunnerKey) -> Option<usize>
         ensures same { self.new ≡ self.old }
-        ensures found { result ≡ position_of key.number self.old.lists.locals }
+        ensures found { result ≡ position_of key.number self.old.state.lists.locals }
     {
         if self.positions.is_empty() {
             return self.look_for(key);
@@ -294,25 +362,26 @@ impl Queues {
 
     // The same, where nobody knows where it stood.
     fn look_for(&self, key: RunnerKey) -> Option<usize>
-        ensures { result ≡ position_of key.number self.now.lists.locals }
+        ensures { result ≡ position_of key.number self.now.state.lists.locals }
     {
         position_in(&self.locals, key.number)
     }
 
     // Whether the runner has a queue.
     pub(crate) fn is_registered(&self, key: RunnerKey) -> bool
-        ensures { result ≡ is_registered key.number self.now.lists.locals }
+        ensures { result ≡ is_registered key.number self.now.state.lists.locals }
     {
         self.look_for(key).is_some()
     }
 }
 
 // What a runner does.
-impl Queues {
+impl<P, T, W> Queues<P, T, W> {
     // Takes the task that the runner's search with this word finds.
     pub(crate) fn search(&mut self, key: RunnerKey, word: u64) -> Option<TaskId>
-        ensures found { result ≡ (search key.number word self.old.lists).0 }
-        ensures lists { self.new ≡ with_lists (search key.number word self.old.lists).1 self.old }
+        ensures found { result ≡ (search key.number word self.old.state.lists).0 }
+        ensures slots { self.new.slots ≡ self.old.slots }
+        ensures lists { self.new.state ≡ with_lists (search key.number word self.old.state.lists).1 self.old.state }
     {
         let Some(own) = self.find(key) else {
             return self.take_front();
@@ -331,27 +400,29 @@ impl Queues {
 
     // Takes the task at the front of the queue at this position.
     fn take_local(&mut self, own: usize) -> Option<TaskId>
-        requires { own < length self.old.lists.locals }
-        ensures front { result ≡ slice_get (entries_at own self.old.lists.locals) 0 }
-        ensures rest { self.new ≡ with_lists (record self.old.lists { locals = with_entries own (drop 1 (entries_at own self.old.lists.locals)) self.old.lists.locals }) self.old }
+        requires { own < length self.old.state.lists.locals }
+        ensures front { result ≡ slice_get (entries_at own self.old.state.lists.locals) 0 }
+        ensures slots { self.new.slots ≡ self.old.slots }
+        ensures rest { self.new.state ≡ with_lists (record self.old.state.lists { locals = with_entries own (drop 1 (entries_at own self.old.state.lists.locals)) self.old.state.lists.locals }) self.old.state }
     {
         self.locals[own].ring.pop()
     }
 
     // Moves half of the global queue to the one at this position, and says how many tasks that are.
     fn steal_global(&mut self, own: usize) -> usize
-        requires { own < length self.old.lists.locals }
-        ensures lists { self.new ≡ with_lists (global_stolen own self.old.lists) self.old }
-        ensures count { result ≡ stolen self.old.lists.global (entries_at own self.old.lists.locals) (capacity_at own self.old.lists.locals) }
+        requires { own < length self.old.state.lists.locals }
+        ensures slots { self.new.slots ≡ self.old.slots }
+        ensures lists { self.new.state ≡ with_lists (global_stolen own self.old.state.lists) self.old.state }
+        ensures count { result ≡ stolen self.old.state.lists.global (entries_at own self.old.state.lists.locals) (capacity_at own self.old.state.lists.locals) }
     {
-        steal(&mut self.global, &mut self.locals[own].ring)
+        self.slots.steal(&mut self.locals[own].ring)
     }
 
     // The first of the other queues, in the order in which a search with this word visits them, from
     // which the one at this position can steal.
     fn find_victim(&self, own: usize, word: u64) -> Option<usize>
-        requires { own < length self.now.lists.locals }
-        ensures { result ≡ victim own word self.now.lists.locals }
+        requires { own < length self.now.state.lists.locals }
+        ensures { result ≡ victim own word self.now.state.lists.locals }
     {
         if self.locals[own].ring.capacity() == 0 {
             return None;
@@ -366,8 +437,8 @@ impl Queues {
 
     // The first of the other queues in which a task stands, from one position up to another.
     fn find_queued(&self, own: usize, start: usize, end: usize) -> Option<usize>
-        requires { end ≤ length self.now.lists.locals }
-        ensures { result ≡ find (gives own self.now.lists.locals) (range_with_len start (end - start)) }
+        requires { end ≤ length self.now.state.lists.locals }
+        ensures { result ≡ find (gives own self.now.state.lists.locals) (range_with_len start (end - start)) }
     {
         for other in start..end {
             if self.gives(own, other) {
@@ -379,26 +450,28 @@ impl Queues {
 
     // Whether this is the position of another queue in which a task stands.
     fn gives(&self, own: usize, other: usize) -> bool
-        requires { other < length self.now.lists.locals }
-        ensures { result ≡ gives own self.now.lists.locals other }
+        requires { other < length self.now.state.lists.locals }
+        ensures { result ≡ gives own self.now.state.lists.locals other }
     {
         other != own && !self.locals[other].ring.is_empty()
     }
 
     // Moves half of the queue at one position to the queue at another.
     fn steal_between(&mut self, from: usize, to: usize)
-        requires from { from < length self.old.lists.locals }
-        requires to { to < length self.old.lists.locals }
+        requires from { from < length self.old.state.lists.locals }
+        requires to { to < length self.old.state.lists.locals }
         requires apart { from ≢ to }
-        ensures { self.new ≡ with_lists (stolen_between from to self.old.lists) self.old }
+        ensures slots { self.new.slots ≡ self.old.slots }
+        ensures lists { self.new.state ≡ with_lists (stolen_between from to self.old.state.lists) self.old.state }
     {
         steal_within(&mut self.locals, from, to);
     }
 
     // Moves half of the global queue to the runner's own, and says how many tasks that are.
     pub(crate) fn fair(&mut self, key: RunnerKey) -> usize
-        ensures lists { self.new ≡ with_lists (fair key.number self.old.lists) self.old }
-        ensures count { result ≡ fair_count key.number self.old.lists }
+        ensures slots { self.new.slots ≡ self.old.slots }
+        ensures lists { self.new.state ≡ with_lists (fair key.number self.old.state.lists) self.old.state }
+        ensures count { result ≡ fair_count key.number self.old.state.lists }
     {
         match self.find(key) {
             Some(own) => self.steal_global(own),
@@ -408,14 +481,14 @@ impl Queues {
 
     // How many runners are registered.
     pub(crate) fn runners(&self) -> usize
-        ensures { result ≡ length self.now.lists.locals }
+        ensures { result ≡ length self.now.state.lists.locals }
     {
         self.locals.len()
     }
 
     // How many tasks stand in the queue at this position.
     pub(crate) fn local_len(&self, position: usize) -> Option<usize>
-        ensures { result ≡ option_map (λ q. length q.entries) (slice_get self.now.lists.locals position) }
+        ensures { result ≡ option_map (λ q. length q.entries) (slice_get self.now.state.lists.locals position) }
     {
         match self.locals.get(position) {
             Some(local) => Some(local.ring.len()),
@@ -425,7 +498,7 @@ impl Queues {
 
     // The number of the task at this place of the queue at this position.
     pub(crate) fn local_at(&self, position: usize, place: usize) -> Option<u64>
-        ensures { result ≡ option_map (λ id. id.number) (slice_get (entries_at position self.now.lists.locals) place) }
+        ensures { result ≡ option_map (λ id. id.number) (slice_get (entries_at position self.now.state.lists.locals) place) }
     {
         match self.locals.get(position) {
             Some(local) => local.ring.number_at(place),

@@ -1,5 +1,5 @@
 //! A ring of task ids, and what a steal moves between two of them.
-ghost use Rattle.std.specs.Prelude.{◌≡◌, ◌+◌, ◌^◌, ◌<◌, ◌↔◌, ◌∷◌, ◌++◌, [], length, take, drop, slice_get, IfOk, IfErr, IsOk, OnOk, OnErr, option_map, ◌≤◌, ◌==◌};
+ghost use Rattle.std.specs.Prelude.{◌≡◌, ◌+◌, ◌^◌, ◌<◌, ◌↔◌, ◌∷◌, ◌++◌, [], length, take, drop, slice_get, IfOk, IfErr, IsOk, OnOk, option_map, ◌≤◌, ◌==◌};
 ghost use Rattle.executor_core.specs.Queues.{stolen};
 
 use crate::task::{OutOfMemory, TaskId};
@@ -85,16 +85,6 @@ impl Ring {
         }
     }
 
-    // Room for so many ids, which moves the ring.
-    pub(crate) fn grow(&mut self, capacity: usize) -> Result<(), OutOfMemory>
-        requires { length self.old.ids ≤ capacity }
-        ensures ok { OnOk result (self.new ≡ record self.old { capacity = capacity }) }
-        ensures refused { OnErr result (self.new ≡ self.old) }
-    {
-        self.ids.resize(capacity)?;
-        Ok(())
-    }
-
     /// For how many ids there is room.
     pub fn capacity(&self) -> usize
         ensures capacity { result ≡ self.now.capacity }
@@ -120,7 +110,7 @@ pub fn steal(source: &mut Ring, target: &mut Ring) -> usize
 }
 
 // Moves so many ids from the front of the source to the end of the target, in order.
-pub(crate) fn move_first(source: &mut Ring, target: &mut Ring, count: usize)
+fn move_first(source: &mut Ring, target: &mut Ring, count: usize)
     requires there { count ≤ length source.old.ids }
     requires room { length target.old.ids + count ≤ target.old.capacity }
     ensures source { source.new ≡ record source.old { ids = drop count source.old.ids } }

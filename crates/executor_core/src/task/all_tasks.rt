@@ -1,16 +1,15 @@
 //! The calls that change every task at once.
 //!
-//! Each is one change of the table. It visits the slots once, and takes no memory: the global queue
-//! has room for every future that is not dropped.
-ghost use Rattle.std.specs.Prelude.{◌≡◌, ◌+◌, ◌≤◌, nat_lt, length, map, is_some, count_by, slice_index_or, slice_set, None};
+//! Each is one change of the table. It visits the slots once, and takes no memory.
+ghost use Rattle.std.specs.Prelude.{◌≡◌, ◌<◌, ◌^◌, ◌++◌, nat_lt, length, map, is_some, slice_index_or, slice_set, None};
 ghost use Rattle.executor_core.specs.Queues.State.{with_lists, pushed_all};
-ghost use Rattle.executor_core.specs.Cells.View.{is_queueable, change_by, changed_slot, idle_id, idle_ids};
+ghost use Rattle.executor_core.specs.Slots.{IsQueue};
+ghost use Rattle.executor_core.specs.Cells.View.{change_by, changed_slot, idle_id, idle_ids};
 ghost use Rattle.executor_core.specs.Cells.Calls.{SlotsDiffer, after_wake_all, wake_all_queues, after_close, close_queues};
 
 use crate::queue::queues::Queues;
-use crate::task::cell::{Cell, Numbered, cancel_cell, wake_cell};
+use crate::task::cell::{cancel_cell, wake_cell};
 use crate::task::{Cells, Notice, TaskId};
-use slab::Slab;
 
 impl<P, T, W> Cells<P, T, W> {
     /// Wakes every task, by rising slot: an idle one is scheduled at the global end, and one whose
@@ -23,7 +22,7 @@ impl<P, T, W> Cells<P, T, W> {
         ensures notice { is_some result ≡ wake_all_queues self.old }
         ensures slots { SlotsDiffer self.old }
     {
-        let idle = change_all(&mut self.cells, &mut self.queues, false);
+        let idle = change_all(&mut self.queues, false);
         Notice::of(idle)
     }
 
@@ -40,7 +39,7 @@ impl<P, T, W> Cells<P, T, W> {
         ensures slots { SlotsDiffer self.old }
     {
         self.closed = true;
-        let idle = change_all(&mut self.cells, &mut self.queues, true);
+        let idle = change_all(&mut self.queues, true);
         let moved = self.queues.gather();
         Notice::of(idle | moved)
     }
@@ -48,19 +47,16 @@ impl<P, T, W> Cells<P, T, W> {
 
 // Cancels each task, or wakes it, by rising slot, and queues the idle ones at the global end. Says
 // whether one was idle.
-fn change_all<P, T, W>(
-    cells: &mut Slab<Numbered<Cell<P, T, W>>>,
-    queues: &mut Queues,
-    cancels: bool,
-) -> bool
-    requires { length queues.old.lists.global + count_by is_queueable cells.old.slots ≤ queues.old.room }
-    ensures slots { cells.new.slots ≡ map (changed_slot (change_by cancels)) cells.old.slots }
-    ensures queues { queues.new ≡ with_lists (pushed_all (idle_ids 0 cells.old.slots) queues.old.lists) queues.old }
-    ensures idle { result ≡ nat_lt 0 (length (idle_ids 0 cells.old.slots)) }
+fn change_all<P, T, W>(queues: &mut Queues<P, T, W>, cancels: bool) -> bool
+    requires queue { IsQueue queues.old.slots (queues.old.state.lists.global ++ idle_ids 0 queues.old.slots) }
+    requires counted { length (queues.old.state.lists.global ++ idle_ids 0 queues.old.slots) < 2 ^ 64 }
+    ensures slots { queues.new.slots ≡ map (changed_slot (change_by cancels)) queues.old.slots }
+    ensures state { queues.new.state ≡ with_lists (pushed_all (idle_ids 0 queues.old.slots) queues.old.state.lists) queues.old.state }
+    ensures idle { result ≡ nat_lt 0 (length (idle_ids 0 queues.old.slots)) }
 {
     let mut idle = false;
-    for slot in 0..cells.capacity() {
-        if let Some(id) = change_slot(cells, slot, cancels) {
+    for slot in 0..queues.capacity() {
+        if let Some(id) = change_slot(queues, slot, cancels) {
             queues.push(id).keep();
             idle = true;
         }
@@ -69,25 +65,21 @@ fn change_all<P, T, W>(
 }
 
 // Cancels the task in this slot, or wakes it. Gives its id where it was idle.
-fn change_slot<P, T, W>(
-    cells: &mut Slab<Numbered<Cell<P, T, W>>>,
-    slot: usize,
-    cancels: bool,
-) -> Option<TaskId>
-    ensures slots { cells.new.slots ≡ slice_set cells.old.slots slot (changed_slot (change_by cancels) (slice_index_or cells.old.slots slot None)) }
-    ensures idle { result ≡ idle_id slot (slice_index_or cells.old.slots slot None) }
+fn change_slot<P, T, W>(queues: &mut Queues<P, T, W>, slot: usize, cancels: bool) -> Option<TaskId>
+    ensures slots { queues.new.slots ≡ slice_set queues.old.slots slot (changed_slot (change_by cancels) (slice_index_or queues.old.slots slot None)) }
+    ensures state { queues.new.state ≡ queues.old.state }
+    ensures idle { result ≡ idle_id slot (slice_index_or queues.old.slots slot None) }
 {
-    let entry = cells.get_mut(slot)?;
+    let number = queues.get(slot)?.number;
+    let id = TaskId { number, slot };
+    let cell = queues.cell_mut(id);
     let idle = if cancels {
-        cancel_cell(&mut entry.cell)
+        cancel_cell(cell)
     } else {
-        wake_cell(&mut entry.cell)
+        wake_cell(cell)
     };
     if !idle {
         return None;
     }
-    Some(TaskId {
-        number: entry.number,
-        slot,
-    })
+    Some(id)
 }

@@ -7,7 +7,7 @@ ghost use Rattle.std.specs.Prelude.{◌≡◌, is_some, not};
 ghost use Rattle.executor_core.specs.Cells.Calls.{after_cancel, cancel_queues, after_detach, detach_answer, after_poll_handle, poll_answer, finished_in, undropped_in, cell_at};
 
 use crate::task::cell::{
-    Numbered, await_cell, cancel_cell, detach_cell, has_future, is_finished_cell, output_of_ended,
+    await_cell, cancel_cell, detach_cell, has_future, is_finished_cell, output_of_ended,
 };
 use crate::task::id::TaskId;
 use crate::task::table::Cells;
@@ -36,11 +36,11 @@ impl<P, T, W> Cells<P, T, W> {
         if !self.has_handle(id) {
             return PollHandle::Cancelled(waker);
         }
-        if has_future(&self.cells[id.slot].cell) {
-            let before = await_cell(&mut self.cells[id.slot].cell, waker);
+        if has_future(self.queues.cell(id)) {
+            let before = await_cell(self.queues.cell_mut(id), waker);
             return PollHandle::Pending(before);
         }
-        let Numbered { number: _, cell } = self.cells.remove(id.slot);
+        let cell = self.queues.remove(id);
         match output_of_ended(cell) {
             Some(output) => PollHandle::Output(output, waker),
             None => PollHandle::Cancelled(waker),
@@ -60,7 +60,7 @@ impl<P, T, W> Cells<P, T, W> {
         if !self.has_handle(id) {
             return None;
         }
-        if !cancel_cell(&mut self.cells[id.slot].cell) {
+        if !cancel_cell(self.queues.cell_mut(id)) {
             return None;
         }
         Some(self.queues.push(id))
@@ -79,11 +79,11 @@ impl<P, T, W> Cells<P, T, W> {
         if !self.has_handle(id) {
             return (None, None);
         }
-        if has_future(&self.cells[id.slot].cell) {
-            let awaiter = detach_cell(&mut self.cells[id.slot].cell);
+        if has_future(self.queues.cell(id)) {
+            let awaiter = detach_cell(self.queues.cell_mut(id));
             return (None, awaiter);
         }
-        let Numbered { number: _, cell } = self.cells.remove(id.slot);
+        let cell = self.queues.remove(id);
         (output_of_ended(cell), None)
     }
 

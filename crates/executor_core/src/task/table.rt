@@ -6,13 +6,12 @@ ghost use Rattle.executor_core.specs.Cells.Law.{LockLaw};
 
 use crate::queue::queues::Queues;
 use crate::task::cell::{
-    Cell, Numbered, awaiter_of_held, dispose_cell, has_future, is_held, keeps_future, new_cell,
-    pend_cell, ready_cell, takes_back, wake_cell,
+    Cell, awaiter_of_held, dispose_cell, has_future, is_held, keeps_future, pend_cell, ready_cell,
+    takes_back, wake_cell,
 };
 use crate::task::error::{OutOfMemory, SpawnError};
 use crate::task::id::TaskId;
 use crate::task::values::{Held, Notice, Wakeup};
-use slab::Slab;
 use std::alloc::Global;
 use std::marker::Model;
 
@@ -40,8 +39,7 @@ pub enum EndPending<P> {
 #[derive(Drop)]
 pub struct Cells<P, T, W> {
     pub(crate) next: u64,
-    pub(crate) cells: Slab<Numbered<Cell<P, T, W>>>,
-    pub(crate) queues: Queues,
+    pub(crate) queues: Queues<P, T, W>,
     pub(crate) undropped: usize,
     pub(crate) closed: bool,
 }
@@ -56,9 +54,9 @@ impl<P, T, W> Model for Cells<P, T, W> {
     ghost use Rattle.executor_core.specs.Cells.View.{table_of, IsSound};
     ghost use Rattle.executor_core.specs.Queues.{all_entries};
 
-    ghost view = { λ a. table_of a.next a.cells.slots a.queues a.closed };
+    ghost view = { λ a. table_of a.next a.queues.slots a.queues.state a.closed };
 
-    ghost invariant = { λ a. IsSound a.next a.cells.slots (all_entries a.queues.lists) a.queues.room a.undropped };
+    ghost invariant = { λ a. IsSound a.next a.queues.slots (all_entries a.queues.state.lists) a.undropped };
 }
 
 impl<P, T, W> Cells<P, T, W> {
@@ -66,7 +64,7 @@ impl<P, T, W> Cells<P, T, W> {
     ///
     /// # Errors
     ///
-    /// `OutOfMemory` where the memory of the global queue was refused.
+    /// None: nothing is reserved here.
     pub fn new(alloc: Global) -> Result<Self, OutOfMemory>
         ensures { IfOk result (λ cells. cells ≡ empty_table 0) }
     {
@@ -77,11 +75,9 @@ impl<P, T, W> Cells<P, T, W> {
     pub fn first_number(alloc: Global, first: u64) -> Result<Self, OutOfMemory>
         ensures { IfOk result (λ cells. cells ≡ empty_table first) }
     {
-        let queues = Queues::new(alloc)?;
         Ok(Cells {
             next: first,
-            cells: Slab::new(alloc),
-            queues,
+            queues: Queues::new(alloc),
             undropped: 0,
             closed: false,
         })
@@ -105,18 +101,11 @@ impl<P, T, W> Cells<P, T, W> {
         if self.next == u64::MAX {
             return Err(SpawnError::Exhausted(future));
         }
-        if self.cells.reserve(1).is_err() {
-            return Err(SpawnError::OutOfMemory(future));
-        }
-        if self.queues.reserve_beside(self.undropped).is_err() {
-            return Err(SpawnError::OutOfMemory(future));
-        }
-        let number = self.next;
-        let cell = new_cell(future);
-        let slot = self.cells.insert_reserved(Numbered { number, cell });
-        let id = TaskId { number, slot };
-        let notice = self.queues.push(id);
-        self.next = number + 1;
+        let (id, notice) = match self.queues.insert(self.next, future) {
+            Ok(made) => made,
+            Err(future) => return Err(SpawnError::OutOfMemory(future)),
+        };
+        self.next += 1;
         self.undropped += 1;
         Ok((id, notice))
     }
@@ -131,7 +120,7 @@ impl<P, T, W> Cells<P, T, W> {
         if !self.has_cell(id) {
             return None;
         }
-        if !wake_cell(&mut self.cells[id.slot].cell) {
+        if !wake_cell(self.queues.cell_mut(id)) {
             return None;
         }
         Some(self.queues.push(id))
@@ -149,7 +138,7 @@ impl<P, T, W> Cells<P, T, W> {
         if !self.takes_back(id) {
             return EndPending::Drop(future, Held { id, to_drop: true });
         }
-        if !pend_cell(&mut self.cells[id.slot].cell, future) {
+        if !pend_cell(self.queues.cell_mut(id), future) {
             return EndPending::Back(None);
         }
         EndPending::Back(Some(self.queues.push(id)))
@@ -172,11 +161,11 @@ impl<P, T, W> Cells<P, T, W> {
             };
         }
         self.undropped -= 1;
-        if self.cells[id.slot].cell.has_handle {
-            let (awaiter, unwanted) = ready_cell(&mut self.cells[id.slot].cell, output);
+        if self.queues.cell(id).has_handle {
+            let (awaiter, unwanted) = ready_cell(self.queues.cell_mut(id), output);
             return EndReady { awaiter, unwanted };
         }
-        let Numbered { number: _, cell } = self.cells.remove(id.slot);
+        let cell = self.queues.remove(id);
         EndReady {
             awaiter: awaiter_of_held(cell),
             unwanted: Some(output),
@@ -198,10 +187,10 @@ impl<P, T, W> Cells<P, T, W> {
             return None;
         }
         self.undropped -= 1;
-        if self.cells[id.slot].cell.has_handle {
-            return dispose_cell(&mut self.cells[id.slot].cell);
+        if self.queues.cell(id).has_handle {
+            return dispose_cell(self.queues.cell_mut(id));
         }
-        let Numbered { number: _, cell } = self.cells.remove(id.slot);
+        let cell = self.queues.remove(id);
         awaiter_of_held(cell)
     }
 
@@ -272,7 +261,7 @@ impl<P, T, W> Cells<P, T, W> {
     pub(crate) fn cell_at(&self, id: TaskId) -> Option<&Cell<P, T, W>>
         ensures { option_copied result ≡ cell_at self.now id }
     {
-        match self.cells.get(id.slot) {
+        match self.queues.get(id.slot) {
             Some(entry) if entry.number == id.number => Some(&entry.cell),
             _ => None,
         }

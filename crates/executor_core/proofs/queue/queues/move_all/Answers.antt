@@ -1,45 +1,69 @@
-use Rattle.std.proofs.Common.{◌<◌, ◌≤◌, ◌++◌, length, map, get_or, sym, ap, ◌∙◌, arith}
+use Rattle.std.proofs.Common.{◌+◌, ◌<◌, ◌++◌, length, map, get_or, append-nil, append_assoc, sym, ap, subst, ◌∙◌, arith}
 use Rattle.std.proofs.lemmas.Option.{slice_get-get_or}
-use Rattle.std.proofs.lemmas.List.{length-map}
+use Rattle.std.proofs.lemmas.List.{length-map, length-append}
 use Rattle.executor_core.specs.Queues.View.{local_of}
-use Rattle.executor_core.proofs.GatherLemmas.{with_ids, emptied_below-start, emptied_below-all, entries_below-start, entries_below-all, next_room, next_locals, next_target, no_move}
+use Rattle.executor_core.specs.Slots.{IsQueue, with_queue}
+use Rattle.executor_core.proofs.LinkLemmas.{prefix_queue}
+use Rattle.executor_core.proofs.GatherLemmas.{entries_below, emptied_below-start, emptied_below-all, entries_below-start, entries_below-all, entries_parts, next_locals, next_queued}
 use Rattle.executor_core.proofs.queue.queues.move_all.Goals as goal
 
 pub loop-position-init : goal.loop-position-init
-loop-position-init c =
+loop-position-init g c =
     let first = map local_of c.args.locals.now in (
       sym (emptied_below-start first),
-      sym (ap (λ ids. with_ids c.args.target.now (c.args.target.now.ids ++ ids)) (entries_below-start first) ∙ no_move c.args.target.now),
+      sym (ap (λ ids. with_queue (c.args.slots.now.queue ++ ids) c.args.slots.now) (entries_below-start first) ∙ ap (λ ids. with_queue ids c.args.slots.now) (append-nil c.args.slots.now.queue)),
     )
 
-pub move_first-requires-clause-room : goal.move_first-requires-clause-room
-move_first-requires-clause-room c =
-    let at = c.loop-position in
-    let within : at.position < length at.locals = omega arith in
-    next_room at.position (map local_of c.args.locals.now) at.locals (get_or at.locals at.position c.index-locals-position.result) at.invariant.0 (slice_get-get_or at.locals at.position c.index-locals-position.result within)
-    c.args.target.now c.len-count.ensures.len c.requires at.invariant.1
-
-pub loop-position-preserved : goal.loop-position-preserved
-loop-position-preserved c =
+pub append-requires-clause-queue : goal.append-requires-clause-queue
+append-requires-clause-queue g c =
     let at = c.loop-position in
     let first = map local_of c.args.locals.now in
+    let queue = c.args.slots.now.queue in
+    let within : at.position < length at.locals = omega arith in
+    let there = slice_get-get_or at.locals at.position c.index-locals-position.result within in
+    let parts = entries_parts (at.position + 1) first in
+    let whole = ap (λ l. queue ++ l) parts.1 ∙ sym (append_assoc queue (entries_below (at.position + 1) first) parts.0) in
+    rw (at.invariant.1, next_queued at.position first at.locals _ at.invariant.0 there queue)
+    (prefix_queue c.args.slots.now.slots (queue ++ entries_below (at.position + 1) first) parts.0 (subst (IsQueue c.args.slots.now.slots) whole c.requires.queue))
+
+pub append-requires-clause-counted : goal.append-requires-clause-counted
+append-requires-clause-counted g c =
+    let at = c.loop-position in
+    let first = map local_of c.args.locals.now in
+    let queue = c.args.slots.now.queue in
+    let l = get_or at.locals at.position c.index-locals-position.result in
+    let within : at.position < length at.locals = omega arith in
+    let there = slice_get-get_or at.locals at.position c.index-locals-position.result within in
+    let parts = entries_parts (at.position + 1) first in
+    let next = ap length (next_queued at.position first at.locals l at.invariant.0 there queue) ∙ length-append queue (entries_below (at.position + 1) first) in
+    let now = ap (λ s. length s.queue) at.invariant.1 in
+    let both = length-append (queue ++ entries_below at.position first) l.ring.ids in
+    let all = ap length parts.1 ∙ length-append (entries_below (at.position + 1) first) parts.0 in
+    let room = c.requires.counted in
+    omega arith
+
+pub loop-position-preserved : goal.loop-position-preserved
+loop-position-preserved g c =
+    let at = c.loop-position in
+    let first = map local_of c.args.locals.now in
+    let queue = c.args.slots.now.queue in
     let l = get_or at.locals at.position c.index-locals-position.result in
     let within : at.position < length at.locals = omega arith in
     let there = slice_get-get_or at.locals at.position c.index-locals-position.result within in (
-      next_locals at.position first at.locals l at.invariant.0 there c.len-count.ensures.len c.move_first.ensures.source,
-      next_target at.position first at.locals l at.invariant.0 there c.args.target.now c.len-count.ensures.len at.invariant.1 c.move_first.ensures.target,
+      next_locals at.position first at.locals l at.invariant.0 there c.append.ensures.ring,
+      c.append.ensures.queue ∙ ap (λ s. with_queue (s.queue ++ l.ring.ids) s) at.invariant.1 ∙ ap (λ ids. with_queue ids c.args.slots.now) (next_queued at.position first at.locals l at.invariant.0 there queue),
     )
 
 pub returns-clause-locals : goal.returns-clause-locals
-returns-clause-locals c =
+returns-clause-locals g c =
     let at = c.loop-position in
     let first = map local_of c.args.locals.now in
     let same = length-map c.args.locals.now local_of in
     at.invariant.0 ∙ emptied_below-all at.position first (omega arith)
 
-pub returns-clause-target : goal.returns-clause-target
-returns-clause-target c =
+pub returns-clause-queue : goal.returns-clause-queue
+returns-clause-queue g c =
     let at = c.loop-position in
     let first = map local_of c.args.locals.now in
     let same = length-map c.args.locals.now local_of in
-    at.invariant.1 ∙ ap (λ ids. with_ids c.args.target.now (c.args.target.now.ids ++ ids)) (entries_below-all at.position first (omega arith))
+    at.invariant.1 ∙ ap (λ ids. with_queue (c.args.slots.now.queue ++ ids) c.args.slots.now) (entries_below-all at.position first (omega arith))

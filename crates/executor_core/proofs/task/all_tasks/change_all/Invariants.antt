@@ -7,7 +7,7 @@ use Rattle.executor_core.proofs.task.all_tasks.change_all.Given as goal
 
 abbrev pub invariant-loop-slot : goal.invariant-loop-slot
 invariant-loop-slot g l =
-    (l.cells.slots ≡ changed_below (change_by l.cancels) l.slot l.fn.cells.slots)
-    × (l.queues ≡ with_lists (pushed_all (idle_below 0 l.slot l.fn.cells.slots) l.fn.queues.lists) l.fn.queues)
-    × (l.idle ≡ nat_lt 0 (length (idle_below 0 l.slot l.fn.cells.slots)))
-    × (length l.fn.cells.slots ≤ l.slot-end)
+    (l.queues.slots ≡ changed_below (change_by l.cancels) l.slot l.fn.queues.slots)
+    × (l.queues.state ≡ with_lists (pushed_all (idle_below 0 l.slot l.fn.queues.slots) l.fn.queues.state.lists) l.fn.queues.state)
+    × (l.idle ≡ nat_lt 0 (length (idle_below 0 l.slot l.fn.queues.slots)))
+    × (length l.fn.queues.slots ≤ l.slot-end)

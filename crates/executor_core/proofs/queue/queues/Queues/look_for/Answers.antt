@@ -10,8 +10,8 @@ use Rattle.executor_core.proofs.QueueLemmas.{position-map}
 use Rattle.executor_core.proofs.queue.queues.Queues.look_for.Goals as goal
 
 pub returns : goal.returns
-returns c =
+returns g c =
     c.position_in.ensures
     ∙ ap (position (λ (l : LocalQueue). l.runner == c.args.key.number)) c.deref.ensures.value
     ∙ sym (position-map local_of (λ (q : RunnerQueue TaskId). q.runner == c.args.key.number) c.self.inside.locals.items)
-    ∙ ap (λ (s : QueueState). position_of c.args.key.number s.lists.locals) c.self.view_is
+    ∙ ap (λ (s : QueueState). position_of c.args.key.number s.lists.locals) (ap (λ s. s.state) c.self.view_is)

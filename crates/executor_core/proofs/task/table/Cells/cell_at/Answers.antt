@@ -14,6 +14,6 @@ returns-in_default g c =
     elim c.in_default.branch [
       | in_default-via-in-Some+else-entry-id w ↦
           ap (λ b. cond b (Some w.in-Some.entry.now.cell) None) (sym (ne_eqb _ _ w.if-entry-id.false))
-          ∙ cell_at_read c.self.invariant c.self.inside.queues c.self.view_is c.args.id w.in-Some.ensures
-      | in_default-via-in_default w ↦ cell_at_read c.self.invariant c.self.inside.queues c.self.view_is c.args.id w.in_default.ensures
+          ∙ cell_at_read c.self.invariant c.self.inside.queues.state c.self.view_is c.args.id w.in-Some.ensures
+      | in_default-via-in_default w ↦ cell_at_read c.self.invariant c.self.inside.queues.state c.self.view_is c.args.id w.in_default.ensures
     ]

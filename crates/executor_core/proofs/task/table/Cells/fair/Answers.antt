@@ -9,15 +9,15 @@ use Rattle.executor_core.proofs.task.table.Cells.fair.Goals as goal
 
 pub invariant_of-self : goal.invariant_of-self
 invariant_of-self g c =
-    rw c.fair.ensures.lists (sound_permuted c.self.invariant (fair-permutes c.args.key.number c.self.inside.queues.lists))
+    rw (c.fair.ensures.slots, c.fair.ensures.lists) (sound_permuted c.self.invariant (fair-permutes c.args.key.number c.self.inside.queues.state.lists))
 
 pub returns-clause-table : goal.returns-clause-table
 returns-clause-table g c =
-    let table = table_of c.self.inside.next c.self.inside.cells.slots c.self.inside.queues c.self.inside.closed in
-    rw (c.fair.ensures.lists, ← c.self.view_is) (ap (λ l. with_queues l table) (sym (fair-map (λ id. id.number) c.args.key.number c.self.inside.queues.lists)))
+    let table = table_of c.self.inside.next c.self.inside.queues.slots c.self.inside.queues.state c.self.inside.closed in
+    rw (c.fair.ensures.slots, c.fair.ensures.lists, ← c.self.view_is) (ap (λ l. with_queues l table) (sym (fair-map (λ id. id.number) c.args.key.number c.self.inside.queues.state.lists)))
 
 pub returns-clause-count : goal.returns-clause-count
 returns-clause-count g c =
     c.fair.ensures.count
-    ∙ sym (fair_count-map (λ id. id.number) c.args.key.number c.self.inside.queues.lists)
+    ∙ sym (fair_count-map (λ id. id.number) c.args.key.number c.self.inside.queues.state.lists)
     ∙ ap (λ s. fair_count c.args.key.number (queues_of s)) c.self.view_is

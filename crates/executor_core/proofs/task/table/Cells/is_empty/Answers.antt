@@ -8,6 +8,6 @@ use Rattle.executor_core.proofs.task.table.Cells.is_empty.Goals as goal
 
 pub returns : goal.returns
 returns g c = (
-  λ zero. subst AllDropped c.self.view_is (all_dropped (subst (λ u. IsSound c.self.inside.next c.self.inside.cells.slots (all_entries c.self.inside.queues.lists) c.self.inside.queues.room u) (eqb-true c.self.inside.undropped 0 zero) c.self.invariant) c.self.inside.queues c.self.inside.closed),
-  λ dropped. eq-eqb c.self.inside.undropped 0 (none_undropped c.self.invariant c.self.inside.queues c.self.inside.closed (subst AllDropped (sym c.self.view_is) dropped)),
+  λ zero. subst AllDropped c.self.view_is (all_dropped (subst (λ u. IsSound c.self.inside.next c.self.inside.queues.slots (all_entries c.self.inside.queues.state.lists) u) (eqb-true c.self.inside.undropped 0 zero) c.self.invariant) c.self.inside.queues.state c.self.inside.closed),
+  λ dropped. eq-eqb c.self.inside.undropped 0 (none_undropped c.self.invariant c.self.inside.queues.state c.self.inside.closed (subst AllDropped (sym c.self.view_is) dropped)),
 )

@@ -6,5 +6,5 @@ use Rattle.executor_core.proofs.task.table.Cells.is_registered.Goals as goal
 pub returns : goal.returns
 returns g c =
     c.is_registered.ensures
-    ∙ sym (is_registered-map (λ id. id.number) c.args.key.number c.self.inside.queues.lists.locals)
+    ∙ sym (is_registered-map (λ id. id.number) c.args.key.number c.self.inside.queues.state.lists.locals)
     ∙ ap (λ t. is_registered c.args.key.number t.locals) c.self.view_is

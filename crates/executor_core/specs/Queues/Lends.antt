@@ -1,0 +1,13 @@
+-- What the queues and the slots end as, where a `&mut` to one of the cells is returned.
+use Rattle.std.specs.Borrow.{Lends, Fml, RattleType, MutBor}
+use Rattle.executor_core.specs.Queues.Slots.{QueuedSlots}
+use Rattle.executor_core.specs.Slots.{put_cell}
+use Rattle.executor_core.specs.declared.task.cell.Cell.{Cell}
+use Rattle.executor_core.specs.declared.task.id.TaskId.{TaskId}
+use Rattle.executor_core.specs.contracts.queue.queues.Queues.{the_row}
+use Rattle.executor_core.specs.contracts.task.cell.Cell.{the_row as cell_row}
+
+module _ (P T W : RattleType) (s : MutBor (QueuedSlots P.Denot T.Denot W.Denot)) (id : TaskId) where
+  -- once the borrow r ends, the id's slot has the last cell written through r
+  abbrev pub lends_cell : MutBor (Cell P.Denot T.Denot W.Denot) → Fml
+  lends_cell r = Lends (the_row P T W) (cell_row P T W) s r (λ c. record s.now { slots = put_cell s.now.slots id c })
