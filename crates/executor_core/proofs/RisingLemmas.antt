@@ -1,7 +1,7 @@
 -- The order by rising slot.
-use Rattle.std.proofs.Common.{◌≡◌, ◌≢◌, ℕ, zero, suc, ◌+◌, ◌<◌, ◌≤◌, ◌==◌, ◌&&◌, Bool, true, false, not, List, [], ◌∷◌, Option, Some, None, cond, refl, sym, ap, subst, ◌∙◌, inl, inr, arith}
-use Rattle.std.specs.Prelude.{nat_lt, T as Holds, slice_get, option_map, map as list_map}
-use Rattle.std.specs.List.{filter, cons_option}
+use Rattle.std.proofs.Common.{◌≡◌, ◌≢◌, ℕ, zero, suc, ◌+◌, ◌<◌, ◌≤◌, ◌==◌, ◌&&◌, Bool, true, false, not, List, [], ◌∷◌, length, Option, Some, None, cond, refl, sym, ap, subst, ◌∙◌, inl, inr, arith}
+use Rattle.std.specs.Prelude.{nat_lt, T as Holds, count_by, slice_get, option_map, map as list_map}
+use Rattle.std.specs.List.{filter, filter_map, cons_option}
 use Rattle.std.specs.Ordering.{nat_cmp, is_lt}
 use Rattle.std.specs.Cmp.{nat_cmp_total}
 use Rattle.std.proofs.lemmas.Cmp.{tied_itself}
@@ -9,17 +9,18 @@ use Rattle.std.specs.FinMap as map
 use Rattle.std.specs.FinMap.Entries.{find, put, by_order, is_sorted, below_all}
 use Rattle.std.specs.declared.cmp.Ordering.{Ordering}
 use Rattle.std.specs.declared.cmp.Ordering.TheVariants.{Less, Equal, Greater}
-use Rattle.std.proofs.lemmas.Bool.{cases_eq, eq-eqb, ne_eqb, ltb-true, ltb-false, lt-ltb, le-ltb}
+use Rattle.std.proofs.lemmas.Bool.{cases_eq, cases_Bool, eq-eqb, ne_eqb, ltb-true, ltb-false, lt-ltb, le-ltb}
 use Rattle.std.proofs.lemmas.List.Sums.{sum_by-cons}
 use Rattle.executor_core.specs.Numbers.{times}
 use Rattle.executor_core.specs.Cells.{Slotted, Table}
 use Rattle.executor_core.specs.Cells.Calls.{insert_by_slot, by_slot, rising, SlotsDiffer, SlotsRise}
-use Rattle.executor_core.specs.Cell.{is_idle}
-use Rattle.executor_core.specs.Cells.View.{seen, by_number, cells_of, Distinct, idle_ids, numbers_of}
+use Rattle.executor_core.specs.Cell.{is_idle, is_undropped}
+use Rattle.executor_core.specs.Cells.View.{seen, by_number, cells_of, Distinct, idle_ids, numbers_of, undropped_number, IsSound}
 use Rattle.executor_core.proofs.SlotLemmas.{tied, apart}
-use Rattle.executor_core.proofs.UndroppedLemmas.{AllFresh, no_entries, all_fresh}
+use Rattle.executor_core.proofs.UndroppedLemmas.{AllFresh, no_entries, all_fresh, undropped_slot, undropped_slots}
 use Rattle.executor_core.specs.declared.task.cell.Cell.{Cell}
 use Rattle.executor_core.specs.declared.task.cell.Numbered.{Numbered}
+use Rattle.executor_core.specs.declared.task.id.TaskId.{TaskId}
 
 first : (a b : Bool) → Holds (a && b) → Holds a
 first true b p = tt
@@ -223,6 +224,37 @@ module _ {P T W : Type 0} where
   pub idle_rising : (slots : List (Option (Numbered (Cell P T W)))) → Distinct slots → numbers_of (idle_ids 0 slots) ≡ rising (λ c. is_idle c.state) (cells_of slots)
   idle_rising slots distinct = numbers_rising 0 slots ∙ sym (rising_is (λ c. is_idle c.state) slots distinct)
 
+-- the undropped tasks in that order, slot by slot
+module _ {P T W : Type 0} where
+  abbrev pub undropped_numbers : List (Option (Numbered (Cell P T W))) → List ℕ
+  undropped_numbers slots = filter_map undropped_number slots
+
+  undropped_by_number : (first : ℕ) (slots : List (Option (Numbered (Cell P T W)))) → undropped_numbers slots ≡ list_map (λ e. e.0) (filter (λ e. is_undropped e.1.cell.state) (by_number first slots))
+  undropped_by_number first [] = refl
+  undropped_by_number first (None ∷ rest) = undropped_by_number (first + 1) rest
+  undropped_by_number first (Some e ∷ rest) = by (is_undropped e.cell.state) (undropped_by_number (first + 1) rest)
+    where
+      by : (b : Bool) → undropped_numbers rest ≡ list_map (λ x. x.0) (filter (λ x. is_undropped x.1.cell.state) (by_number (first + 1) rest))
+          → cons_option (cond b (Some e.number) None) (undropped_numbers rest) ≡ list_map (λ x. x.0) (cond b ((e.number, seen first e.cell) ∷ filter (λ x. is_undropped x.1.cell.state) (by_number (first + 1) rest)) (filter (λ x. is_undropped x.1.cell.state) (by_number (first + 1) rest)))
+      by true inner = ap (λ l. e.number ∷ l) inner
+      by false inner = inner
+
+  pub undropped_rising : (slots : List (Option (Numbered (Cell P T W)))) → Distinct slots → undropped_numbers slots ≡ rising (λ c. is_undropped c.state) (cells_of slots)
+  undropped_rising slots distinct = undropped_by_number 0 slots ∙ sym (rising_is (λ c. is_undropped c.state) slots distinct)
+
+  pub length-undropped : (slots : List (Option (Numbered (Cell P T W)))) → length (undropped_numbers slots) ≡ count_by undropped_slot slots
+  length-undropped [] = refl
+  length-undropped (None ∷ rest) = let inner = length-undropped rest in let one = sum_by-cons (λ s. cond (undropped_slot s) 1 0) None rest in omega arith
+  length-undropped (Some e ∷ rest) = let inner = length-undropped rest in let one = sum_by-cons (λ s. cond (undropped_slot s) 1 0) (Some e) rest in let here = by (is_undropped e.cell.state) in omega arith
+    where
+      by : (b : Bool) → length (cons_option (cond b (Some e.number) None) (undropped_numbers rest)) ≡ cond b 1 0 + length (undropped_numbers rest)
+      by true = omega arith
+      by false = omega arith
+
+-- no more are undropped than were made
+pub few_undropped : {P T W : Type 0} {next undropped : ℕ} {slots : List (Option (Numbered (Cell P T W)))} {ids : List TaskId} → IsSound next slots ids undropped → length (undropped_numbers slots) ≤ next
+few_undropped {slots = slots} sound = let long = length-undropped slots in let counted = undropped_slots sound in let most = sound.numbered in omega arith
+
 -- the slots of that order rise
 module _ {P T W : Type 0} (cells : map.FinMap nat_cmp (Slotted P T W)) where
   -- each entry is one of the map
@@ -334,7 +366,7 @@ module _ {P T W : Type 0} (cells : map.FinMap nat_cmp (Slotted P T W)) where
   ascends_at (e ∷ rest) ascends (suc i) (suc j) a b before at_i at_j = ascends_at rest ascends.1 i j a b (omega arith) at_i at_j
 
 -- a number that stands at two places
-once : (n i : ℕ) (xs : List ℕ) → slice_get xs i ≡ Some n → 1 ≤ times n xs
+pub once : (n i : ℕ) (xs : List ℕ) → slice_get xs i ≡ Some n → 1 ≤ times n xs
 once n i [] at = absurd (cc)
 once n zero (x ∷ xs) at = let same : x ≡ n = cc in let one = sum_by-cons (λ k. cond (k == n) 1 0) x xs in let here : cond {A = ℕ} (x == n) 1 0 ≡ 1 = ap (λ b. cond {A = ℕ} b 1 0) (eq-eqb x n same) in omega arith
 once n (suc i) (x ∷ xs) at = let one = sum_by-cons (λ k. cond (k == n) 1 0) x xs in let later = once n i xs at in omega arith
@@ -373,3 +405,21 @@ module _ {P T W : Type 0} where
       at_most : (b : Bool) → cond b 1 0 ≤ 1
       at_most true = omega arith
       at_most false = omega arith
+
+  -- of those that pass a test, those that pass one which says more
+  pub rising_among : (test more : Cell P T W → Bool) → ((c : Cell P T W) → more c ≡ true → test c ≡ true) → (cells : map.FinMap nat_cmp (Slotted P T W)) (f : ℕ → Bool) → ((n : ℕ) (s : Slotted P T W) → map.get cells n ≡ Some s → f n ≡ more s.cell)
+      → filter f (rising test cells) ≡ rising more cells
+  rising_among test more says cells f same =
+      among (by_slot (map.entries cells)) (Inside-by_slot cells (map.entries cells) (entries_inside cells (map.entries cells) (map.entries_sorted cells) (λ q x found. map.get-entries cells q ∙ found)))
+    where
+      among : (es : List (ℕ × Slotted P T W)) → Inside cells es → filter f (list_map (λ e. e.0) (filter (λ e. test e.1.cell) es)) ≡ list_map (λ e. e.0) (filter (λ e. more e.1.cell) es)
+      among [] inside = refl
+      among (e ∷ rest) inside = elim (cases_Bool (more e.1.cell)) [
+        | inl passes ↦ rw (passes, says e.1.cell passes, same e.0 e.1 inside.0 ∙ passes) (ap (λ l. e.0 ∷ l) (among rest inside.1))
+        | inr fails ↦ rw fails (by (test e.1.cell) (same e.0 e.1 inside.0 ∙ fails) (among rest inside.1))
+      ]
+        where
+          by : (b : Bool) → f e.0 ≡ false → filter f (list_map (λ x. x.0) (filter (λ x. test x.1.cell) rest)) ≡ list_map (λ x. x.0) (filter (λ x. more x.1.cell) rest)
+              → filter f (list_map (λ x. x.0) (cond b (e ∷ filter (λ x. test x.1.cell) rest) (filter (λ x. test x.1.cell) rest))) ≡ list_map (λ x. x.0) (filter (λ x. more x.1.cell) rest)
+          by true fails inner = rw fails inner
+          by false fails inner = inner

@@ -111,7 +111,7 @@ module _ {X : Type 0} where
       omega arith
 
 module _ {P T W : Type 0} where
-  abbrev undropped_slot : Option (Numbered (Cell P T W)) → Bool
+  abbrev pub undropped_slot : Option (Numbered (Cell P T W)) → Bool
   undropped_slot None = false
   undropped_slot (Some e) = is_undropped e.cell.state
 
@@ -187,20 +187,25 @@ module _ {P T W : Type 0} where
       apart k c there number i far None is = refl
       apart k c there number i far (Some e) is = ap (λ b. cond b 1 0) (ne_eqb id.number e.number (λ same. far (distinct i k e c is there (sym same ∙ sym number))))
 
-  pub undropped_is : {next undropped : ℕ} {slots : List (Option (Numbered (Cell P T W)))} {ids : List TaskId}
-      → IsSound next slots ids undropped → undropped ≡ count_by (λ s. is_undropped s.cell.state) (map.values (cells_of slots))
-  unfolding cells_of
-  undropped_is {next} {undropped} {slots} {ids} sound =
+  -- the count is that of the slots
+  pub undropped_slots : {next undropped : ℕ} {slots : List (Option (Numbered (Cell P T W)))} {ids : List TaskId}
+      → IsSound next slots ids undropped → undropped ≡ count_by undropped_slot slots
+  undropped_slots {next} {undropped} {slots} {ids} sound =
       let queued = queued_sum slots sound.distinct ids sound.placed in
       let scheduled = sum_by_same (queued_times ids) (λ s. cond (scheduled_slot s) 1 0) None slots (λ i. lawful i (get_or slots i None) refl) in
       let parts = sum_by_plus (λ s. cond (undropped_slot s) 1 0) (λ s. cond (scheduled_slot s) 1 0) (λ s. cond (is_queueable s) 1 0) slots undropped_parts in
       let counted = sound.counted in
-      let slots_count : undropped ≡ count_by undropped_slot slots = omega arith in
-      slots_count ∙ sym (values_sum-from_entries (λ s. cond (is_undropped s.cell.state) 1 0) (by_number 0 slots) (all_fresh 0 slots sound.distinct) ∙ count-by_number 0 slots)
+      omega arith
     where
       lawful : (i : ℕ) (s : Option (Numbered (Cell P T W))) → get_or slots i None ≡ s → queued_times ids s ≡ cond (scheduled_slot s) 1 0
       lawful i None is = refl
       lawful i (Some e) is = sound.law e.number ∙ ap (λ o. cond (scheduled_in o) 1 0) (sees_get slots sound.distinct i e is)
+
+  pub undropped_is : {next undropped : ℕ} {slots : List (Option (Numbered (Cell P T W)))} {ids : List TaskId}
+      → IsSound next slots ids undropped → undropped ≡ count_by (λ s. is_undropped s.cell.state) (map.values (cells_of slots))
+  unfolding cells_of
+  undropped_is {slots = slots} sound =
+      undropped_slots sound ∙ sym (values_sum-from_entries (λ s. cond (is_undropped s.cell.state) 1 0) (by_number 0 slots) (all_fresh 0 slots sound.distinct) ∙ count-by_number 0 slots)
 
   -- nothing is undropped where the count is zero
   pub all_dropped : {next : ℕ} {slots : List (Option (Numbered (Cell P T W)))} {ids : List TaskId}

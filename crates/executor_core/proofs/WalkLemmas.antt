@@ -1,18 +1,21 @@
--- A walk over the slots that changes each cell and queues what was idle.
-use Rattle.std.proofs.Common.{◌≡◌, ℕ, zero, suc, ◌+◌, ◌≤◌, true, List, [], ◌∷◌, ◌++◌, length, map, set, get_or, Option, Some, None, refl, sym, ap, subst, ◌∙◌, arith}
-use Rattle.std.specs.Prelude.{nat_lt}
+-- A walk over the slots: one that changes each cell and queues what was idle, and one that logs what is undropped.
+use Rattle.std.proofs.Common.{◌≡◌, ℕ, zero, suc, ◌+◌, ◌<◌, ◌≤◌, ◌||◌, Bool, true, false, List, [], ◌∷◌, ◌++◌, length, map as list_map, set, get_or, take, drop, take_all, Option, Some, None, cond, refl, sym, ap, subst, ◌∙◌, arith}
+use Rattle.std.specs.Prelude.{nat_lt, count_by}
 use Rattle.std.specs.List.{cons_option}
+use Rattle.std.proofs.lemmas.List.{map-append, length-map, take-append-drop}
+use Rattle.std.proofs.lemmas.List.Elements.{filter_map-append}
 use Rattle.std.proofs.lemmas.Bool.{lt-ltb}
 use Rattle.std.proofs.Common.{length-append, append_assoc, append-nil}
 use Rattle.executor_core.specs.Slots.{HasCell, IsQueue}
 use Rattle.executor_core.proofs.LinkLemmas.{prefix_queue}
 use Rattle.executor_core.specs.Queues.State.{QueueState, with_lists, pushed, pushed_all}
-use Rattle.executor_core.specs.Cells.View.{changed_slot, idle_id, idle_ids}
+use Rattle.executor_core.specs.Cells.View.{changed_slot, idle_id, idle_ids, is_queueable, undropped_number}
+use Rattle.executor_core.proofs.RisingLemmas.{undropped_numbers}
 use Rattle.executor_core.specs.declared.task.cell.Cell.{Cell}
 use Rattle.executor_core.specs.declared.task.cell.Numbered.{Numbered}
 use Rattle.executor_core.specs.declared.task.id.TaskId.{TaskId}
 
-cons_append : (o : Option TaskId) (xs ys : List TaskId) → cons_option o (xs ++ ys) ≡ cons_option o xs ++ ys
+cons_append : {A : Type 0} (o : Option A) (xs ys : List A) → cons_option o (xs ++ ys) ≡ cons_option o xs ++ ys
 cons_append None xs ys = refl
 cons_append (Some x) xs ys = refl
 
@@ -37,7 +40,7 @@ module _ {P T W : Type 0} where
   idle_below-start first [] = refl
   idle_below-start first (s ∷ rest) = refl
 
-  pub changed_below-all : (change : Cell P T W → Cell P T W) (n : ℕ) (slots : List (Option (Numbered (Cell P T W)))) → length slots ≤ n → changed_below change n slots ≡ map (changed_slot change) slots
+  pub changed_below-all : (change : Cell P T W → Cell P T W) (n : ℕ) (slots : List (Option (Numbered (Cell P T W)))) → length slots ≤ n → changed_below change n slots ≡ list_map (changed_slot change) slots
   changed_below-all change n [] long = refl
   changed_below-all change zero (s ∷ rest) long = absurd (omega arith)
   changed_below-all change (suc n) (s ∷ rest) long = ap (λ l. changed_slot change s ∷ l) (changed_below-all change n rest (omega arith))
@@ -155,3 +158,46 @@ module _ {P T W : Type 0} (change : Cell P T W → Cell P T W) (n : ℕ) (slots 
 
   pub idle_walked : {id : TaskId} {found : Option TaskId} → found ≡ idle_id n (get_or now n None) → found ≡ Some id → true ≡ nat_lt 0 (length (idle_below 0 (n + 1) slots))
   idle_walked {id} is some = sym (ap (λ l. nat_lt 0 (length l)) (ids_pushed is some) ∙ some_last (idle_below 0 n slots) id)
+
+pub length-logged : {E : Type 0} (event : ℕ → E) (old : List E) (numbers : List ℕ) → length (old ++ list_map event numbers) ≡ length old + length numbers
+length-logged event old numbers = let long = length-append old (list_map event numbers) in let mapped = length-map numbers event in omega arith
+
+-- the undropped tasks of the first slots are logged
+module _ {P T W : Type 0} {E : Type 0} (event : ℕ → E) (slots : List (Option (Numbered (Cell P T W)))) (old : List E) where
+  numbers_next : (n : ℕ) (slots : List (Option (Numbered (Cell P T W)))) → undropped_numbers (take (suc n) slots) ≡ undropped_numbers (take n slots) ++ cons_option (undropped_number (get_or slots n None)) []
+  numbers_next zero [] = refl
+  numbers_next (suc n) [] = refl
+  numbers_next zero (s ∷ rest) = refl
+  numbers_next (suc n) (s ∷ rest) = ap (cons_option (undropped_number s)) (numbers_next n rest) ∙ cons_append (undropped_number s) _ _
+
+  few_numbers : (n : ℕ) (slots : List (Option (Numbered (Cell P T W)))) → length (undropped_numbers (take n slots)) ≤ length (undropped_numbers slots)
+  few_numbers n slots =
+      let whole = ap length (sym (ap undropped_numbers (take-append-drop n slots)) ∙ filter_map-append undropped_number (take n slots) (drop n slots)) in
+      let long = length-append (undropped_numbers (take n slots)) (undropped_numbers (drop n slots)) in
+      omega arith
+
+  abbrev pub logged_below : ℕ → List E
+  logged_below n = old ++ list_map event (undropped_numbers (take n slots))
+
+  module _ (n : ℕ) {found : Option ℕ} (is : found ≡ undropped_number (get_or slots n None)) where
+    numbers_walked : undropped_numbers (take (n + 1) slots) ≡ undropped_numbers (take n slots) ++ cons_option found []
+    numbers_walked = let next : n + 1 ≡ suc n = omega arith in ap (λ k. undropped_numbers (take k slots)) next ∙ numbers_next n slots ∙ ap (λ o. undropped_numbers (take n slots) ++ cons_option o []) (sym is)
+
+    pub logged_kept : found ≡ None → logged_below (n + 1) ≡ logged_below n
+    logged_kept none = ap (λ l. old ++ list_map event l) (numbers_walked ∙ ap (λ o. undropped_numbers (take n slots) ++ cons_option o []) none ∙ append-nil (undropped_numbers (take n slots)))
+
+    pub logged_pushed : {k : ℕ} → found ≡ Some k → logged_below (n + 1) ≡ logged_below n ++ event k ∷ []
+    logged_pushed {k} some =
+        ap (λ l. old ++ list_map event l) (numbers_walked ∙ ap (λ o. undropped_numbers (take n slots) ++ cons_option o []) some)
+        ∙ ap (λ l. old ++ l) (map-append event (undropped_numbers (take n slots)) (k ∷ [])) ∙ sym (append_assoc old (list_map event (undropped_numbers (take n slots))) (event k ∷ []))
+
+    pub room_logged : {k : ℕ} → found ≡ Some k → {now : List E} {count capacity : ℕ} → now ≡ logged_below n → count ≡ length now → length old + length (undropped_numbers slots) ≤ capacity → count < capacity
+    room_logged {k} some is_now counts room =
+        let few = few_numbers (n + 1) slots in
+        let more = ap length (numbers_walked ∙ ap (λ o. undropped_numbers (take n slots) ++ cons_option o []) some) in
+        let longer = length-append (undropped_numbers (take n slots)) (k ∷ []) in
+        let now_long = ap length is_now ∙ length-logged event old (undropped_numbers (take n slots)) in
+        omega arith
+
+  pub logged_all : (n : ℕ) → length slots ≤ n → logged_below n ≡ old ++ list_map event (undropped_numbers slots)
+  logged_all n past = ap (λ l. old ++ list_map event (undropped_numbers l)) (take_all n slots past)

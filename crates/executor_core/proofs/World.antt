@@ -1,6 +1,9 @@
 -- That a world keeps its promises at each step.
 pub mod Agreement
+pub mod Closes
+pub mod Closing
 pub mod Entries
+pub mod Forgotten
 pub mod Handles
 pub mod Log
 pub mod Marks

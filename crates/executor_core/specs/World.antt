@@ -1,5 +1,7 @@
 -- What a contract sees of a `World`.
 pub mod Agreement
+pub mod AllPromises
+pub mod Closing
 pub mod Entries
 pub mod Log
 pub mod Order
@@ -18,14 +20,14 @@ use Rattle.executor_core.specs.declared.interleave.event.Purpose.TheVariants.{To
 use Rattle.executor_core.specs.declared.interleave.entry.TaskInfo.{TaskInfo}
 use Rattle.executor_core.specs.declared.interleave.ticker.ListChange.TheVariants.{Slept, Woke, Dropped as LetGo}
 use Rattle.executor_core.specs.declared.interleave.ticker.Phase.{Phase}
-use Rattle.executor_core.specs.declared.interleave.ticker.Phase.TheVariants.{Rest, Search, Sleep, Wake, Store, Leaving, Ended}
+use Rattle.executor_core.specs.declared.interleave.ticker.Phase.TheVariants.{Rest, Search, Sleep, Wake, Store, Leaving, Forgotten, Ended}
 use Rattle.executor_core.specs.declared.interleave.ticker.Ticker.{Ticker}
 use Rattle.executor_core.specs.declared.interleave.event.Event.{Event}
 use Rattle.executor_core.specs.declared.interleave.event.Event.TheVariants.{Spawned, Woken, Cancelled, Took, Returned, Finished, Dropped, Got}
 
 -- the log, how many steps were accepted and may be, the global queue, those of the registered runners in order of
 -- registration, how many notices and picks float, the flag and the sleepers, by number what the log does not say of a task
--- and of a ticker, and the ticker that holds the sleepers' lock
+-- and of a ticker, the ticker that holds the sleepers' lock, and whether the executor was closed
 pub record Execution (T : Type 0) : Type 0 where
   pub log : List (Event T)
   pub accepted : ℕ
@@ -39,6 +41,7 @@ pub record Execution (T : Type 0) : Type 0 where
   pub tasks : List TaskInfo
   pub tickers : List Ticker
   pub holder : Option ℕ
+  pub closed : Bool
 
 purpose_bool : Purpose → Bool
 purpose_bool ToPoll = true
@@ -106,6 +109,7 @@ phase_parts (Store Slept) = (5, false)
 phase_parts (Store (Woke notified)) = (6, notified)
 phase_parts (Store (LetGo notified)) = (7, notified)
 phase_parts Leaving = (8, false)
+phase_parts Forgotten = (9, false)
 
 numbered_phase : ℕ → Bool → Phase
 numbered_phase zero b = Rest
@@ -116,7 +120,8 @@ numbered_phase (suc (suc (suc (suc zero)))) b = Ended
 numbered_phase (suc (suc (suc (suc (suc zero))))) b = Store Slept
 numbered_phase (suc (suc (suc (suc (suc (suc zero)))))) b = Store (Woke b)
 numbered_phase (suc (suc (suc (suc (suc (suc (suc zero))))))) b = Store (LetGo b)
-numbered_phase (suc (suc (suc (suc (suc (suc (suc (suc k)))))))) b = Leaving
+numbered_phase (suc (suc (suc (suc (suc (suc (suc (suc zero)))))))) b = Leaving
+numbered_phase (suc (suc (suc (suc (suc (suc (suc (suc (suc k))))))))) b = Forgotten
 
 pub parts_phase : ℕ × Bool → Phase
 parts_phase p = numbered_phase p.0 p.1
@@ -132,6 +137,7 @@ parts_phase-phase_parts (Store Slept) = refl
 parts_phase-phase_parts (Store (Woke notified)) = refl
 parts_phase-phase_parts (Store (LetGo notified)) = refl
 parts_phase-phase_parts Leaving = refl
+parts_phase-phase_parts Forgotten = refl
 
 abbrev pub phase_code : Coded Phase
 phase_code = code_by (ℕ × Bool) (coded× coded_ℕ coded_bool) phase_parts parts_phase parts_phase-phase_parts
@@ -152,8 +158,8 @@ module _ {T : Type 0} (t : Coded T) where
   abbrev pub execution_code : Coded (Execution T)
   execution_code =
       code_by
-      (List (Event T) × (ℕ × (ℕ × (List ℕ × (List (RunnerQueue ℕ) × (ℕ × (ℕ × (Bool × (SleeperList (Unit {0}) × (List TaskInfo × (List Ticker × Option ℕ)))))))))))
-      (coded× (coded_list event_code) (coded× coded_ℕ (coded× coded_ℕ (coded× (coded_list coded_ℕ) (coded× (coded_list (runner_queue_code coded_ℕ)) (coded× coded_ℕ (coded× coded_ℕ (coded× coded_bool (coded× (sleeper_list_code unit_code) (coded× (coded_list info_code) (coded× (coded_list ticker_code) (coded_option coded_ℕ))))))))))))
-      (λ s. (s.log, (s.accepted, (s.limit, (s.global, (s.locals, (s.notices, (s.picks, (s.flag, (s.sleepers, (s.tasks, (s.tickers, s.holder))))))))))))
-      (λ q. record { log = q.0; accepted = q.1.0; limit = q.1.1.0; global = q.1.1.1.0; locals = q.1.1.1.1.0; notices = q.1.1.1.1.1.0; picks = q.1.1.1.1.1.1.0; flag = q.1.1.1.1.1.1.1.0; sleepers = q.1.1.1.1.1.1.1.1.0; tasks = q.1.1.1.1.1.1.1.1.1.0; tickers = q.1.1.1.1.1.1.1.1.1.1.0; holder = q.1.1.1.1.1.1.1.1.1.1.1 })
+      (List (Event T) × (ℕ × (ℕ × (List ℕ × (List (RunnerQueue ℕ) × (ℕ × (ℕ × (Bool × (SleeperList (Unit {0}) × (List TaskInfo × (List Ticker × (Option ℕ × Bool))))))))))))
+      (coded× (coded_list event_code) (coded× coded_ℕ (coded× coded_ℕ (coded× (coded_list coded_ℕ) (coded× (coded_list (runner_queue_code coded_ℕ)) (coded× coded_ℕ (coded× coded_ℕ (coded× coded_bool (coded× (sleeper_list_code unit_code) (coded× (coded_list info_code) (coded× (coded_list ticker_code) (coded× (coded_option coded_ℕ) coded_bool))))))))))))
+      (λ s. (s.log, (s.accepted, (s.limit, (s.global, (s.locals, (s.notices, (s.picks, (s.flag, (s.sleepers, (s.tasks, (s.tickers, (s.holder, s.closed)))))))))))))
+      (λ q. record { log = q.0; accepted = q.1.0; limit = q.1.1.0; global = q.1.1.1.0; locals = q.1.1.1.1.0; notices = q.1.1.1.1.1.0; picks = q.1.1.1.1.1.1.0; flag = q.1.1.1.1.1.1.1.0; sleepers = q.1.1.1.1.1.1.1.1.0; tasks = q.1.1.1.1.1.1.1.1.1.0; tickers = q.1.1.1.1.1.1.1.1.1.1.0; holder = q.1.1.1.1.1.1.1.1.1.1.1.0; closed = q.1.1.1.1.1.1.1.1.1.1.1.1 })
       (λ _. refl)

@@ -4,7 +4,8 @@
 //! cancel, detach or drop its handle, exchange the flag, or notify a sleeper. A ticker may be made,
 //! polled and dropped, and while it is polled it searches for a task, goes to sleep, removes its
 //! number and stores the flag, each by a step of its own. A ticker is a tick, which looks at the
-//! global queue alone, or a run, whose runner has a queue of its own while it is registered. A
+//! global queue alone, or a run, whose runner has a queue of its own while it is registered. The
+//! executor may be closed once, and then its tasks are drained, each to be dropped. A
 //! `World` takes any list of such steps, of all parties, with steps of others between any two of one
 //! party. It makes each on its `Core`, and logs what happened to which task. A step that is not
 //! enabled is answered and changes nothing.
@@ -29,7 +30,8 @@ ghost use Rattle.executor_core.specs.World.Agreement.{CellsAgree, HandlesAgree};
 ghost use Rattle.executor_core.specs.Cells.Calls.{AllDropped};
 ghost use Rattle.executor_core.specs.World.Log.{held, owed, idle, EachDropped};
 ghost use Rattle.executor_core.specs.World.Order.{LoneOrder};
-ghost use Rattle.executor_core.specs.World.Promises.{KeepsPromises, notices_out};
+ghost use Rattle.executor_core.specs.World.AllPromises.{KeepsPromises};
+ghost use Rattle.executor_core.specs.World.Promises.{notices_out};
 ghost use Rattle.executor_core.specs.World.Steps.{StepTo, RunTo, opening};
 
 pub(crate) mod entry;
@@ -158,6 +160,8 @@ impl<P: Drop, T: Copy> World<P, T> {
             Step::Fair(k) => self.fair(k),
             Step::Unregister(k) => self.unregister(k),
             Step::Drop(k) => self.drop_ticker(k),
+            Step::Close => self.close(),
+            Step::Drain => self.drain(),
         }
     }
 

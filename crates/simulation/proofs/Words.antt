@@ -121,6 +121,8 @@ is_word (Step (step.Store k)) = word_by_letters _ refl
 is_word (Step (step.Fair k)) = word_by_letters _ refl
 is_word (Step (step.Unregister k)) = word_by_letters _ refl
 is_word (Step (step.Drop k)) = word_by_letters _ refl
+is_word (Step step.Close) = word_by_letters _ refl
+is_word (Step step.Drain) = word_by_letters _ refl
 
 -- the numbers of each command are arguments
 pub arguments_for : (command : Command) → (a : Arguments) × (listed a ≡ numbers_of command)
@@ -149,3 +151,5 @@ arguments_for (Step (step.Store k)) = (arguments.One k, refl)
 arguments_for (Step (step.Fair k)) = (arguments.One k, refl)
 arguments_for (Step (step.Unregister k)) = (arguments.One k, refl)
 arguments_for (Step (step.Drop k)) = (arguments.One k, refl)
+arguments_for (Step step.Close) = (arguments.None, refl)
+arguments_for (Step step.Drain) = (arguments.None, refl)

@@ -37,6 +37,8 @@ word_of (Step (step.Store _)) = codes "store"
 word_of (Step (step.Fair _)) = codes "fair"
 word_of (Step (step.Unregister _)) = codes "unregister"
 word_of (Step (step.Drop _)) = codes "drop"
+word_of (Step step.Close) = codes "close"
+word_of (Step step.Drain) = codes "drain"
 
 -- the numbers behind it
 abbrev pub numbers_of : Command → List ℕ
@@ -65,6 +67,8 @@ numbers_of (Step (step.Store k)) = k ∷ []
 numbers_of (Step (step.Fair k)) = k ∷ []
 numbers_of (Step (step.Unregister k)) = k ∷ []
 numbers_of (Step (step.Drop k)) = k ∷ []
+numbers_of (Step step.Close) = []
+numbers_of (Step step.Drain) = []
 
 -- it is the command of this word and these numbers
 abbrev pub IsWritten : List ℕ → List ℕ → Command → Type 0

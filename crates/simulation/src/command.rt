@@ -63,6 +63,8 @@ fn command_alone(word: &str) -> Option<Command>
         "notify" => Step::Notify,
         "tick" => Step::Tick,
         "run" => Step::Run,
+        "close" => Step::Close,
+        "drain" => Step::Drain,
         _ => return None,
     }))
 }

@@ -1,4 +1,5 @@
 //! Whole runs over readers and writers in memory, which may fail.
+mod closing;
 mod runs;
 mod tickers;
 
@@ -285,7 +286,7 @@ const NO_STEPS: [&[u8]; 43] = [
     b"poll 0 0",
     b"search 0",
     b"tick 0",
-    b"close",
+    b"close 0",
 ];
 
 // What is written where such a line comes third.

@@ -291,3 +291,47 @@ fn a_new_run_is_dropped_before_it_registers(rt: HostRuntime) -> Result<(), Fail>
     trial.see(runners == 1);
     trial.end()
 }
+
+// Three idle tasks are left: by rising slot they are 3, 1 and 2.
+fn leave_idle(trial: &mut Trial) {
+    for n in 0..3 {
+        trial.take(Step::Spawn(10), Reply::Task(n));
+    }
+    trial.take(Step::TryTick, Reply::Poll(0));
+    trial.take(Step::Ready(0, 7), Reply::Finished { awaiter: false });
+    trial.take(Step::PollHandle(0), Reply::Output(7));
+    trial.take(Step::Spawn(10), Reply::Task(3));
+    for n in 1..4 {
+        trial.take(Step::TryTick, Reply::Poll(n));
+        trial.take(Step::Pend(n), Reply::Idle(n));
+    }
+}
+
+#[test]
+fn a_close_takes_the_tasks_by_rising_slot(rt: HostRuntime) -> Result<(), Fail> {
+    let mut trial = Trial::new(World::new(rt.alloc(), 30)?);
+    leave_idle(&mut trial);
+    trial.take(Step::Tick, Reply::Ticker(0));
+    trial.refuse(Step::Drain);
+    trial.take(Step::Close, Reply::Notice);
+    trial.expect(Phase::Forgotten, None, 9);
+    trial.expect_fronts(None, (Some(3), Some(1)));
+    let log = trial.world.log();
+    let cancelled = [
+        Event::Cancelled(3),
+        Event::Cancelled(1),
+        Event::Cancelled(2),
+    ];
+    let holds = log.ends_with(&cancelled);
+    trial.see(holds);
+    trial.refuse(Step::Close);
+    trial.refuse(Step::Spawn(10));
+    for n in [3, 1, 2] {
+        trial.take(Step::Drain, Reply::Drop(n));
+        trial.take(Step::Dropped(n), Reply::Gone { awaiter: false });
+    }
+    trial.take(Step::Drain, Reply::NoTask);
+    let is_empty = trial.world.cells().is_empty();
+    trial.see(is_empty);
+    trial.end()
+}

@@ -16,11 +16,12 @@ use Rattle.executor_core.specs.World.View.{execution_of, IsWorld}
 use Rattle.executor_core.specs.World.Agreement.{Status, status, FewPollsFor, StateAgrees, Agree, AnswerAgrees, HandleAgrees, HandlesAgree}
 use Rattle.executor_core.proofs.ListLemmas.{length-push, length-slice_set}
 use Rattle.executor_core.proofs.World.Log.{on_give, order-push}
+use Rattle.executor_core.proofs.World.Closing.{marked_push, marked_push_if}
 use Rattle.executor_core.proofs.World.Entries.{infos-set, entry_of, handle_there}
 use Rattle.executor_core.proofs.World.Agreement.{id_of, undropped_is, undropped_state, CellAt, handle_cell, LogChange, log_same, log_pushed, entry_set, cell_put, cell_removed, agree_again}
 use Rattle.executor_core.proofs.World.Marks.{cancel_marks}
 use Rattle.executor_core.proofs.World.Room.{length-push_if}
-use Rattle.executor_core.proofs.World.Runners.{runner_part}
+use Rattle.executor_core.proofs.World.Runners.{fixed_part, same_locals, same_closed}
 use Rattle.executor_core.proofs.World.Steps.{stepped, Done, stepped_sound}
 use Rattle.executor_core.specs.declared.task.cell.CellState.{CellState}
 use Rattle.executor_core.specs.declared.task.cell.CellState.TheVariants.{Idle, Scheduled, Held, Finished, Gone}
@@ -90,10 +91,10 @@ module _ {P T : Type 0} {table : Table P T (Unit {0})} {log : List (Event T)} {e
     | inr alive ↦ ap (λ x. x.global) (poll_pending alive)
   ]
 
-  pub poll_runners : runner_part (after_poll_handle table (id_of n e.info) tt) ≡ runner_part table
+  pub poll_runners : fixed_part (after_poll_handle table (id_of n e.info) tt) ≡ fixed_part table
   poll_runners = elim (cases_Bool (dropped n log)) [
-    | inl gone ↦ ap runner_part (poll_ended gone)
-    | inr alive ↦ ap runner_part (poll_pending alive)
+    | inl gone ↦ ap fixed_part (poll_ended gone)
+    | inr alive ↦ ap fixed_part (poll_pending alive)
   ]
 
   -- the handle of a task that is not dropped is awaited
@@ -156,10 +157,10 @@ module _ {P T : Type 0} {table : Table P T (Unit {0})} {log : List (Event T)} {e
     | inr alive ↦ ap (λ x. x.global) (detach_alive alive)
   ]
 
-  pub detach_runners : runner_part (after_detach table (id_of n e.info)) ≡ runner_part table
+  pub detach_runners : fixed_part (after_detach table (id_of n e.info)) ≡ fixed_part table
   detach_runners = elim (cases_Bool (dropped n log)) [
-    | inl gone ↦ ap runner_part (detach_ended gone)
-    | inr alive ↦ ap runner_part (detach_alive alive)
+    | inl gone ↦ ap fixed_part (detach_ended gone)
+    | inr alive ↦ ap fixed_part (detach_alive alive)
   ]
 
   pub detach_holds : Agree (after_detach table (id_of n e.info)) log (slice_set entries n (record e { info = record e.info { has_handle = false; awaited = false } }))
@@ -205,8 +206,8 @@ module _ {P T : Type 0} (a : Inside P T) (sound : IsWorld (execution_of a) a.cor
             let runners = poll_runners sound.agree n _ (entry_of a.entries.items n i found).1 there in
             let far = rw (← view) at far in
             rw (← view, counted, core_is, set_to _ entries_is info_is, log_is, answers, capacity, same) (record {
-              sound = stepped_sound a sound refl far false _ _ _ (λ _. queue) runners (let long = length-slice_set a.entries.items n e in omega arith) (let long = length-push a.log.items (Got n t) in omega arith) (output_holds sound.agree n _ (entry_of a.entries.items n i found).1 there t tells.0 tells.1 tells.2);
-              does = rw (infos-set a.entries.items n e, queue, ap (λ p. p.0) runners, tells.0, tells.1, found) (refl, refl);
+              sound = stepped_sound a sound refl far false _ _ _ (λ _. queue) runners (let long = length-slice_set a.entries.items n e in omega arith) (let long = length-push a.log.items (Got n t) in omega arith) (output_holds sound.agree n _ (entry_of a.entries.items n i found).1 there t tells.0 tells.1 tells.2) (λ _. marked_push a.log.items (Got n t) (λ _. refl));
+              does = rw (infos-set a.entries.items n e, queue, same_locals runners, same_closed runners, tells.0, tells.1, found) (refl, refl);
             })
 
         pub cancelled_done : {entries : List (TaskEntry P)} {j : TaskInfo} → ((e : TaskEntry P) → slice_get a.entries.items n ≡ Some e → entries ≡ slice_set a.entries.items n (record e { info = j })) → {awaiter : Unit {0}} → handle.Cancelled awaiter ≡ poll_answer tt (cell_at a.core.cells id) → j ≡ record i { has_handle = false } → {answer : Reply T} → answer ≡ reply.Cancelled
@@ -218,8 +219,8 @@ module _ {P T : Type 0} (a : Inside P T) (sound : IsWorld (execution_of a) a.cor
             let runners = poll_runners sound.agree n _ (entry_of a.entries.items n i found).1 there in
             let far = rw (← view) at far in
             rw (← view, counted, core_is, set_to _ entries_is info_is, answers, capacity, same) (record {
-              sound = stepped_sound a sound refl far false _ _ _ (λ _. queue) runners (let long = length-slice_set a.entries.items n e in omega arith) (omega arith) (cancelled_holds sound.agree n _ (entry_of a.entries.items n i found).1 there tells.0);
-              does = rw (infos-set a.entries.items n e, queue, ap (λ p. p.0) runners, tells.0, tells.1, found) (refl, refl);
+              sound = stepped_sound a sound refl far false _ _ _ (λ _. queue) runners (let long = length-slice_set a.entries.items n e in omega arith) (omega arith) (cancelled_holds sound.agree n _ (entry_of a.entries.items n i found).1 there tells.0) (λ _ marked. marked);
+              does = rw (infos-set a.entries.items n e, queue, same_locals runners, same_closed runners, tells.0, tells.1, found) (refl, refl);
             })
 
         pub pending_done : {entries : List (TaskEntry P)} {j : TaskInfo} → ((e : TaskEntry P) → slice_get a.entries.items n ≡ Some e → entries ≡ slice_set a.entries.items n (record e { info = j })) → {before : Option (Unit {0})} → handle.Pending before ≡ poll_answer tt (cell_at a.core.cells id) → j ≡ record i { awaited = true } → {answer : Reply T} → answer ≡ reply.Pending
@@ -231,8 +232,8 @@ module _ {P T : Type 0} (a : Inside P T) (sound : IsWorld (execution_of a) a.cor
             let runners = poll_runners sound.agree n _ (entry_of a.entries.items n i found).1 there in
             let far = rw (← view) at far in
             rw (← view, counted, core_is, set_to _ entries_is info_is, answers, capacity, same) (record {
-              sound = stepped_sound a sound refl far false _ _ _ (λ _. queue) runners (let long = length-slice_set a.entries.items n e in omega arith) (omega arith) (pending_holds sound.agree n _ (entry_of a.entries.items n i found).1 there tells);
-              does = rw (infos-set a.entries.items n e, queue, ap (λ p. p.0) runners, tells, found) (refl, refl);
+              sound = stepped_sound a sound refl far false _ _ _ (λ _. queue) runners (let long = length-slice_set a.entries.items n e in omega arith) (omega arith) (pending_holds sound.agree n _ (entry_of a.entries.items n i found).1 there tells) (λ _ marked. marked);
+              does = rw (infos-set a.entries.items n e, queue, same_locals runners, same_closed runners, tells, found) (refl, refl);
             })
 
       module _ {out : Option T × Option (Unit {0})} (output : out ≡ detach_answer (cell_at a.core.cells id)) where
@@ -247,8 +248,8 @@ module _ {P T : Type 0} (a : Inside P T) (sound : IsWorld (execution_of a) a.cor
             let runners = detach_runners sound.agree n _ (entry_of a.entries.items n i found).1 there in
             let far = rw (← view) at far in
             rw (← view, counted, core_is, set_to _ entries_is info_is, answers, output_is, capacity, same) (record {
-              sound = stepped_sound a sound refl far false _ _ _ (λ _. queue) runners (let long = length-slice_set a.entries.items n e in omega arith) (omega arith) (detach_holds sound.agree n _ (entry_of a.entries.items n i found).1 there);
-              does = rw (infos-set a.entries.items n e, queue, ap (λ p. p.0) runners, found) (refl, refl);
+              sound = stepped_sound a sound refl far false _ _ _ (λ _. queue) runners (let long = length-slice_set a.entries.items n e in omega arith) (omega arith) (detach_holds sound.agree n _ (entry_of a.entries.items n i found).1 there) (λ _ marked. marked);
+              does = rw (infos-set a.entries.items n e, queue, same_locals runners, same_closed runners, found) (refl, refl);
             })
 
         pub drop_handle_done : {entries : List (TaskEntry P)} {j : TaskInfo} → ((e : TaskEntry P) → slice_get a.entries.items n ≡ Some e → entries ≡ slice_set a.entries.items n (record e { info = j })) → j ≡ record i { has_handle = false; awaited = false } → {core : Core P T (Unit {0})} → core ≡ record a.core { cells = after_detach (after_cancel a.core.cells id) id } → {queues undropped kept : Bool} {notices : ℕ} {log : List (Event T)} → queues ≡ cancel_queues a.core.cells id → undropped ≡ undropped_in (cell_at a.core.cells id)
@@ -263,6 +264,6 @@ module _ {P T : Type 0} (a : Inside P T) (sound : IsWorld (execution_of a) a.cor
             let runners = detach_runners marks.holds n _ at there ∙ marks.runners in
             let far = rw (← view) at far in
             rw (← view, counted, core_is, set_to _ entries_is info_is, log_is, noticed, answers, keeps, now, queues_is, output_is, capacity, same, alive, marks.queued) (record {
-              sound = stepped_sound a sound refl far (idle n a.log.items) _ _ _ (λ never. queue ∙ cond-false (idle n a.log.items) _ _ never) runners (let long = length-slice_set a.entries.items n e in omega arith) (let long = length-push_if (not (dropped n a.log.items)) a.log.items (Cancelled n) in omega arith) (detach_holds marks.holds n _ at there);
-              does = rw (infos-set a.entries.items n e, queue, ap (λ p. p.0) runners, found) (refl, refl);
+              sound = stepped_sound a sound refl far (idle n a.log.items) _ _ _ (λ never. queue ∙ cond-false (idle n a.log.items) _ _ never) runners (let long = length-slice_set a.entries.items n e in omega arith) (let long = length-push_if (not (dropped n a.log.items)) a.log.items (Cancelled n) in omega arith) (detach_holds marks.holds n _ at there) (λ _. marked_push_if (not (dropped n a.log.items)) a.log.items (Cancelled n) (λ _. refl));
+              does = rw (infos-set a.entries.items n e, queue, same_locals runners, same_closed runners, found) (refl, refl);
             })

@@ -10,16 +10,17 @@ use Rattle.executor_core.specs.Cells.Calls.{cell_at, undropped_in, idle_in, wake
 use Rattle.executor_core.specs.Cell.Changes.{woken, state_woken, cancelled_cell}
 use Rattle.executor_core.specs.World.{Execution}
 use Rattle.executor_core.specs.World.Entries.{infos}
-use Rattle.executor_core.specs.World.Log.{dropped, cancelled, held, idle}
+use Rattle.executor_core.specs.World.Log.{is_spawn, dropped, cancelled, held, idle}
 use Rattle.executor_core.specs.World.Steps.{info, notice_reply, mark_row, wake_row, cancel_row}
 use Rattle.executor_core.specs.World.View.{execution_of, IsWorld}
 use Rattle.executor_core.specs.World.Promises.{MayFollow}
 use Rattle.executor_core.specs.World.Agreement.{Status, status, FewPollsFor, StateAgrees, Agree}
 use Rattle.executor_core.proofs.World.Status.{task_of}
 use Rattle.executor_core.proofs.World.Log.{on_wake, on_cancel, order-push}
+use Rattle.executor_core.proofs.World.Closing.{marked_push_if}
 use Rattle.executor_core.proofs.World.Entries.{entry_of, handle_there}
 use Rattle.executor_core.proofs.World.Room.{length-push_if}
-use Rattle.executor_core.proofs.World.Runners.{runner_part}
+use Rattle.executor_core.proofs.World.Runners.{fixed_part, same_locals, same_closed}
 use Rattle.executor_core.proofs.World.Steps.{stepped, Done, stepped_sound}
 use Rattle.executor_core.proofs.World.Agreement.{id_of, undropped_is, idle_state, undropped_state, CellAt, cell_or_none, handle_cell, entry_same, log_same, log_pushed, cell_put, agree_again}
 use Rattle.executor_core.specs.declared.task.cell.Cell.{Cell}
@@ -41,14 +42,14 @@ few_wake a w false true h = omega arith
 few_wake a w false false h = omega arith
 
 module _ {P T : Type 0} where
-  woken_state : (st : CellState P T) (w : Bool) (s : Status T) (k : ℕ) → is_undropped st ≡ true → StateAgrees st w s → StateAgrees (state_woken st) (cond (is_held st) true w) (record s { woken = true; wakes = k })
+  pub woken_state : (st : CellState P T) (w : Bool) (s : Status T) (k : ℕ) → is_undropped st ≡ true → StateAgrees st w s → StateAgrees (state_woken st) (cond (is_held st) true w) (record s { woken = true; wakes = k })
   woken_state (Idle p) w s k u h = (record { spawned = h.0.spawned; dropped = h.0.dropped; held = h.0.held; outputs = h.0.outputs; given = h.0.given }, or_left _ s.cancelled_since (or_right (not s.taken) true refl))
   woken_state (Scheduled p) w s k u h = (record { spawned = h.0.spawned; dropped = h.0.dropped; held = h.0.held; outputs = h.0.outputs; given = h.0.given }, or_left _ s.cancelled_since (or_right (not s.taken) true refl))
   woken_state Held w s k u h = (record { spawned = h.0.spawned; dropped = h.0.dropped; held = h.0.held; outputs = h.0.outputs; given = h.0.given }, h.1, refl)
   woken_state (Finished t) w s k u h = absurd (cc)
   woken_state Gone w s k u h = absurd (cc)
 
-  cancelled_state : (st : CellState P T) (w : Bool) (s : Status T) → is_undropped st ≡ true → StateAgrees st w s → StateAgrees (state_woken st) w (record s { cancelled = true; cancelled_since = true })
+  pub cancelled_state : (st : CellState P T) (w : Bool) (s : Status T) → is_undropped st ≡ true → StateAgrees st w s → StateAgrees (state_woken st) w (record s { cancelled = true; cancelled_since = true })
   cancelled_state (Idle p) w s u h = (record { spawned = h.0.spawned; dropped = h.0.dropped; held = h.0.held; outputs = h.0.outputs; given = h.0.given }, or_right (not s.taken || s.woken) true refl)
   cancelled_state (Scheduled p) w s u h = (record { spawned = h.0.spawned; dropped = h.0.dropped; held = h.0.held; outputs = h.0.outputs; given = h.0.given }, or_right (not s.taken || s.woken) true refl)
   cancelled_state Held w s u h = (record { spawned = h.0.spawned; dropped = h.0.dropped; held = h.0.held; outputs = h.0.outputs; given = h.0.given }, h.1, h.2)
@@ -56,7 +57,7 @@ module _ {P T : Type 0} where
   cancelled_state Gone w s u h = absurd (cc)
 
   -- the state of a dropped task stays as it is
-  ended_state : (st : CellState P T) (v w : Bool) (s : Status T) → is_undropped st ≡ false → StateAgrees st w s → StateAgrees (state_woken st) v s
+  pub ended_state : (st : CellState P T) (v w : Bool) (s : Status T) → is_undropped st ≡ false → StateAgrees st w s → StateAgrees (state_woken st) v s
   ended_state (Idle p) v w s u h = absurd (cc)
   ended_state (Scheduled p) v w s u h = absurd (cc)
   ended_state Held v w s u h = absurd (cc)
@@ -68,7 +69,7 @@ module _ {P T : Type 0} {table : Table P T (Unit {0})} {log : List (Event T)} {e
   pub record Marks (event : Event T) (later : Table P T (Unit {0})) (queues : Bool) : Type 0 where
     pub holds : Agree later (cond (not (dropped n log)) (log ++ event ∷ []) log) entries
     pub global : later.global ≡ cond (idle n log) (table.global ++ n ∷ []) table.global
-    pub runners : runner_part later ≡ runner_part table
+    pub runners : fixed_part later ≡ fixed_part table
     pub queued : queues ≡ idle n log
 
   -- what the mark makes of the cell
@@ -111,7 +112,7 @@ module _ {P T : Type 0} {table : Table P T (Unit {0})} {log : List (Event T)} {e
             alive = λ alive. (at.agrees.cancelled, woken_state c.state c.woken (status n log) _ alive at.agrees.state);
             ended = λ ended. (at.agrees.cancelled, ended_state c.state _ c.woken (status n log) ended at.agrees.state);
           });
-          runners = ap (λ x. runner_part (wake_at table (id_of n e.info) x)) at.cell;
+          runners = ap (λ x. fixed_part (wake_at table (id_of n e.info) x)) at.cell;
           global = ap (λ x. (wake_at table (id_of n e.info) x).global) at.cell ∙ ap (λ b. cond b (table.global ++ n ∷ []) table.global) (sym now);
           queued = ap idle_in at.cell ∙ sym now;
         }
@@ -122,7 +123,7 @@ module _ {P T : Type 0} {table : Table P T (Unit {0})} {log : List (Event T)} {e
         record {
           holds = rw (same, h.dropped) agree;
           global = rw (same, never) refl;
-          runners = ap runner_part same;
+          runners = ap fixed_part same;
           queued = ap idle_in none.cell ∙ sym never;
         }
   ]
@@ -143,7 +144,7 @@ module _ {P T : Type 0} {table : Table P T (Unit {0})} {log : List (Event T)} {e
           alive = λ alive. (cond-true (is_undropped c.state) _ _ alive, cancelled_state c.state c.woken (status n log) alive at.agrees.state);
           ended = λ ended. (cond-false (is_undropped c.state) _ _ ended ∙ at.agrees.cancelled, ended_state c.state c.woken c.woken (status n log) ended at.agrees.state);
         });
-        runners = ap runner_part is;
+        runners = ap fixed_part is;
         global = ap (λ x. x.global) is ∙ ap (λ b. cond b (table.global ++ n ∷ []) table.global) (sym now);
         queued = ap (passes (λ c. c.has_handle && is_idle c.state)) at.cell ∙ ap (λ b. b && is_idle c.state) has ∙ sym now;
       }
@@ -151,22 +152,22 @@ module _ {P T : Type 0} {table : Table P T (Unit {0})} {log : List (Event T)} {e
 module _ {P T : Type 0} (a : Inside P T) (sound : IsWorld (execution_of a) a.core.cells a.entries.items a.rings.items (vec_capacity a.log)) {w : Execution T} (view : execution_of a ≡ w) (far : w.accepted ≢ w.limit) (n : ℕ) {i : TaskInfo} (found : slice_get (infos a.entries.items) n ≡ Some i) where
   module _ {accepted notices room : ℕ} {id : TaskId} {undropped queues kept : Bool} {answer : Reply T}
       (counted : accepted ≡ a.accepted + 1) (same : id ≡ id_of n i) (now : undropped ≡ undropped_in (cell_at a.core.cells id)) (noticed : notices ≡ cond queues (a.notices + 1) a.notices) (keeps : kept ≡ queues) (answers : answer ≡ notice_reply kept) (capacity : room ≡ vec_capacity a.log) where
-    mark_done : (event : Event T) (later : TaskId → Table P T (Unit {0})) (does : TaskId → Bool) → Marks sound.agree n (record { info = i; out = (entry_of _ n i found).0 }) (entry_of _ n i found).1 event (later (id_of n i)) (does (id_of n i))
+    mark_done : (event : Event T) → ((k : ℕ) → is_spawn k event ≡ false) → (later : TaskId → Table P T (Unit {0})) (does : TaskId → Bool) → Marks sound.agree n (record { info = i; out = (entry_of _ n i found).0 }) (entry_of _ n i found).1 event (later (id_of n i)) (does (id_of n i))
         → {core : Core P T (Unit {0})} {log : List (Event T)} → core ≡ record a.core { cells = later id } → queues ≡ does id → log ≡ cond undropped (a.log.items ++ event ∷ []) a.log.items
         → Done (stepped a accepted core log a.entries.items notices a.picks) core.cells a.entries.items a.rings.items room (mark_row event n w) answer
-    mark_done event later does marks core_is queues_is log_is =
+    mark_done event other later does marks core_is queues_is log_is =
         let alive : undropped ≡ not (dropped n a.log.items) = now ∙ ap (λ id. undropped_in (cell_at a.core.cells id)) same ∙ undropped_is sound.agree n _ (entry_of _ n i found).1 in
         let queued : queues ≡ idle n a.log.items = queues_is ∙ ap does same ∙ marks.queued in
         rw (← view, counted, core_is, log_is, noticed, answers, keeps, capacity, same, alive, queued) (record {
-          sound = stepped_sound a sound refl (rw (← view) at far) (idle n a.log.items) _ _ _ (λ never. marks.global ∙ cond-false (idle n a.log.items) _ _ never) marks.runners (omega arith) (let long = length-push_if (not (dropped n a.log.items)) a.log.items event in omega arith) marks.holds;
-          does = rw (marks.global, ap (λ p. p.0) marks.runners) (refl, refl);
+          sound = stepped_sound a sound refl (rw (← view) at far) (idle n a.log.items) _ _ _ (λ never. marks.global ∙ cond-false (idle n a.log.items) _ _ never) marks.runners (omega arith) (let long = length-push_if (not (dropped n a.log.items)) a.log.items event in omega arith) marks.holds (λ _. marked_push_if (not (dropped n a.log.items)) a.log.items event other);
+          does = rw (marks.global, same_locals marks.runners, same_closed marks.runners) (refl, refl);
         })
 
     pub wake_done : {core : Core P T (Unit {0})} {log : List (Event T)} → core ≡ record a.core { cells = after_wake a.core.cells id } → queues ≡ wakes a.core.cells id → log ≡ cond undropped (a.log.items ++ Woken n ∷ []) a.log.items
         → Done (stepped a accepted core log a.entries.items notices a.picks) core.cells a.entries.items a.rings.items room (wake_row n w) answer
-    wake_done core_is queues_is log_is = mark_done (Woken n) (after_wake a.core.cells) (wakes a.core.cells) (wake_marks sound.agree n _ (entry_of _ n i found).1) core_is queues_is log_is
+    wake_done core_is queues_is log_is = mark_done (Woken n) (λ _. refl) (after_wake a.core.cells) (wakes a.core.cells) (wake_marks sound.agree n _ (entry_of _ n i found).1) core_is queues_is log_is
 
     pub cancel_done : (info n w).has_handle ≡ true → {core : Core P T (Unit {0})} {log : List (Event T)} → core ≡ record a.core { cells = after_cancel a.core.cells id } → queues ≡ cancel_queues a.core.cells id → log ≡ cond undropped (a.log.items ++ Cancelled n ∷ []) a.log.items
         → Done (stepped a accepted core log a.entries.items notices a.picks) core.cells a.entries.items a.rings.items room (cancel_row n w) answer
     cancel_done enabled core_is queues_is log_is =
-        mark_done (Cancelled n) (after_cancel a.core.cells) (cancel_queues a.core.cells) (cancel_marks sound.agree n _ (entry_of _ n i found).1 (handle_there a view n found enabled)) core_is queues_is log_is
+        mark_done (Cancelled n) (λ _. refl) (after_cancel a.core.cells) (cancel_queues a.core.cells) (cancel_marks sound.agree n _ (entry_of _ n i found).1 (handle_there a view n found enabled)) core_is queues_is log_is

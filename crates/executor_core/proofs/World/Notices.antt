@@ -1,5 +1,5 @@
 -- No notice is lost.
-use Rattle.std.proofs.Common.{◌≡◌, ℕ, ◌+◌, ◌-◌, ◌<◌, ◌≤◌, Bool, true, false, ◌||◌, not, ◌⊎◌, inl, inr, cond, List, [], length, ◌∷◌, ◌++◌, Option, Some, None, is_some, refl, sym, ap, subst, ◌∙◌, length-take, arith}
+use Rattle.std.proofs.Common.{◌≡◌, ℕ, ◌+◌, ◌-◌, ◌<◌, ◌≤◌, Bool, true, false, ◌||◌, not, ◌⊎◌, inl, inr, cond, List, [], length, map, ◌∷◌, ◌++◌, Option, Some, None, is_some, refl, sym, ap, subst, ◌∙◌, length-take, arith}
 use Rattle.std.proofs.lemmas.Bool.{cases_Bool, cases_lt, cases_eq, lt-ltb, ltb-true, eq-eqb, eqb-true, eqb-false, or_left, or_right, or_cases, true≢false, false≢true}
 use Rattle.std.proofs.lemmas.List.Folds.{list_any-append}
 use Rattle.std.proofs.lemmas.List.Sums.{sum_by_push}
@@ -11,7 +11,8 @@ use Rattle.executor_core.specs.Sleepers.{SleeperList, SleeperLaw, is_notified}
 use Rattle.executor_core.specs.Sleepers.Calls.{no_sleepers, all_unnotified, after_notify}
 use Rattle.executor_core.specs.World.{Execution}
 use Rattle.executor_core.specs.World.Promises.{some_notified, kept_notices, notices_out, some_search, is_obliged, holder_spends, holds, HolderStores, only_runs, all_queues, CoversQueued, FlagLaw, Covered, RunsCovered, NoNoticeLost}
-use Rattle.executor_core.specs.World.Tickers.{is_run, in_store, notices_in, has_to_search, has_to_spend, ticker_or, new_ticker}
+use Rattle.executor_core.specs.World.Tickers.{is_run, at_rest, forgotten, in_store, notices_in, has_to_search, has_to_spend, ticker_or, new_ticker}
+use Rattle.executor_core.proofs.World.Forgotten.{forgotten_same, sum_by-forgotten, any-forgotten}
 use Rattle.executor_core.proofs.ListLemmas.{sum_by-set, sum_by-at, any-at, any-set_true, any-set_same, any-push, get-set_same, get-set_other, get-push_last, get-push_other, get_past}
 use Rattle.executor_core.specs.declared.interleave.ticker.Ticker.{Ticker}
 
@@ -268,6 +269,19 @@ notices_added {T} w v runner law tickers flag picks notices global locals holder
           ∙ sym (ap (λ j. has_to_spend (ticker_or (slice_get w.tickers j)).phase) same ∙ ap (λ o. has_to_spend (ticker_or o).phase) (get_past w.tickers))
       | inr far ↦ ap (λ o. has_to_spend (ticker_or o).phase) (get-push_other w.tickers (new_ticker runner) q far)
     ]
+
+-- each ticker at rest was forgotten, while nobody held the lock
+pub notices_forgotten : {T : Type 0} (w : Execution T) → NoNoticeLost w → w.holder ≡ None → NoNoticeLost (record w { tickers = map forgotten w.tickers })
+notices_forgotten {T} w law free =
+    let kept : kept_notices (record w { tickers = map forgotten w.tickers }) ≡ kept_notices w = sum_by-forgotten (λ p. notices_in p) refl w.tickers in
+    let seeks : some_search (record w { tickers = map forgotten w.tickers }) ≡ some_search w = any-forgotten (λ t. has_to_search t.phase) (λ t. forgotten_same has_to_search refl t.phase) w.tickers in
+    let runs : only_runs (map forgotten w.tickers) ≡ only_runs w.tickers = ap not (any-forgotten (λ t. not (is_run t)) (λ t. refl) w.tickers) in
+    let spends : holder_spends w.holder (map forgotten w.tickers) ≡ holder_spends w.holder w.tickers = ap (λ h. holder_spends h (map forgotten w.tickers)) free ∙ sym (ap (λ h. holder_spends h w.tickers) free) in
+    record {
+      flag_law = λ on. rw spends (law.flag_law on);
+      covered = λ queued asleep. rw (kept, seeks) (law.covered queued asleep);
+      runs_covered = λ all queued asleep. rw (kept, seeks) (law.runs_covered (sym runs ∙ all) queued asleep);
+    }
 
 -- nobody sleeps before the first step
 pub notices_opening : {T : Type 0} (w : Execution T) → w.sleepers ≡ no_sleepers → NoNoticeLost w

@@ -1,6 +1,6 @@
 -- A lone runner takes tasks in the order in which they were queued.
-use Rattle.std.proofs.Common.{◌≡◌, ◌≢◌, ℕ, Bool, true, false, not, cond, List, [], ◌∷◌, ◌++◌, length, Option, Some, None, refl, sym, ap, ◌∙◌, subst, inl, inr, append_assoc}
-use Rattle.std.proofs.lemmas.Bool.{cases_eq, cases_Bool}
+use Rattle.std.proofs.Common.{◌≡◌, ◌≢◌, ℕ, Bool, true, false, not, ◌&&◌, cond, List, [], ◌∷◌, ◌++◌, length, Option, Some, None, refl, sym, ap, ◌∙◌, subst, inl, inr, append_assoc}
+use Rattle.std.proofs.lemmas.Bool.{cases_eq, cases_Bool, and_parts, not-true, true≢false}
 use Rattle.std.proofs.lemmas.List.{append-nil}
 use Rattle.executor_core.specs.Queues.{QueueLists, entries_of, search, global_front}
 use Rattle.executor_core.specs.Sleepers.{is_notified_number}
@@ -8,12 +8,12 @@ use Rattle.executor_core.specs.World.{Execution}
 use Rattle.executor_core.specs.World.Log.{cancelled, idle, woken, dropped, outputs}
 use Rattle.executor_core.specs.World.Promises.{queues}
 use Rattle.executor_core.specs.World.Tickers.{is_awake, is_run, has_ended, stored, runner_of}
-use Rattle.executor_core.specs.World.Steps.{row, local_places, Spawns, spawn_row, wake_row, cancel_row, drop_handle_row, ready_row, detach_row, dropped_row, exchange_row, notify_row, handle_row, tick_row, run_row, poll_row, sleep_row, yield_row, remove_row, store_row, drop_row, fair_row, unregister_row, Makes, enabled, Does, StepTo, FoldTo, logged, informed, noticed, queued_where, notice_reply, end_reply, return_reply, take_reply, take_row, give_row, placed_where, taking, with_queues, found_row, found_by, search_to_row, ticker}
+use Rattle.executor_core.specs.World.Steps.{row, local_places, Spawns, spawn_row, wake_row, cancel_row, drop_handle_row, ready_row, detach_row, dropped_row, exchange_row, notify_row, handle_row, tick_row, run_row, poll_row, sleep_row, yield_row, remove_row, store_row, drop_row, fair_row, unregister_row, Makes, enabled, Does, StepTo, FoldTo, logged, informed, noticed, queued_where, notice_reply, end_reply, return_reply, take_reply, take_row, give_row, placed_where, taking, drain_row, with_queues, found_row, found_by, search_to_row, some_held, some_busy, ticker}
 use Rattle.executor_core.specs.World.Order.{new_task, noticed_task, requeued_task, taken_task, queued_by, taken_by, queued, taken, searcher, IsAlone, line, LoneStep, LoneOrder}
 use Rattle.executor_core.specs.declared.interleave.entry.TaskInfo.{TaskInfo}
 use Rattle.executor_core.specs.declared.interleave.event.Event.TheVariants.{Returned}
 use Rattle.executor_core.specs.declared.interleave.request.Step.{Step}
-use Rattle.executor_core.specs.declared.interleave.request.Step.TheVariants.{Spawn, Wake, TryTick, Pend, Ready, PollHandle, Cancel, Detach, DropHandle, Dropped as DropDone, Exchange, Notify, Tick, Run, Register, Poll, Search, Sleep, Yield, Remove, Store, Fair, Unregister, Drop}
+use Rattle.executor_core.specs.declared.interleave.request.Step.TheVariants.{Spawn, Wake, TryTick, Pend, Ready, PollHandle, Cancel, Detach, DropHandle, Dropped as DropDone, Exchange, Notify, Tick, Run, Register, Poll, Search, Sleep, Yield, Remove, Store, Fair, Unregister, Drop, Close, Drain}
 use Rattle.executor_core.specs.declared.interleave.reply.Reply.{Reply}
 use Rattle.executor_core.specs.declared.interleave.reply.Reply.TheVariants as reply
 use Rattle.executor_core.proofs.World.OrderQueues.{FindsFront, search_front, search-other, line-fair, alone_registered, line-unregistered}
@@ -50,6 +50,7 @@ module _ {P T : Type 0} where
   refused_taken : (step : Step P T) (answer : Reply T) → taken_task answer ≡ [] → taken_by step answer ≡ []
   refused_taken TryTick answer takes = takes
   refused_taken (Search k word) answer takes = takes
+  refused_taken Drain answer takes = takes
   refused_taken _ answer takes = refl
 
 -- the queues of worlds that differ in something else
@@ -122,6 +123,10 @@ module _ {T : Type 0} (r : ℕ) (old new : Execution T) (answer : Reply T) (befo
   ticking [] does never = no_take (reply.NoTask, old) does refl refl
   ticking (n ∷ rest) does never = absurd (takes_none n (cancelled n old.log) does.0 never)
 
+  draining : (global : List ℕ) → Leads (drain_row global old) → (taken_task answer ≢ [] → ⊥) → Moves [] (taken_task answer)
+  draining [] does never = no_take (reply.NoTask, old) does refl refl
+  draining (n ∷ rest) does never = absurd (takes_none n true does.0 never)
+
   searching_global : (k : ℕ) (global : List ℕ) → Leads (search_to_row k (global_front global (queues old)) old) → (taken_task answer ≢ [] → ⊥) → Moves [] (taken_task answer)
   searching_global k [] does never = no_take (search_to_row k (global_front [] (queues old)) old) does refl refl
   searching_global k (n ∷ rest) does never = absurd (takes_none n (cancelled n old.log) does.0 never)
@@ -148,41 +153,46 @@ module _ {T : Type 0} (r : ℕ) (old new : Execution T) (answer : Reply T) (befo
   spawning (inr made) = queueing_if true (length old.tasks) new_task (reply.Task (length old.tasks), spawn_row made.0 old) (made.2, made.3) refl refl
 
   -- an enabled step
-  done : {P : Type 0} (step : Step P T) → Does step old answer new → (taken_by step answer ≢ [] → searcher step old ≡ Some r) → Moves (queued_by step answer) (taken_by step answer)
-  done (Spawn p) does taker = spawning does
-  done (Wake n) does taker = queueing_if (idle n old.log) n (noticed_task n) (wake_row n old) does refl (noticed-notice T n (idle n old.log))
-  done (Cancel n) does taker = queueing_if (idle n old.log) n (noticed_task n) (cancel_row n old) does refl (noticed-notice T n (idle n old.log))
-  done (DropHandle n) does taker = queueing_if (idle n old.log) n (noticed_task n) (drop_handle_row n old) does refl (noticed-end T n (idle n old.log) _)
-  done (Pend n) does taker = pending (cancelled n old.log) (woken n old.log) n _ does
-  done TryTick does taker = ticking old.global does (λ some. let h = taker some in cc)
-  done (Search k word) does taker = searching (ticker k old).runner k word does taker
-  done (Fair k) does taker = same_line (lines-row (fair_row k old) does ∙ line-fair r (runner_of (ticker k old)) (queues old) before)
-  done (Register k) does taker = absurd (alone_registered r (runner_of (ticker k old)) local_places (queues old) before (subst (λ w. IsAlone r w.locals) does.1 after))
-  done (Unregister k) does taker = same_line (lines-row (unregister_row k old) does ∙ line-unregistered r (runner_of (ticker k old)) (queues old) before (subst (λ w. IsAlone r w.locals) does.1 after))
-  done (PollHandle n) does taker = quiet (handle_row n old) does (queues-cond (dropped n old.log) _ _ (queues old) (queues-give n (outputs n old.log) old) refl)
-  done (Ready n t) does taker = quiet (ready_row n t old) does refl
-  done (Detach n) does taker = quiet (detach_row n old) does refl
-  done (DropDone n) does taker = quiet (dropped_row n old) does refl
-  done Exchange does taker = quiet (exchange_row old) does refl
-  done Notify does taker = quiet (notify_row old) does refl
-  done Tick does taker = making tick_row refl does
-  done Run does taker = making run_row refl does
-  done (Poll k) does taker = quiet (poll_row k old) does refl
-  done (Sleep k) does taker = quiet (sleep_row k old) does (queues-cond (is_awake (ticker k old)) _ _ (queues old) refl (queues-cond (is_notified_number old.sleepers (ticker k old).number) _ _ (queues old) refl refl))
-  done (Yield k) does taker = quiet (yield_row k old) does refl
-  done (Remove k) does taker = quiet (remove_row k old) does refl
-  done (Store k) does taker = quiet (store_row k old) does (queues-placed (has_ended (stored (ticker k old)).phase) _)
-  done (Drop k) does taker = quiet (drop_row k old) does (queues-cond (is_awake (ticker k old)) _ _ (queues old) refl refl)
+  done : {P : Type 0} (step : Step P T) → enabled step old ≡ true → new.closed ≡ old.closed → Does step old answer new → (taken_by step answer ≢ [] → searcher step old ≡ Some r) → Moves (queued_by step answer) (taken_by step answer)
+  done (Spawn p) on goes_on does taker = spawning does
+  done (Wake n) on goes_on does taker = queueing_if (idle n old.log) n (noticed_task n) (wake_row n old) does refl (noticed-notice T n (idle n old.log))
+  done (Cancel n) on goes_on does taker = queueing_if (idle n old.log) n (noticed_task n) (cancel_row n old) does refl (noticed-notice T n (idle n old.log))
+  done (DropHandle n) on goes_on does taker = queueing_if (idle n old.log) n (noticed_task n) (drop_handle_row n old) does refl (noticed-end T n (idle n old.log) _)
+  done (Pend n) on goes_on does taker = pending (cancelled n old.log) (woken n old.log) n _ does
+  done TryTick on goes_on does taker = ticking old.global does (λ some. let h = taker some in cc)
+  done (Search k word) on goes_on does taker = searching (ticker k old).runner k word does taker
+  done (Fair k) on goes_on does taker = same_line (lines-row (fair_row k old) does ∙ line-fair r (runner_of (ticker k old)) (queues old) before)
+  done (Register k) on goes_on does taker = absurd (alone_registered r (runner_of (ticker k old)) local_places (queues old) before (subst (λ w. IsAlone r w.locals) does.1 after))
+  done (Unregister k) on goes_on does taker = same_line (lines-row (unregister_row k old) does ∙ line-unregistered r (runner_of (ticker k old)) (queues old) before (subst (λ w. IsAlone r w.locals) does.1 after))
+  done (PollHandle n) on goes_on does taker = quiet (handle_row n old) does (queues-cond (dropped n old.log) _ _ (queues old) (queues-give n (outputs n old.log) old) refl)
+  done (Ready n t) on goes_on does taker = quiet (ready_row n t old) does refl
+  done (Detach n) on goes_on does taker = quiet (detach_row n old) does refl
+  done (DropDone n) on goes_on does taker = quiet (dropped_row n old) does refl
+  done Exchange on goes_on does taker = quiet (exchange_row old) does refl
+  done Notify on goes_on does taker = quiet (notify_row old) does refl
+  done Tick on goes_on does taker = making tick_row refl does
+  done Run on goes_on does taker = making run_row refl does
+  done (Poll k) on goes_on does taker = quiet (poll_row k old) does refl
+  done (Sleep k) on goes_on does taker = quiet (sleep_row k old) does (queues-cond (is_awake (ticker k old)) _ _ (queues old) refl (queues-cond (is_notified_number old.sleepers (ticker k old).number) _ _ (queues old) refl refl))
+  done (Yield k) on goes_on does taker = quiet (yield_row k old) does refl
+  done (Remove k) on goes_on does taker = quiet (remove_row k old) does refl
+  done (Store k) on goes_on does taker = quiet (store_row k old) does (queues-placed (has_ended (stored (ticker k old)).phase) _)
+  done Drain on goes_on does taker = draining old.global does (λ some. let h = taker some in cc)
+  done Close on goes_on does taker =
+      let unclosed : old.closed ≡ false = not-true old.closed (and_parts (not old.closed) (not (some_held old)) (and_parts (not old.closed && not (some_held old)) (not (some_busy old)) on).0).0 in
+      let shut : new.closed ≡ true = ap (λ (w : Execution T). w.closed) does.2.1 in
+      absurd (true≢false (sym shut ∙ goes_on ∙ unclosed))
+  done (Drop k) on goes_on does taker = quiet (drop_row k old) does (queues-cond (is_awake (ticker k old)) _ _ (queues old) refl refl)
 
   refused : {P : Type 0} (step : Step P T) (a : Reply T) → (answer ≡ a) × (new ≡ old) → queued_by step a ≡ [] → taken_by step a ≡ [] → Moves (queued_by step answer) (taken_by step answer)
   refused step a is none_queued none_taken = subst (λ l. Moves l (taken_by step answer)) (sym (ap (queued_by step) is.0 ∙ none_queued)) (subst (Moves []) (sym (ap (taken_by step) is.0 ∙ none_taken)) (same_line (ap (λ w. line r (queues w)) is.1)))
 
   -- a step that is refused, or done
-  one_step : {P : Type 0} (step : Step P T) → StepTo old step answer new → (taken_by step answer ≢ [] → searcher step old ≡ Some r) → Moves (queued_by step answer) (taken_by step answer)
-  one_step step to taker = elim (cases_eq old.accepted old.limit) [
+  one_step : {P : Type 0} (step : Step P T) → StepTo old step answer new → new.closed ≡ old.closed → (taken_by step answer ≢ [] → searcher step old ≡ Some r) → Moves (queued_by step answer) (taken_by step answer)
+  one_step step to goes_on taker = elim (cases_eq old.accepted old.limit) [
     | inl full ↦ refused step reply.LogFull (to.full full) (refused_queued step reply.LogFull refl (λ n. refl) refl) (refused_taken step reply.LogFull refl)
     | inr far ↦ elim (cases_Bool (enabled step old)) [
-      | inl on ↦ done step (to.done far on) taker
+      | inl on ↦ done step on goes_on (to.done far on) taker
       | inr off ↦ refused step reply.NotNow (to.not_now far off) (refused_queued step reply.NotNow refl (λ n. refl) refl) (refused_taken step reply.NotNow refl)
     ]
   ]
@@ -199,6 +209,6 @@ module _ {P T : Type 0} where
       by_turns old (step ∷ steps) (answer ∷ answers) alone run =
           let mid = run.0 in
           let first = run.1 in
-          joined (line r (queues old)) (line r (queues mid)) (line r (queues new)) (queued_by step answer) (taken_by step answer) (queued steps answers) (taken steps answers) (one_step r old mid answer alone first.alone step first.does first.taker) (by_turns mid steps answers first.alone run.2)
+          joined (line r (queues old)) (line r (queues mid)) (line r (queues new)) (queued_by step answer) (taken_by step answer) (queued steps answers) (taken steps answers) (one_step r old mid answer alone first.alone step first.does first.goes_on first.taker) (by_turns mid steps answers first.alone run.2)
       by_turns old [] (answer ∷ answers) alone run = absurd run
       by_turns old (step ∷ steps) [] alone run = absurd run

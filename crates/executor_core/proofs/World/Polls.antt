@@ -12,6 +12,7 @@ use Rattle.executor_core.specs.Cell.Changes.{taken, takes_back, pended, wakeup_o
 use Rattle.executor_core.specs.Queues.{QueueLists}
 use Rattle.executor_core.specs.Ring.{IdRing}
 use Rattle.executor_core.specs.World.{Execution}
+use Rattle.executor_core.specs.World.Closing.{AllMarked}
 use Rattle.executor_core.specs.World.Entries.{infos, is_out, is_unpolled, is_unpolled_future, PolledAgrees, out_entry}
 use Rattle.executor_core.specs.World.Log.{unfollowed, is_cancel, is_take, cancelled, held, woken}
 use Rattle.executor_core.specs.World.Promises.{MayFollow, InOrder}
@@ -20,9 +21,10 @@ use Rattle.executor_core.specs.World.View.{execution_of, IsWorld}
 use Rattle.executor_core.specs.World.Agreement.{Status, status, FewPollsFor, IsUndropped, StateAgrees, NumberAgrees, Agree}
 use Rattle.executor_core.proofs.BoolLemmas.{not-not, or-without_last}
 use Rattle.executor_core.proofs.ListLemmas.{within_get, get_within, length-push, length-slice_set, set-here, set_again}
+use Rattle.executor_core.proofs.World.Closing.{marked_push, marked_push_if}
 use Rattle.executor_core.proofs.World.Entries.{infos-set, entry_of, info_at}
 use Rattle.executor_core.proofs.World.Room.{length-push_if}
-use Rattle.executor_core.proofs.World.Runners.{runner_part}
+use Rattle.executor_core.proofs.World.Runners.{fixed_part, same_locals, same_closed}
 use Rattle.executor_core.proofs.World.Steps.{stepped, Done, stepped_sound}
 use Rattle.executor_core.proofs.World.Log.{on_poll, on_take, on_return, on_drop, on_finish, order-push, status_other}
 use Rattle.executor_core.proofs.World.Agreement.{id_of, out_is, held_by_state, state_agrees, CellAt, held_cell, agreed_at, LogChange, log_same, log_pushed, entry_set, cell_put, cell_removed, cell_same, agree_again}
@@ -140,7 +142,7 @@ module _ {P T : Type 0} {table : Table P T (Unit {0})} {log : List (Event T)} {e
       pub cancelled : cancelled n log ≡ false
       pub queued : woken_in (cell_at table (id_of n e.info)) ≡ woken n log
       pub global : (after_end_pending table (id_of n e.info) p).global ≡ cond (woken n log) (table.global ++ n ∷ []) table.global
-      pub runners : runner_part (after_end_pending table (id_of n e.info) p) ≡ runner_part table
+      pub runners : fixed_part (after_end_pending table (id_of n e.info) p) ≡ fixed_part table
 
     pended_state : (w : Bool) (p : P) (s : Status T) → s.cancelled ≡ false → s.cancelled_since ≡ false → StateAgrees {P = P} Held w s → StateAgrees (cond w (Scheduled p) (Idle p)) w (record s { held = false })
     pended_state true p s u r h = (record { spawned = h.0.spawned; dropped = h.0.dropped; held = refl; outputs = h.0.outputs; given = h.0.given }, or_left _ s.cancelled_since (or_right (not s.taken) s.woken h.2))
@@ -162,7 +164,7 @@ module _ {P T : Type 0} {table : Table P T (Unit {0})} {log : List (Event T)} {e
               (order-push log (Returned n) agree.order tt);
           cancelled = un;
           queued = ap woken_in the_cell.cell ∙ sym alive.2;
-          runners = ap runner_part ended;
+          runners = ap fixed_part ended;
           global = ap (λ x. x.global) ended ∙ ap (λ b. cond b (table.global ++ n ∷ []) table.global) (sym alive.2);
         }
 
@@ -186,7 +188,7 @@ module _ {P T : Type 0} {table : Table P T (Unit {0})} {log : List (Event T)} {e
     pub record Ended (later : Table P T (Unit {0})) (more : List (Event T)) : Type 0 where
       pub holds : Agree later more (slice_set entries n (record { info = record e.info { awaited = false }; out = None }))
       pub global : later.global ≡ table.global
-      pub runners : runner_part later ≡ runner_part table
+      pub runners : fixed_part later ≡ fixed_part table
 
     -- the cell ends in this state, where the handle is there, and else is gone
     ended : (s : Status T) (st : CellState P T) {later : Table P T (Unit {0})} {more : List (Event T)}
@@ -202,7 +204,7 @@ module _ {P T : Type 0} {table : Table P T (Unit {0})} {log : List (Event T)} {e
                 holds = agree_again agree (cell_put table later n (record { slot = e.info.slot; cell = record c { state = st; awaiter = None } }) (ap (λ x. x.next) put) (ap (λ x. x.cells) put)) log_change (entry_set entries n e _ found)
                     (record { slot = refl; has_handle = h.has_handle; awaited = refl; cancelled = h.cancelled ∙ sym cancel; state = state; out = sym hold; polled = tt }) few order;
                 global = ap (λ x. x.global) put;
-                runners = ap runner_part put;
+                runners = ap fixed_part put;
               }
           | inr gone ↦
               let removed : later ≡ without_cell table (id_of n e.info) = is ∙ cond-false c.has_handle _ _ gone in
@@ -210,7 +212,7 @@ module _ {P T : Type 0} {table : Table P T (Unit {0})} {log : List (Event T)} {e
                 holds = agree_again agree (cell_removed table later n (ap (λ x. x.next) removed) (ap (λ x. x.cells) removed)) log_change (entry_set entries n e _ found)
                     (record { spawned = spawn; dropped = drop; held = hold; has_handle = sym h.has_handle ∙ gone; out = sym hold }) few order;
                 global = ap (λ x. x.global) removed;
-                runners = ap runner_part removed;
+                runners = ap fixed_part removed;
               }
         ]
 
@@ -280,7 +282,7 @@ module _ {P T : Type 0} (a : Inside P T) (sound : IsWorld (execution_of a) a.cor
       let same : core ≡ a.core = core_is ∙ ap (λ (t : Table P T (Unit {0})). record a.core { cells = t }) (ap (take_first a.core.cells) none) in
       let far = rw (← view) at far in
       rw (← view, same) (record {
-        sound = stepped_sound a sound refl far false _ _ _ (λ _. refl) refl (omega arith) (omega arith) sound.agree;
+        sound = stepped_sound a sound refl far false _ _ _ (λ _. refl) refl (omega arith) (omega arith) sound.agree (λ _ marked. marked);
         does = by_row a.core.cells.global none;
       })
     where
@@ -294,6 +296,7 @@ module _ {P T : Type 0} (a : Inside P T) (sound : IsWorld (execution_of a) a.cor
     pub world : record (execution_of a) { log = log; tasks = infos entries } ≡ taking n a.core.cells.global (execution_of a)
     pub tasks : length entries ≡ length a.entries.items
     pub events : length log ≡ length a.log.items + 1
+    pub marks : AllMarked a.log.items → AllMarked log
 
   pub took_task : {task : Taken P} {table : Table P T (Unit {0})} (q : QueueLists ℕ) → IsTaken a.core.cells task → table ≡ with_queues q (with_taken a.core.cells task.id.number)
       → {entries : List (TaskEntry P)} → ((e : TaskEntry P) → slice_get a.entries.items task.id.number ≡ Some e → entries ≡ slice_set a.entries.items task.id.number (out_entry e task))
@@ -312,13 +315,14 @@ module _ {P T : Type 0} (a : Inside P T) (sound : IsWorld (execution_of a) a.cor
         world = rw (are, log_is, infos-set a.entries.items n (out_entry e task), info_at a.entries.items n e at.1, cancel) refl;
         tasks = ap length are ∙ length-slice_set a.entries.items n (out_entry e task);
         events = ap length log_is ∙ length-push a.log.items (Took n (purpose_of task.cancelled));
+        marks = λ marked. rw log_is (marked_push a.log.items (Took n (purpose_of task.cancelled)) (λ _. refl) marked);
       }
 
   -- a take leaves the runners as they are
-  pub taken_runners : (table : Table P T (Unit {0})) (n : ℕ) → runner_part (with_taken table n) ≡ runner_part table
+  pub taken_runners : (table : Table P T (Unit {0})) (n : ℕ) → fixed_part (with_taken table n) ≡ fixed_part table
   taken_runners table n = by_cell (map.get table.cells n)
     where
-      by_cell : (o : Option (Slotted P T (Unit {0}))) → runner_part (with_taken_at table n o) ≡ runner_part table
+      by_cell : (o : Option (Slotted P T (Unit {0}))) → fixed_part (with_taken_at table n o) ≡ fixed_part table
       by_cell None = refl
       by_cell (Some s) = refl
 
@@ -332,19 +336,19 @@ module _ {P T : Type 0} (a : Inside P T) (sound : IsWorld (execution_of a) a.cor
       let n = task.id.number in
       let far = rw (← view) at far in
       let cells_are : core.cells ≡ record (with_taken a.core.cells n) { global = core.cells.global } = ap (λ c. c.cells) core_is ∙ ap (take_first a.core.cells) takes.front in
-      let runners : runner_part core.cells ≡ runner_part a.core.cells = ap runner_part cells_are ∙ taken_runners a.core.cells n in
+      let runners : fixed_part core.cells ≡ fixed_part a.core.cells = ap fixed_part cells_are ∙ taken_runners a.core.cells n in
       let took = took_task (record { global = core.cells.global; locals = (with_taken a.core.cells n).locals }) takes.taken cells_are entries_are log_is in
       let tasks = took.tasks in
       let events = took.events in
       let same = cells_alone a.core core (after_take a.core.cells) core_is in
       rw (← view, same, more, capacity, answers) (record {
-        sound = stepped_sound a sound refl far true core.cells log entries (λ never. absurd (cc)) runners (omega arith) (omega arith) took.agree;
-        does = by_row a.core.cells.global takes.front took.cancelled took.world (ap (λ p. p.0) runners);
+        sound = stepped_sound a sound refl far true core.cells log entries (λ never. absurd (cc)) runners (omega arith) (omega arith) took.agree (λ _. took.marks);
+        does = by_row a.core.cells.global takes.front took.cancelled took.world (same_locals runners) (same_closed runners);
       })
     where
-      by_row : (queue : List ℕ) → queue ≡ task.id.number ∷ core.cells.global → cancelled task.id.number a.log.items ≡ task.cancelled → record (execution_of a) { log = log; tasks = infos entries } ≡ taking task.id.number a.core.cells.global (execution_of a) → core.cells.locals ≡ a.core.cells.locals
-          → row (take_row queue (execution_of a)) (take_reply task.id.number task.cancelled) (record (execution_of a) { log = log; accepted = a.accepted + 1; global = core.cells.global; locals = core.cells.locals; notices = a.notices + 1; tasks = infos entries })
-      by_row queue front cancel world locals = rw (front, locals) (ap (take_reply task.id.number) (sym cancel), ap (λ (x : Execution T). counted (noticed (record x { global = core.cells.global }))) world)
+      by_row : (queue : List ℕ) → queue ≡ task.id.number ∷ core.cells.global → cancelled task.id.number a.log.items ≡ task.cancelled → record (execution_of a) { log = log; tasks = infos entries } ≡ taking task.id.number a.core.cells.global (execution_of a) → core.cells.locals ≡ a.core.cells.locals → core.cells.closed ≡ a.core.cells.closed
+          → row (take_row queue (execution_of a)) (take_reply task.id.number task.cancelled) (record (execution_of a) { log = log; accepted = a.accepted + 1; global = core.cells.global; locals = core.cells.locals; notices = a.notices + 1; tasks = infos entries; closed = core.cells.closed })
+      by_row queue front cancel world locals closed = rw (front, locals, closed) (ap (take_reply task.id.number) (sym cancel), ap (λ (x : Execution T). counted (noticed (record x { global = core.cells.global }))) world)
 
 module _ {P T : Type 0} (a : Inside P T) (sound : IsWorld (execution_of a) a.core.cells a.entries.items a.rings.items (vec_capacity a.log)) {w : Execution T} (view : execution_of a ≡ w) (far : w.accepted ≢ w.limit) (n : ℕ) {i : TaskInfo} (found : slice_get (infos a.entries.items) n ≡ Some i) where
   module _ (b : Bool) (enabled : held n w.log && b ≡ true) where
@@ -361,8 +365,8 @@ module _ {P T : Type 0} (a : Inside P T) (sound : IsWorld (execution_of a) a.cor
           let queued = queues_is ∙ ap (λ id. woken_in (cell_at a.core.cells id)) same ∙ step.queued in
           let far = rw (← view) at far in
           rw (← view, counted, core_is, entries_is, log_is, noticed, answers, keeps, capacity, same, queued) (record {
-            sound = stepped_sound a sound refl far (woken n a.log.items) _ _ _ (λ never. step.global ∙ cond-false (woken n a.log.items) _ _ never) step.runners (let long = length-slice_set a.entries.items n (record { info = i; out = None }) in omega arith) (let long = length-push a.log.items (Returned n) in omega arith) step.holds;
-            does = rw (infos-set a.entries.items n (record { info = i; out = None }), set-here (infos a.entries.items) n i found, step.global, ap (λ p. p.0) step.runners, step.cancelled) (refl, refl);
+            sound = stepped_sound a sound refl far (woken n a.log.items) _ _ _ (λ never. step.global ∙ cond-false (woken n a.log.items) _ _ never) step.runners (let long = length-slice_set a.entries.items n (record { info = i; out = None }) in omega arith) (let long = length-push a.log.items (Returned n) in omega arith) step.holds (λ _. marked_push a.log.items (Returned n) (λ _. refl));
+            does = rw (infos-set a.entries.items n (record { info = i; out = None }), set-here (infos a.entries.items) n i found, step.global, same_locals step.runners, same_closed step.runners, step.cancelled) (refl, refl);
           })
 
       -- the task was cancelled, and its future stays out to be dropped
@@ -375,7 +379,7 @@ module _ {P T : Type 0} (a : Inside P T) (sound : IsWorld (execution_of a) a.cor
           let far = rw (← view) at far in
           let set : entries ≡ slice_set a.entries.items n e = set_again _ _ _ _ _ _ middle_is entries_is ∙ ap (λ (j : TaskInfo). slice_set a.entries.items n (record { info = j; out = Some (Polled q) })) info_is in
           rw (← view, counted, core_is, set, answers, capacity, same, step.same) (record {
-            sound = stepped_sound a sound refl far false _ _ _ (λ _. refl) refl (let long = length-slice_set a.entries.items n e in omega arith) (omega arith) step.holds;
+            sound = stepped_sound a sound refl far false _ _ _ (λ _. refl) refl (let long = length-slice_set a.entries.items n e in omega arith) (omega arith) step.holds (λ _ marked. marked);
             does = rw (infos-set a.entries.items n e, step.cancelled, found) (refl, refl);
           })
 
@@ -393,8 +397,8 @@ module _ {P T : Type 0} (a : Inside P T) (sound : IsWorld (execution_of a) a.cor
           let gave = ap (λ p. p.1) handed in
           let cancel = cancel_is ∙ ap (λ id. cancelled_in (cell_at a.core.cells id)) same ∙ cancelled_is sound.agree n _ at is_held_now in
           rw (← view, counted, core_is, entries_is, info_is, answers, ended_is, more_is, log_is, cancel, capacity, ours, gave, awaiter_is sound.agree n _ at is_held_now t, unwanted_is sound.agree n _ at is_held_now t) (record {
-            sound = stepped_sound a sound refl far false _ _ _ (λ _. step.global) step.runners (let long = length-slice_set a.entries.items n e in omega arith) (let first = length-push_if (not (cancelled n a.log.items)) a.log.items (Finish n t) in let long = length-push (cond (not (cancelled n a.log.items)) (a.log.items ++ Finish n t ∷ []) a.log.items) (Dropped n) in omega arith) step.holds;
-            does = rw (infos-set a.entries.items n e, step.global, ap (λ p. p.0) step.runners, found) (refl, refl);
+            sound = stepped_sound a sound refl far false _ _ _ (λ _. step.global) step.runners (let long = length-slice_set a.entries.items n e in omega arith) (let first = length-push_if (not (cancelled n a.log.items)) a.log.items (Finish n t) in let long = length-push (cond (not (cancelled n a.log.items)) (a.log.items ++ Finish n t ∷ []) a.log.items) (Dropped n) in omega arith) step.holds (λ _ marked. marked_push (cond (not (cancelled n a.log.items)) (a.log.items ++ Finish n t ∷ []) a.log.items) (Dropped n) (λ _. refl) (marked_push_if (not (cancelled n a.log.items)) a.log.items (Finish n t) (λ _. refl) marked));
+            does = rw (infos-set a.entries.items n e, step.global, same_locals step.runners, same_closed step.runners, found) (refl, refl);
           })
 
       -- the future was dropped
@@ -408,6 +412,6 @@ module _ {P T : Type 0} (a : Inside P T) (sound : IsWorld (execution_of a) a.cor
           let far = rw (← view) at far in
           let ours = ap (λ h. h.id) handed ∙ same in
           rw (← view, counted, core_is, entries_is, info_is, log_is, answers, there_is, awaiter_is, capacity, ours, gone_awaiter_is sound.agree n _ at is_held_now) (record {
-            sound = stepped_sound a sound refl far false _ _ _ (λ _. step.global) step.runners (let long = length-slice_set a.entries.items n e in omega arith) (let long = length-push a.log.items (Dropped n) in omega arith) step.holds;
-            does = rw (infos-set a.entries.items n e, step.global, ap (λ p. p.0) step.runners, found) (refl, refl);
+            sound = stepped_sound a sound refl far false _ _ _ (λ _. step.global) step.runners (let long = length-slice_set a.entries.items n e in omega arith) (let long = length-push a.log.items (Dropped n) in omega arith) step.holds (λ _. marked_push a.log.items (Dropped n) (λ _. refl));
+            does = rw (infos-set a.entries.items n e, step.global, same_locals step.runners, same_closed step.runners, found) (refl, refl);
           })

@@ -14,7 +14,7 @@ use Rattle.executor_core.specs.Ring.{IdRing}
 use Rattle.executor_core.specs.World.{Execution}
 use Rattle.executor_core.specs.World.Runners.{new_ring, RunnersTied}
 use Rattle.executor_core.specs.World.Steps.{local_places, ticker, notice_reply, register_row, fair_row, unregister_row}
-use Rattle.executor_core.specs.World.Tickers.{at_rest, in_store, has_ended, has_to_search, notices_in, is_run, runner_or, runner_of, has_queue, is_new_run, ticker_or, left}
+use Rattle.executor_core.specs.World.Tickers.{at_rest, waits, in_store, has_ended, has_to_search, notices_in, is_run, runner_or, runner_of, has_queue, is_new_run, is_over, may_register as may_register_run, ticker_or, left}
 use Rattle.executor_core.specs.World.View.{execution_of, IsWorld}
 use Rattle.executor_core.proofs.ListLemmas.{length-slice_set}
 use Rattle.executor_core.proofs.QueueLemmas.{registered-entries, fair-permutes, unregistered-permutes}
@@ -25,7 +25,7 @@ use Rattle.executor_core.proofs.World.Runners.{run_is, not_run, new_places, runn
 use Rattle.executor_core.proofs.World.Searches.{no_items, fair_shapes}
 use Rattle.executor_core.proofs.World.Steps.{stepped, Done}
 use Rattle.executor_core.proofs.World.Tickers.{known, stores_same, tied_phase}
-use Rattle.executor_core.proofs.World.TickerSteps.{is_rest, ticked, ticked_sound}
+use Rattle.executor_core.proofs.World.TickerSteps.{is_rest, goes_open, ticked, ticked_sound}
 use Rattle.executor_core.specs.declared.plain_core.Core.{Core}
 use Rattle.executor_core.specs.declared.interleave.World.TheInside.{Inside}
 use Rattle.executor_core.specs.declared.interleave.reply.Reply.{Reply}
@@ -70,24 +70,31 @@ module _ {P T : Type 0} (a : Inside P T) (sound : IsWorld (execution_of a) a.cor
   before = ticker_or (slice_get a.tickers.items k)
 
   -- the world after the queues changed
-  queued_sound : (cells : Table P T (Unit {0})) (rings : List (Option IdRing)) → cells.next ≡ a.core.cells.next → cells.cells ≡ a.core.cells.cells → (a.core.cells.global ≡ [] → cells.global ≡ []) → (queued_of a.core.cells ≡ [] → queued_of cells ≡ []) → RunnersTied a.tickers.items cells rings
+  queued_sound : (cells : Table P T (Unit {0})) (rings : List (Option IdRing)) → cells.next ≡ a.core.cells.next → cells.cells ≡ a.core.cells.cells → (a.core.cells.global ≡ [] → cells.global ≡ []) → (queued_of a.core.cells ≡ [] → queued_of cells ≡ []) → RunnersTied a.tickers.items cells rings → a.core.cells.closed ≡ false → cells.closed ≡ a.core.cells.closed
       → IsWorld (stepped a (a.accepted + 1) (record a.core { cells = cells }) a.log.items a.entries.items a.notices a.picks) cells a.entries.items rings (vec_capacity a.log)
-  queued_sound cells rings next same empty nothing runners =
+  queued_sound cells rings next same empty nothing runners unclosed as_before =
       record {
         agree = same_cells sound.agree next same;
         notices = notices_again sound.notices refl refl refl refl refl (inr (record { global = empty; all = nothing }, refl));
         tickers = sound.tickers;
         runners = runners;
-        room = room_again sound.room view far _ refl refl (omega arith) (omega arith) (omega arith) (omega arith);
+        room = room_again sound.room view far _ refl refl (omega arith) (omega arith) (omega arith) (omega arith) as_before;
+        closing = λ on. absurd (true≢false (sym on ∙ as_before ∙ unclosed));
       }
 
   -- a new run registers its runner
-  module _ (enabled : is_new_run w.locals (ticker k w) ≡ true) {t : Ticker} (t_is : t ≡ before) where
+  module _ (enabled : may_register_run w.locals (ticker k w) ≡ true) {t : Ticker} (t_is : t ≡ before) where
+    rests_new : (at_rest before.phase ≡ true) × (is_new_run a.core.cells.locals before ≡ true)
+    rests_new = and_parts (at_rest before.phase) (is_new_run a.core.cells.locals before) (ap (λ (w : Execution T). may_register_run w.locals (ticker k w)) view ∙ enabled)
+
     is_new : is_new_run a.core.cells.locals before ≡ true
-    is_new = ap (λ (w : Execution T). is_new_run w.locals (ticker k w)) view ∙ enabled
+    is_new = rests_new.1
 
     found_new : slice_get a.tickers.items k ≡ Some before
-    found_new = known at_rest refl (slice_get a.tickers.items k) (and_parts (is_run before) (at_rest before.phase) (and_parts (is_run before && at_rest before.phase) _ is_new).0).1
+    found_new = known at_rest refl (slice_get a.tickers.items k) rests_new.0
+
+    open_new : a.core.cells.closed ≡ false
+    open_new = goes_open a sound k before found_new (ap is_over (is_rest before.phase rests_new.0))
 
     pub new_is_run : t.runner ≡ None → ⊥
     new_is_run none = true≢false (sym is_new ∙ not_run before (ap (λ (t : Ticker). t.runner) (sym t_is) ∙ none) a.core.cells.locals)
@@ -112,7 +119,7 @@ module _ {P T : Type 0} (a : Inside P T) (sound : IsWorld (execution_of a) a.cor
       may_now : may_register a.core.cells r ≡ true
       may_now =
           let free = lt-ltb 0 _ (new_places sound.runners k before found_new is_new) in
-          let parts = and_parts (at_rest before.phase) (not (is_registered r a.core.cells.locals)) (sym (run_is before r runner_is a.core.cells.locals) ∙ is_new) in
+          let parts = and_parts (waits before.phase) (not (is_registered r a.core.cells.locals)) (sym (run_is before r runner_is a.core.cells.locals) ∙ is_new) in
           ap (λ b. b && not (is_registered r a.core.cells.locals)) free ∙ parts.1
 
       pub registers : (false ≡ true) ↔ (may_register a.core.cells r ≡ true) → ⊥
@@ -125,7 +132,7 @@ module _ {P T : Type 0} (a : Inside P T) (sound : IsWorld (execution_of a) a.cor
           let cells : Table P T (Unit {0}) = after_register a.core.cells r local_places in
           let named : runner_of before ≡ r = ap runner_or runner_is in
           rw (← view, core_now, rings_are) (record {
-            sound = queued_sound cells (slice_set a.rings.items r None) refl refl (λ none. none) (λ none. registered-entries r local_places (queues_of a.core.cells) ∙ none) (runners_registered sound.runners k before r found_new runner_is is_new);
+            sound = queued_sound cells (slice_set a.rings.items r None) refl refl (λ none. none) (λ none. registered-entries r local_places (queues_of a.core.cells) ∙ none) (runners_registered sound.runners k before r found_new runner_is is_new) open_new refl;
             does = rw named (refl, refl);
           })
 
@@ -136,6 +143,9 @@ module _ {P T : Type 0} (a : Inside P T) (sound : IsWorld (execution_of a) a.cor
 
     found_rest : slice_get a.tickers.items k ≡ Some before
     found_rest = known at_rest refl (slice_get a.tickers.items k) rests.0
+
+    open_rest : a.core.cells.closed ≡ false
+    open_rest = goes_open a sound k before found_rest (ap is_over (is_rest before.phase rests.0))
 
     pub rest_is_run : t.runner ≡ None → ⊥
     rest_is_run none = false≢true (ap is_some (sym none) ∙ ap is_run t_is ∙ (and_parts (is_run before) _ rests.1).0)
@@ -155,7 +165,7 @@ module _ {P T : Type 0} (a : Inside P T) (sound : IsWorld (execution_of a) a.cor
       fair_done {core} core_is moved_is =
           let cells : Table P T (Unit {0}) = after_fair a.core.cells r in
           rw (← view, core_is, moved_is) (record {
-            sound = queued_sound cells a.rings.items refl refl (fair_global r (queues_of a.core.cells)) (permuted_none (queued_of a.core.cells) (queued_of cells) (fair-permutes r (queues_of a.core.cells))) (runners_shaped sound.runners (fair_shapes r (queues_of a.core.cells)) refl refl);
+            sound = queued_sound cells a.rings.items refl refl (fair_global r (queues_of a.core.cells)) (permuted_none (queued_of a.core.cells) (queued_of cells) (fair-permutes r (queues_of a.core.cells))) (runners_shaped sound.runners (fair_shapes r (queues_of a.core.cells)) refl refl) open_rest refl;
             does = rw named_there (refl, refl);
           })
 
@@ -184,7 +194,7 @@ module _ {P T : Type 0} (a : Inside P T) (sound : IsWorld (execution_of a) a.cor
                 (no_notice_lost (flag_quiet (execution_of a) world sound.notices k before v found_rest refl sound.tickers.stores (ap in_store phase) refl refl refl refl) covers)
                 (record { tied = tied_phase sound.tickers.tied k before found_rest v refl (ap has_ended phase) refl (λ woken. absurd (false≢true woken)) a.core.sleepers refl refl; stores = stores_same a.tickers.items k before v found_rest a.holder sound.tickers.stores (ap in_store phase) refl; opened = sound.tickers.opened })
                 (runners_unregistered sound.runners k before v r found_rest refl runner_there refl refl queue_there)
-                (omega arith);
+                (omega arith) open_rest refl;
             does = rw named_there (refl, refl);
           })
         where

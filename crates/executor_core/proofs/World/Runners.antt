@@ -11,7 +11,7 @@ use Rattle.executor_core.specs.Queues.{RunnerQueue, is_runner, is_registered, en
 use Rattle.executor_core.specs.Ring.{IdRing}
 use Rattle.executor_core.specs.World.Runners.{new_ring, RunTied, QueueTied, RunnersTied}
 use Rattle.executor_core.specs.World.Steps.{local_places}
-use Rattle.executor_core.specs.World.Tickers.{at_rest, is_run, runner_of, is_new_run, needs_queue, new_ticker}
+use Rattle.executor_core.specs.World.Tickers.{waits, is_run, runner_of, is_new_run, needs_queue, new_ticker}
 use Rattle.executor_core.proofs.ListLemmas.{set-here, length-slice_set, get-set_same, get-set_other, get-push_last, get-push_other, length-push, any-push, sum_by-set, sum_by-at}
 use Rattle.executor_core.specs.declared.interleave.ticker.Ticker.{Ticker}
 
@@ -131,10 +131,18 @@ shapes_with locals r entries = by_queue (slice_get locals r) refl
     by_queue None is = refl
     by_queue (Some q) is = shapes-set locals r entries q is
 
--- what a table says of the runners
+-- what a call on a task leaves as it is: the queues of the runners, their places, and whether the table was closed
 module _ {P T W : Type 0} where
-  abbrev pub runner_part : Table P T W → List (RunnerQueue ℕ) × (ℕ × ℕ)
-  runner_part table = (table.locals, (table.next_runner, table.free_places))
+  abbrev pub fixed_part : Table P T W → List (RunnerQueue ℕ) × (ℕ × (ℕ × Bool))
+  fixed_part table = (table.locals, (table.next_runner, (table.free_places, table.closed)))
+
+-- where that is as it was, so is each part of it
+module _ {later table : List (RunnerQueue ℕ) × (ℕ × (ℕ × Bool))} (same : later ≡ table) where
+  pub same_locals : later.0 ≡ table.0
+  same_locals = ap (λ p. p.0) same
+
+  pub same_closed : later.1.1.1 ≡ table.1.1.1
+  same_closed = ap (λ p. p.1.1.1) same
 
 -- a runner was registered, or unregistered: the others are as before
 pub registered_push : (k : ℕ) (locals : List (RunnerQueue ℕ)) (q : RunnerQueue ℕ) → q.runner ≢ k → is_registered k (locals ++ q ∷ []) ≡ is_registered k locals
@@ -151,7 +159,7 @@ pub registered_remove : (k : ℕ) (locals : List (RunnerQueue ℕ)) (i : ℕ) (q
 registered_remove k locals i q is other = position_any (is_runner k) (remove locals i) ∙ any-remove (is_runner k) locals i q is (ne_eqb q.runner k other) ∙ sym (position_any (is_runner k) locals)
 
 -- what a run is by its runner
-pub run_is : (t : Ticker) (r : ℕ) → t.runner ≡ Some r → (locals : List (RunnerQueue ℕ)) → is_new_run locals t ≡ at_rest t.phase && not (is_registered r locals)
+pub run_is : (t : Ticker) (r : ℕ) → t.runner ≡ Some r → (locals : List (RunnerQueue ℕ)) → is_new_run locals t ≡ waits t.phase && not (is_registered r locals)
 run_is t r is locals = rw is refl
 
 pub not_run : (t : Ticker) → t.runner ≡ None → (locals : List (RunnerQueue ℕ)) → is_new_run locals t ≡ false
@@ -161,7 +169,7 @@ runner_same : (t : Ticker) (r s : ℕ) → t.runner ≡ Some r → t.runner ≡ 
 runner_same t r s is also = cc (sym is, also)
 
 -- which tickers are no new runs: one that is not at rest, a tick, and one whose runner is registered
-pub restless_not_new : (locals : List (RunnerQueue ℕ)) (t : Ticker) → at_rest t.phase ≡ false → is_new_run locals t ≡ false
+pub restless_not_new : (locals : List (RunnerQueue ℕ)) (t : Ticker) → waits t.phase ≡ false → is_new_run locals t ≡ false
 restless_not_new locals t goes = ap (λ b. is_run t && b && not (is_registered (runner_of t) locals)) goes ∙ by_run (is_run t)
   where
     by_run : (b : Bool) → b && false && not (is_registered (runner_of t) locals) ≡ false
@@ -177,7 +185,7 @@ queued_not_new locals t queued = by_runner t.runner refl
 
     by_runner : (o : Option ℕ) → t.runner ≡ o → is_new_run locals t ≡ false
     by_runner None is = not_run t is locals
-    by_runner (Some r) is = run_is t r is locals ∙ ap (λ b. at_rest t.phase && not b) (queued r is) ∙ fails (at_rest t.phase)
+    by_runner (Some r) is = run_is t r is locals ∙ ap (λ b. waits t.phase && not b) (queued r is) ∙ fails (waits t.phase)
 
 -- what a step of the ticker at k makes of the tie
 module _ {P T W : Type 0} {tickers : List Ticker} {table : Table P T W} {rings : List (Option IdRing)} (tied : RunnersTied tickers table rings) where
@@ -215,7 +223,7 @@ module _ {P T W : Type 0} {tickers : List Ticker} {table : Table P T W} {rings :
         by_runner None is = not_run x is later.locals ∙ sym (not_run x is table.locals)
         by_runner (Some r) is =
             let other = (change.others r (λ mine. far (tied.once j k x t r at found is mine))).0 in
-            run_is x r is later.locals ∙ ap (λ b. at_rest x.phase && not b) other ∙ sym (run_is x r is table.locals)
+            run_is x r is later.locals ∙ ap (λ b. waits x.phase && not b) other ∙ sym (run_is x r is table.locals)
 
     pub runners_again : {later : Table P T W} {anew : List (Option IdRing)} → RunnersChange later anew → RunnersTied (slice_set tickers k u) later anew
     runners_again {later} {anew} change =
@@ -278,7 +286,7 @@ module _ {P T W : Type 0} {tickers : List Ticker} {table : Table P T W} {rings :
         never x alike = queued_not_new table.locals x (λ r is. queued r (sym alike ∙ is))
 
     -- it goes, and was not new
-    pub runners_gone : is_new_run table.locals t ≡ false → at_rest u.phase ≡ false → needs_queue u.phase ≡ false → RunnersTied (slice_set tickers k u) table rings
+    pub runners_gone : is_new_run table.locals t ≡ false → waits u.phase ≡ false → needs_queue u.phase ≡ false → RunnersTied (slice_set tickers k u) table rings
     runners_gone old goes leaves =
         let never = restless_not_new table.locals u goes in
         runners_again (record {
@@ -297,7 +305,7 @@ module _ {P T W : Type 0} {tickers : List Ticker} {table : Table P T W} {rings :
         })
 
     -- it goes, and was new: its runner's place is given back
-    pub runners_dropped : is_new_run table.locals t ≡ true → at_rest u.phase ≡ false → needs_queue u.phase ≡ false → {later : Table P T W} → later ≡ record table { free_places = table.free_places - 1 } → RunnersTied (slice_set tickers k u) later rings
+    pub runners_dropped : is_new_run table.locals t ≡ true → waits u.phase ≡ false → needs_queue u.phase ≡ false → {later : Table P T W} → later ≡ record table { free_places = table.free_places - 1 } → RunnersTied (slice_set tickers k u) later rings
     runners_dropped new goes leaves {later} is_later =
         let never = restless_not_new table.locals u goes in
         let more = new_places k t found new in
@@ -345,7 +353,7 @@ module _ {P T W : Type 0} {tickers : List Ticker} {table : Table P T W} {rings :
       }))
 
   -- a run at rest unregisters its runner, and goes
-  pub runners_unregistered : (k : ℕ) (t u : Ticker) (r : ℕ) → slice_get tickers k ≡ Some t → u.runner ≡ t.runner → t.runner ≡ Some r → at_rest u.phase ≡ false → needs_queue u.phase ≡ false → is_registered r table.locals ≡ true → RunnersTied (slice_set tickers k u) (after_unregister table r) rings
+  pub runners_unregistered : (k : ℕ) (t u : Ticker) (r : ℕ) → slice_get tickers k ≡ Some t → u.runner ≡ t.runner → t.runner ≡ Some r → waits u.phase ≡ false → needs_queue u.phase ≡ false → is_registered r table.locals ≡ true → RunnersTied (slice_set tickers k u) (after_unregister table r) rings
   runners_unregistered k t u r found same is goes leaves there =
       let at = position_at (is_runner r) table.locals there in
       let runner = eqb-true at.1.runner r at.4 in
@@ -392,7 +400,7 @@ module _ {P T W : Type 0} {tickers : List Ticker} {table : Table P T W} {rings :
       }
     where
       same_new : (t : Ticker) → is_new_run later.locals t ≡ is_new_run table.locals t
-      same_new t = ap (λ b. is_run t && at_rest t.phase && not b) (registered_shapes (runner_of t) table.locals later.locals shape)
+      same_new t = ap (λ b. is_run t && waits t.phase && not b) (registered_shapes (runner_of t) table.locals later.locals shape)
 
   -- a runner that is still to be made is not registered
   pub next_fresh : is_registered table.next_runner table.locals ≡ false
@@ -496,8 +504,8 @@ module _ {P T W : Type 0} {tickers : List Ticker} {table : Table P T W} {rings :
       by_runner None is = absurd (true≢false (sym new ∙ not_run t is table.locals))
       by_runner (Some r) is = (tied.runs k t r found is).awake new
 
-  pub runners_same : {later : Table P T W} → runner_part later ≡ runner_part table → RunnersTied tickers later rings
-  runners_same same = runners_shaped (ap (λ p. shapes p.0) same) (ap (λ p. p.1.0) same) (ap (λ p. p.1.1) same)
+  pub runners_same : {later : Table P T W} → fixed_part later ≡ fixed_part table → RunnersTied tickers later rings
+  runners_same same = runners_shaped (ap (λ p. shapes p.0) same) (ap (λ p. p.1.0) same) (ap (λ p. p.1.1.0) same)
 
 -- before the first step
 pub runners_opening : {P T W : Type 0} → RunnersTied {P = P} {T = T} {W = W} [] (empty_table 0) []

@@ -1,6 +1,6 @@
 -- A task is spawned; and the world before its first step.
-use Rattle.std.proofs.Common.{◌≡◌, ◌≢◌, ℕ, ◌+◌, ◌*◌, ◌≤◌, ◌||◌, not, true, List, [], ◌∷◌, ◌++◌, length, Option, Some, None, refl, sym, ap, subst, ◌∙◌, inl, inr, arith}
-use Rattle.std.proofs.lemmas.Bool.{cases_eq}
+use Rattle.std.proofs.Common.{◌≡◌, ◌≢◌, ℕ, ◌+◌, ◌*◌, ◌≤◌, ◌||◌, not, true, false, List, [], ◌∷◌, ◌++◌, length, Option, Some, None, refl, sym, ap, subst, ◌∙◌, inl, inr, arith}
+use Rattle.std.proofs.lemmas.Bool.{cases_eq, true≢false}
 use Rattle.std.specs.Prelude.{slice_get, sum_by}
 use Rattle.std.specs.Ordering.{nat_cmp}
 use Rattle.std.specs.FinMap as map
@@ -91,19 +91,19 @@ module _ {P T : Type 0} (a : Inside P T) (sound : IsWorld (execution_of a) a.cor
       → IsWorld (stepped a a.accepted core a.log.items entries a.notices a.picks) core.cells entries a.rings.items (vec_capacity a.log) × Spawns w OutOfMemory (stepped a a.accepted core a.log.items entries a.notices a.picks)
   spawn_refused core_is entries_is = rw (← view, core_is, entries_is) (sound, inl (refl, refl))
 
-  pub spawn_done : (slot : ℕ) (p : P) {number : ℕ} → number ≡ a.core.cells.next → IsFree a.core.cells slot → {core : Core P T (Unit {0})} → core ≡ record a.core { cells = after_spawn a.core.cells slot p } → {entry : TaskEntry P} → entry ≡ new_entry slot
+  pub spawn_done : w.closed ≡ false → (slot : ℕ) (p : P) {number : ℕ} → number ≡ a.core.cells.next → IsFree a.core.cells slot → {core : Core P T (Unit {0})} → core ≡ record a.core { cells = after_spawn a.core.cells slot p } → {entry : TaskEntry P} → entry ≡ new_entry slot
       → {reserved entries : List (TaskEntry P)} → entries ≡ reserved ++ entry ∷ [] → reserved ≡ a.entries.items → {log : List (Event T)} → log ≡ a.log.items ++ Spawned number ∷ [] → {notices : ℕ} → notices ≡ a.notices + 1 → {room : ℕ} → room ≡ vec_capacity a.log
       → IsWorld (stepped a (a.accepted + 1) core log entries notices a.picks) core.cells entries a.rings.items room × Spawns w (Task number) (stepped a (a.accepted + 1) core log entries notices a.picks)
-  spawn_done slot p number_is free core_is entry_is entries_is reserved_is log_is noticed capacity =
+  spawn_done unclosed slot p number_is free core_is entry_is entries_is reserved_is log_is noticed capacity =
       let far = rw (← view) at far in
       rw (← view, core_is, entries_is, reserved_is, entry_is, log_is, number_is, noticed, capacity) (
-        stepped_sound a sound refl far true _ _ _ (λ never. absurd (cc)) refl (let long = length-push a.entries.items (new_entry slot) in omega arith) (let long = length-push a.log.items (Spawned a.core.cells.next) in omega arith) (spawn_holds sound.agree slot p),
+        stepped_sound a sound refl far true _ _ _ (λ never. absurd (cc)) refl (let long = length-push a.entries.items (new_entry slot) in omega arith) (let long = length-push a.log.items (Spawned a.core.cells.next) in omega arith) (spawn_holds sound.agree slot p) (λ on. absurd (true≢false (sym on ∙ ap (λ (w : Execution T). w.closed) view ∙ unclosed))),
         inr (slot, free_slot sound.agree slot free, ap Task (sound.agree.next ∙ sym (length-infos a.entries.items)), rw (infos-push a.entries.items (new_entry slot), sound.agree.next ∙ sym (length-infos a.entries.items)) refl),
       )
 
 -- before the first step
-pub opening_sound : {P T : Type 0} {w : Execution T} {table : Table P T (Unit {0})} {entries : List (TaskEntry P)} {rings : List (Option IdRing)} {room : ℕ} → table ≡ empty_table 0 → w.sleepers ≡ no_sleepers → w.tickers ≡ [] → w.holder ≡ None → w.log ≡ [] → w.tasks ≡ [] → w.accepted ≡ 0 → w.limit ≤ 1000000 → w.picks + w.notices ≡ 0 → room ≡ 3 * w.limit → entries ≡ [] → rings ≡ [] → IsWorld w table entries rings room
-opening_sound {P} {T} {w} {table} {entries} {rings} cells_are nobody no_tickers free no_events no_tasks none bounded unspent capacity no_entries no_rings =
+pub opening_sound : {P T : Type 0} {w : Execution T} {table : Table P T (Unit {0})} {entries : List (TaskEntry P)} {rings : List (Option IdRing)} {room : ℕ} → table ≡ empty_table 0 → w.sleepers ≡ no_sleepers → w.tickers ≡ [] → w.holder ≡ None → w.closed ≡ false → w.log ≡ [] → w.tasks ≡ [] → w.accepted ≡ 0 → w.limit ≤ 1000000 → w.picks + w.notices ≡ 0 → room ≡ 3 * w.limit → entries ≡ [] → rings ≡ [] → IsWorld w table entries rings room
+opening_sound {P} {T} {w} {table} {entries} {rings} cells_are nobody no_tickers free unclosed no_events no_tasks none bounded unspent capacity no_entries no_rings =
     let tasks = ap length no_tasks in
     let events = ap length no_events in
     let none_made = ap length no_tickers in
@@ -113,7 +113,8 @@ opening_sound {P} {T} {w} {table} {entries} {rings} cells_are nobody no_tickers 
       notices = notices_opening w nobody;
       tickers = record { tied = rw (no_tickers, nobody) tied_opening; stores = λ k. rw (no_tickers, free) refl; opened = rw (nobody, free) refl };
       runners = rw (no_tickers, cells_are, no_rings) runners_opening;
-      room = record { within = omega arith; bounded = bounded; few_unspent = omega arith; few_tasks = omega arith; few_events = omega arith; few_tickers = omega arith; enough = omega arith };
+      closing = λ on. absurd (true≢false (sym on ∙ unclosed));
+      room = record { within = omega arith; bounded = bounded; few_unspent = omega arith; few_tasks = omega arith; few_events = omega arith; few_before = λ _. omega arith; few_tickers = omega arith; enough = omega arith };
     }
   where
     no_split : {E : Type 0} (before : List E) (e : E) (after : List E) → [] ≡ before ++ e ∷ after → ⊥

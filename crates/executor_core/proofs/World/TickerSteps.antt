@@ -17,7 +17,7 @@ use Rattle.executor_core.specs.World.{Execution}
 use Rattle.executor_core.specs.World.Agreement.{Agree}
 use Rattle.executor_core.specs.World.Promises.{kept_notices, notices_out, holds, holder_spends, FlagLaw, NoNoticeLost, NumbersTied, TickersTied}
 use Rattle.executor_core.specs.World.Steps.{row, counted, noticed, taking, ticker, take_reply, purpose_of, with_ticker, with_queues as with_queues_row, found_by, found_row, search_to_row, placed, ticker_row, tick_row, run_row, poll_row, search_row, insert_row, update_row, yield_row, removed_reply, remove_row, store_row, drop_row, Makes}
-use Rattle.executor_core.specs.World.Tickers.{is_awake, is_run, at_rest, in_search, in_sleep, in_wake, in_store, in_leaving, has_ended, gave_up, needs_queue, has_queue, is_new_run, may_search, may_go, notices_in, has_to_search, ticker_or, new_ticker, after_task, polled, searched, slept, rested, woke, dropped, ended, after_store, stored}
+use Rattle.executor_core.specs.World.Tickers.{is_awake, is_run, is_over, waits as is_waiting, at_rest, in_search, in_sleep, in_wake, in_store, in_leaving, has_ended, gave_up, needs_queue, has_queue, is_new_run, may_search, may_go, notices_in, has_to_search, ticker_or, new_ticker, after_task, polled, searched, slept, rested, woke, dropped, ended, after_store, stored}
 use Rattle.executor_core.specs.World.Entries.{infos, out_entry}
 use Rattle.executor_core.specs.World.Runners.{new_ring, RunnersTied}
 use Rattle.executor_core.specs.World.View.{execution_of, IsWorld}
@@ -26,7 +26,7 @@ use Rattle.executor_core.proofs.SleeperUseLemmas.{update_used, update_places, sl
 use Rattle.executor_core.proofs.World.Notices.{same_queues, Covers, no_notice_lost, some_in_use, kept_is, covered_searching, covered_noticed, covered_empty, covered_tick, covered_quiet, flag_held, flag_stored, flag_quiet, notices_added}
 use Rattle.executor_core.proofs.World.Agreement.{same_cells}
 use Rattle.executor_core.proofs.World.Polls.{cells_alone, TookTask, took_task, taken_runners}
-use Rattle.executor_core.proofs.World.Runners.{shapes, runners_queued, runners_gone, runners_dropped, runners_shaped, runners_ticked, runners_run, new_awake, restless_not_new}
+use Rattle.executor_core.proofs.World.Runners.{shapes, same_closed, runners_queued, runners_gone, runners_dropped, runners_shaped, runners_ticked, runners_run, new_awake, restless_not_new}
 use Rattle.executor_core.proofs.World.Searches.{search_vain, front_vain, found_shapes}
 use Rattle.executor_core.proofs.World.Entries.{length-infos}
 use Rattle.executor_core.proofs.World.Room.{room_again}
@@ -46,7 +46,7 @@ use Rattle.executor_core.specs.declared.interleave.reply.Reply.TheVariants as re
 use Rattle.executor_core.specs.declared.interleave.ticker.ListChange.{ListChange}
 use Rattle.executor_core.specs.declared.interleave.ticker.ListChange.TheVariants.{Slept, Woke, Dropped}
 use Rattle.executor_core.specs.declared.interleave.ticker.Phase.{Phase}
-use Rattle.executor_core.specs.declared.interleave.ticker.Phase.TheVariants.{Rest, Search, Sleep, Wake, Store, Leaving, Ended}
+use Rattle.executor_core.specs.declared.interleave.ticker.Phase.TheVariants.{Rest, Search, Sleep, Wake, Store, Leaving, Forgotten, Ended}
 use Rattle.executor_core.specs.declared.interleave.ticker.Ticker.{Ticker}
 
 -- a phase that passes its test
@@ -57,6 +57,7 @@ is_rest Sleep h = absurd (cc)
 is_rest Wake h = absurd (cc)
 is_rest (Store change) h = absurd (cc)
 is_rest Leaving h = absurd (cc)
+is_rest Forgotten h = absurd (cc)
 is_rest Ended h = absurd (cc)
 
 is_search : (p : Phase) → in_search p ≡ true → p ≡ Search
@@ -66,6 +67,7 @@ is_search Sleep h = absurd (cc)
 is_search Wake h = absurd (cc)
 is_search (Store change) h = absurd (cc)
 is_search Leaving h = absurd (cc)
+is_search Forgotten h = absurd (cc)
 is_search Ended h = absurd (cc)
 
 is_sleep : (p : Phase) → in_sleep p ≡ true → p ≡ Sleep
@@ -75,6 +77,7 @@ is_sleep Sleep h = refl
 is_sleep Wake h = absurd (cc)
 is_sleep (Store change) h = absurd (cc)
 is_sleep Leaving h = absurd (cc)
+is_sleep Forgotten h = absurd (cc)
 is_sleep Ended h = absurd (cc)
 
 is_wake : (p : Phase) → in_wake p ≡ true → p ≡ Wake
@@ -84,6 +87,7 @@ is_wake Sleep h = absurd (cc)
 is_wake Wake h = refl
 is_wake (Store change) h = absurd (cc)
 is_wake Leaving h = absurd (cc)
+is_wake Forgotten h = absurd (cc)
 is_wake Ended h = absurd (cc)
 
 is_ended : (p : Phase) → has_ended p ≡ true → p ≡ Ended
@@ -93,6 +97,7 @@ is_ended Sleep h = absurd (cc)
 is_ended Wake h = absurd (cc)
 is_ended (Store change) h = absurd (cc)
 is_ended Leaving h = absurd (cc)
+is_ended Forgotten h = absurd (cc)
 is_ended Ended h = refl
 
 is_store : (p : Phase) → in_store p ≡ true → (change : ListChange) × (p ≡ Store change)
@@ -102,6 +107,7 @@ is_store Sleep h = absurd (cc)
 is_store Wake h = absurd (cc)
 is_store (Store change) h = (change, refl)
 is_store Leaving h = absurd (cc)
+is_store Forgotten h = absurd (cc)
 is_store Ended h = absurd (cc)
 
 -- one notice more floats, where some are kept
@@ -122,6 +128,7 @@ quiet_change (Store Slept) h = absurd (cc)
 quiet_change (Store (Woke b)) h = refl
 quiet_change (Store (Dropped b)) h = refl
 quiet_change Leaving h = absurd (cc)
+quiet_change Forgotten h = absurd (cc)
 quiet_change Ended h = refl
 
 -- a phase that keeps nothing and changes nothing
@@ -130,15 +137,34 @@ record IsQuiet (p : Phase) : Type 0 where
   pub ended : has_ended p ≡ false
   pub kept : notices_in p ≡ 0
   pub search : has_to_search p ≡ false
+  pub over : is_over p ≡ false
 
 waits_quiet : (p : Phase) → at_rest p || in_leaving p ≡ true → IsQuiet p
-waits_quiet Rest h = record { stored = refl; ended = refl; kept = refl; search = refl }
+waits_quiet Rest h = record { stored = refl; ended = refl; kept = refl; search = refl; over = refl }
 waits_quiet Search h = absurd (cc)
 waits_quiet Sleep h = absurd (cc)
 waits_quiet Wake h = absurd (cc)
 waits_quiet (Store change) h = absurd (cc)
-waits_quiet Leaving h = record { stored = refl; ended = refl; kept = refl; search = refl }
+waits_quiet Leaving h = record { stored = refl; ended = refl; kept = refl; search = refl; over = refl }
+waits_quiet Forgotten h = absurd (cc)
 waits_quiet Ended h = absurd (cc)
+
+over_ended : (p : Phase) → is_over p ≡ false → has_ended p ≡ false
+over_ended Rest h = refl
+over_ended Search h = refl
+over_ended Sleep h = refl
+over_ended Wake h = refl
+over_ended (Store change) h = refl
+over_ended Leaving h = refl
+over_ended Forgotten h = refl
+over_ended Ended h = absurd (cc)
+
+-- where a ticker takes steps, the executor is not closed
+pub goes_open : {P T : Type 0} (a : Inside P T) → IsWorld (execution_of a) a.core.cells a.entries.items a.rings.items (vec_capacity a.log) → (k : ℕ) (t : Ticker) → slice_get a.tickers.items k ≡ Some t → is_over t.phase ≡ false → a.core.cells.closed ≡ false
+goes_open a sound k t found goes = elim (cases_Bool a.core.cells.closed) [
+  | inl on ↦ absurd (true≢false (sym ((sound.closing on).over k t found) ∙ goes))
+  | inr unclosed ↦ unclosed
+]
 
 -- a ticker that may search is a tick, or its runner is registered
 may_search_queued : (locals : List (RunnerQueue ℕ)) (t : Ticker) → may_search locals t ≡ true → (r : ℕ) → t.runner ≡ Some r → is_registered r locals ≡ true
@@ -172,15 +198,16 @@ module _ {P T : Type 0} (a : Inside P T) (sound : IsWorld (execution_of a) a.cor
 
   -- what a ticker's step left fits together
   pub ticked_sound : (core : Core P T (Unit {0})) (log : List (Event T)) (entries : List (TaskEntry P)) (notices : ℕ) (tickers : List Ticker) (holder : Option ℕ) {rings : List (Option IdRing)} → Agree core.cells log entries → length entries ≡ length a.entries.items → length log ≤ length a.log.items + 1 → length tickers ≤ length a.tickers.items + 1
-      → NoNoticeLost (ticked core log entries notices tickers holder) → TickersTied tickers holder core.sleepers → RunnersTied tickers core.cells rings → notices_out (ticked core log entries notices tickers holder) ≤ notices_out (execution_of a) + 1
+      → NoNoticeLost (ticked core log entries notices tickers holder) → TickersTied tickers holder core.sleepers → RunnersTied tickers core.cells rings → notices_out (ticked core log entries notices tickers holder) ≤ notices_out (execution_of a) + 1 → a.core.cells.closed ≡ false → core.cells.closed ≡ a.core.cells.closed
       → IsWorld (ticked core log entries notices tickers holder) core.cells entries rings (vec_capacity a.log)
-  ticked_sound core log entries notices tickers holder agree tasks events made law tied runners few =
+  ticked_sound core log entries notices tickers holder agree tasks events made law tied runners few unclosed as_before =
       record {
         agree = agree;
         notices = law;
         tickers = tied;
         runners = runners;
-        room = room_again sound.room view far _ refl refl (omega arith) (let before = length-infos a.entries.items in let after = length-infos entries in omega arith) (omega arith) made;
+        room = room_again sound.room view far _ refl refl (omega arith) (let before = length-infos a.entries.items in let after = length-infos entries in omega arith) (omega arith) made as_before;
+        closing = λ on. absurd (true≢false (sym on ∙ as_before ∙ unclosed));
       }
 
   -- a ticker was made, unless memory for it was refused
@@ -188,9 +215,9 @@ module _ {P T : Type 0} (a : Inside P T) (sound : IsWorld (execution_of a) a.cor
       → IsWorld (record (stepped a a.accepted core a.log.items a.entries.items a.notices a.picks) { tickers = tickers }) core.cells a.entries.items rings (vec_capacity a.log) × Makes row w reply.OutOfMemory (record (stepped a a.accepted core a.log.items a.entries.items a.notices a.picks) { tickers = tickers })
   make_refused row core_is tickers_are rings_are = rw (← view, core_is, tickers_are, rings_are) (sound, inl (refl, refl))
 
-  make_sound : (runner : Option ℕ) (cells : Table P T (Unit {0})) {rings : List (Option IdRing)} → Agree cells a.log.items a.entries.items → cells.global ≡ a.core.cells.global → cells.locals ≡ a.core.cells.locals → RunnersTied (a.tickers.items ++ new_ticker runner ∷ []) cells rings
+  make_sound : w.closed ≡ false → (runner : Option ℕ) (cells : Table P T (Unit {0})) {rings : List (Option IdRing)} → Agree cells a.log.items a.entries.items → cells.global ≡ a.core.cells.global → cells.locals ≡ a.core.cells.locals → RunnersTied (a.tickers.items ++ new_ticker runner ∷ []) cells rings → cells.closed ≡ a.core.cells.closed
       → IsWorld (ticked (record a.core { cells = cells; sleepers = after_reserve a.core.sleepers }) a.log.items a.entries.items a.notices (a.tickers.items ++ new_ticker runner ∷ []) a.holder) cells a.entries.items rings (vec_capacity a.log)
-  make_sound runner cells agree global locals runners =
+  make_sound unclosed runner cells agree global locals runners as_before =
       let core : Core P T (Unit {0}) = record a.core { cells = cells; sleepers = after_reserve a.core.sleepers } in
       let tickers : List Ticker = a.tickers.items ++ new_ticker runner ∷ [] in
       ticked_sound core a.log.items a.entries.items a.notices tickers a.holder agree refl (omega arith) (let long = length-push a.tickers.items (new_ticker runner) in omega arith)
@@ -198,12 +225,13 @@ module _ {P T : Type 0} (a : Inside P T) (sound : IsWorld (execution_of a) a.cor
       (record { tied = tied_added runner sound.tickers.tied; stores = stores_added runner a.holder a.tickers.items sound.tickers.stores; opened = sound.tickers.opened })
       runners
       (let push = sum_by_push (λ (t : Ticker). notices_in t.phase) a.tickers.items (new_ticker runner) in omega arith)
+      (ap (λ (w : Execution T). w.closed) view ∙ unclosed) as_before
 
-  pub tick_done : {core : Core P T (Unit {0})} → core ≡ record a.core { sleepers = after_reserve a.core.sleepers } → {reserved tickers : List Ticker} {t : Ticker} {k : ℕ} → tickers ≡ reserved ++ t ∷ [] → reserved ≡ a.tickers.items → t ≡ new_ticker None → k ≡ length reserved
+  pub tick_done : w.closed ≡ false → {core : Core P T (Unit {0})} → core ≡ record a.core { sleepers = after_reserve a.core.sleepers } → {reserved tickers : List Ticker} {t : Ticker} {k : ℕ} → tickers ≡ reserved ++ t ∷ [] → reserved ≡ a.tickers.items → t ≡ new_ticker None → k ≡ length reserved
       → IsWorld (ticked core a.log.items a.entries.items a.notices tickers a.holder) core.cells a.entries.items a.rings.items (vec_capacity a.log) × Makes tick_row w (reply.Ticker k) (ticked core a.log.items a.entries.items a.notices tickers a.holder)
-  tick_done core_is tickers_are reserved_are new k_is =
+  tick_done unclosed core_is tickers_are reserved_are new k_is =
       rw (← view, core_is, tickers_are, reserved_are, new, k_is, reserved_are) (
-        make_sound None a.core.cells sound.agree refl refl (runners_ticked sound.runners),
+        make_sound unclosed None a.core.cells sound.agree refl refl (runners_ticked sound.runners) refl,
         inr (refl, refl),
       )
 
@@ -225,12 +253,12 @@ module _ {P T : Type 0} (a : Inside P T) (sound : IsWorld (execution_of a) a.cor
       ∙ ap (λ (s : SleeperList (Unit {0})). let x : Core P T (Unit {0}) = record a.core { sleepers = s } in x) (reserve_release sound.tickers.tied)
 
   -- a run was made, with a ring for its runner
-  pub run_done : {middle core : Core P T (Unit {0})} → middle ≡ record a.core { sleepers = after_reserve a.core.sleepers } → core ≡ record middle { cells = after_reserve_runner middle.cells } → {key : ℕ} → key ≡ middle.cells.next_runner → {ring : IdRing} → ring ≡ new_ring
+  pub run_done : w.closed ≡ false → {middle core : Core P T (Unit {0})} → middle ≡ record a.core { sleepers = after_reserve a.core.sleepers } → core ≡ record middle { cells = after_reserve_runner middle.cells } → {key : ℕ} → key ≡ middle.cells.next_runner → {ring : IdRing} → ring ≡ new_ring
       → {reserved tickers : List Ticker} {t : Ticker} {k : ℕ} → tickers ≡ reserved ++ t ∷ [] → reserved ≡ a.tickers.items → t ≡ new_ticker (Some key) → k ≡ length reserved → {kept rings : List (Option IdRing)} → rings ≡ kept ++ Some ring ∷ [] → kept ≡ a.rings.items
       → IsWorld (ticked core a.log.items a.entries.items a.notices tickers a.holder) core.cells a.entries.items rings (vec_capacity a.log) × Makes run_row w (reply.Ticker k) (ticked core a.log.items a.entries.items a.notices tickers a.holder)
-  run_done middle_is core_is key_is ring_is tickers_are reserved_are new k_is rings_are kept_are =
+  run_done unclosed middle_is core_is key_is ring_is tickers_are reserved_are new k_is rings_are kept_are =
       rw (← view, core_is, tickers_are, new, key_is, middle_is, reserved_are, k_is, reserved_are, rings_are, kept_are, ring_is) (
-        make_sound (Some a.core.cells.next_runner) (after_reserve_runner a.core.cells) (record { next = sound.agree.next; each = sound.agree.each; few_polls = sound.agree.few_polls; order = sound.agree.order }) refl refl (runners_run sound.runners),
+        make_sound unclosed (Some a.core.cells.next_runner) (after_reserve_runner a.core.cells) (record { next = sound.agree.next; each = sound.agree.each; few_polls = sound.agree.few_polls; order = sound.agree.order }) refl refl (runners_run sound.runners) refl,
         inr (refl, ap (λ (n : ℕ). counted (ticker_row (Some n) (execution_of a))) sound.runners.runners),
       )
 
@@ -254,16 +282,16 @@ module _ {P T : Type 0} (a : Inside P T) (sound : IsWorld (execution_of a) a.cor
     as_many u = let long = length-slice_set a.tickers.items k u in omega arith
 
     -- a ticker that does not hold the lock, and has not ended, goes on with its number, and its notices stay as they are
-    quiet_sound : (u : Ticker) → slice_get a.tickers.items k ≡ Some before → in_store before.phase ≡ false → has_ended before.phase ≡ false → in_store u.phase ≡ false → gave_up u.phase ≡ false → (in_wake u.phase ≡ true → is_awake u ≡ false) → u.number ≡ before.number → notices_in u.phase ≡ notices_in before.phase
+    quiet_sound : (u : Ticker) → slice_get a.tickers.items k ≡ Some before → in_store before.phase ≡ false → is_over before.phase ≡ false → in_store u.phase ≡ false → gave_up u.phase ≡ false → (in_wake u.phase ≡ true → is_awake u ≡ false) → u.number ≡ before.number → notices_in u.phase ≡ notices_in before.phase
         → (s : SleeperList (Unit {0})) → s.used ≡ a.core.sleepers.used → s.places ≡ a.core.sleepers.places → s.is_open ≡ a.core.sleepers.is_open → length s.unnotified ≡ length a.core.sleepers.unnotified
         → Covers (changed u s) → RunnersTied (slice_set a.tickers.items k u) a.core.cells a.rings.items → IsWorld (changed u s) a.core.cells a.entries.items a.rings.items (vec_capacity a.log)
     quiet_sound u found apart going apart_still stays up number same s used places opened long covers runners =
         let change = kept_is (execution_of a) (changed u s) sound.notices k before u found refl in
         ticked_sound (record a.core { sleepers = s }) a.log.items a.entries.items a.notices (slice_set a.tickers.items k u) a.holder sound.agree refl (omega arith) (as_many u)
         (no_notice_lost (flag_quiet (execution_of a) (changed u s) sound.notices k before u found refl sound.tickers.stores apart refl (rw (used, long) refl) refl refl) covers)
-        (record { tied = tied_phase sound.tickers.tied k before found u number going stays up s used places; stores = stores_same a.tickers.items k before u found a.holder sound.tickers.stores apart apart_still; opened = opened ∙ sound.tickers.opened })
+        (record { tied = tied_phase sound.tickers.tied k before found u number (over_ended before.phase going) stays up s used places; stores = stores_same a.tickers.items k before u found a.holder sound.tickers.stores apart apart_still; opened = opened ∙ sound.tickers.opened })
         runners
-        (omega arith)
+        (omega arith) (goes_open a sound k before found going) refl
 
     pub poll_done : at_rest (ticker k w).phase && may_search w.locals (ticker k w) ≡ true → {t u : Ticker} → t ≡ before → u ≡ polled t → {tickers : List Ticker} → tickers ≡ slice_set a.tickers.items k u
         → Done (ticked a.core a.log.items a.entries.items a.notices tickers a.holder) a.core.cells a.entries.items a.rings.items (vec_capacity a.log) (poll_row k w) reply.Done
@@ -272,7 +300,7 @@ module _ {P T : Type 0} (a : Inside P T) (sound : IsWorld (execution_of a) a.cor
         let found = known at_rest refl (slice_get a.tickers.items k) parts.0 in
         let rest = is_rest before.phase parts.0 in
         rw (← view, tickers_are, u_is, t_is) (record {
-          sound = quiet_sound (polled before) found (ap in_store rest) (ap has_ended rest) refl refl (λ woken. absurd (false≢true woken)) refl (sym (ap notices_in rest)) a.core.sleepers refl refl refl refl (covered_searching (execution_of a) (changed (polled before) a.core.sleepers) sound.notices k before (polled before) found refl refl) (runners_queued sound.runners k before (polled before) found refl (may_search_queued a.core.cells.locals before parts.1));
+          sound = quiet_sound (polled before) found (ap in_store rest) (ap is_over rest) refl refl (λ woken. absurd (false≢true woken)) refl (sym (ap notices_in rest)) a.core.sleepers refl refl refl refl (covered_searching (execution_of a) (changed (polled before) a.core.sleepers) sound.notices k before (polled before) found refl refl) (runners_queued sound.runners k before (polled before) found refl (may_search_queued a.core.cells.locals before parts.1));
           does = (refl, refl);
         })
 
@@ -291,7 +319,7 @@ module _ {P T : Type 0} (a : Inside P T) (sound : IsWorld (execution_of a) a.cor
         let found = known in_sleep refl (slice_get a.tickers.items k) enabled in
         let asleep = is_sleep before.phase enabled in
         rw (← view, tickers_are, u_is, t_is) (record {
-          sound = quiet_sound (rested before) found (ap in_store asleep) (ap has_ended asleep) refl refl (λ woken. absurd (false≢true woken)) refl (sym (ap notices_in asleep)) a.core.sleepers refl refl refl refl (rest_covered found (ap has_to_search asleep) (ap notices_in asleep) a.core.sleepers refl refl) (on_queue (rested before) found refl (ap needs_queue asleep));
+          sound = quiet_sound (rested before) found (ap in_store asleep) (ap is_over asleep) refl refl (λ woken. absurd (false≢true woken)) refl (sym (ap notices_in asleep)) a.core.sleepers refl refl refl refl (rest_covered found (ap has_to_search asleep) (ap notices_in asleep) a.core.sleepers refl refl) (on_queue (rested before) found refl (ap needs_queue asleep));
           does = (refl, refl);
         })
 
@@ -341,7 +369,7 @@ module _ {P T : Type 0} (a : Inside P T) (sound : IsWorld (execution_of a) a.cor
           let vain = in_vain (ap (λ (t : Ticker). (found_by t.runner word (queues_of a.core.cells)).0) (sym t_is) ∙ none) in
           let same : core ≡ a.core = core_is ∙ ap (λ (f : Option ℕ × QueueLists ℕ). let c : Core P T (Unit {0}) = record a.core { cells = search_to f a.core.cells } in c) (ap (λ (t : Ticker). found_by t.runner word (queues_of a.core.cells)) t_is ∙ vain.same) in
           rw (← view, tickers_are, u_is, t_is, same) (record {
-            sound = quiet_sound (searched false before) was_made (ap in_store seeks) (ap has_ended seeks) refl refl (λ woken. absurd (false≢true woken)) refl (sym (ap notices_in seeks)) a.core.sleepers refl refl refl refl vain.covers (on_queue (searched false before) was_made refl (ap needs_queue seeks));
+            sound = quiet_sound (searched false before) was_made (ap in_store seeks) (ap is_over seeks) refl refl (λ woken. absurd (false≢true woken)) refl (sym (ap notices_in seeks)) a.core.sleepers refl refl refl refl vain.covers (on_queue (searched false before) was_made refl (ap needs_queue seeks));
             does = subst (λ f. row (search_to_row k f (execution_of a)) reply.NoTask (ticked a.core a.log.items a.entries.items a.notices (slice_set a.tickers.items k (searched false before)) a.holder)) (sym vain.same) (refl, refl);
           })
 
@@ -364,7 +392,7 @@ module _ {P T : Type 0} (a : Inside P T) (sound : IsWorld (execution_of a) a.cor
         runners_left : (v : Ticker) → v.runner ≡ before.runner → RunnersTied (slice_set a.tickers.items k v) core.cells a.rings.items
         runners_left v same =
             let part = taken_runners a sound view far a.core.cells task.id.number in
-            runners_shaped (on_queue v was_made same (ap needs_queue seeks)) (ap (λ c. shapes c.locals) cells_are ∙ found_shapes before.runner word (queues_of a.core.cells)) (ap (λ c. c.next_runner) cells_are ∙ ap (λ p. p.1.0) part) (ap (λ c. c.free_places) cells_are ∙ ap (λ p. p.1.1) part)
+            runners_shaped (on_queue v was_made same (ap needs_queue seeks)) (ap (λ c. shapes c.locals) cells_are ∙ found_shapes before.runner word (queues_of a.core.cells)) (ap (λ c. c.next_runner) cells_are ∙ ap (λ p. p.1.0) part) (ap (λ c. c.free_places) cells_are ∙ ap (λ p. p.1.1.0) part)
 
         cells_now : core ≡ record a.core { cells = core.cells }
         cells_now = cells_alone a.core core (search_to (found_by t.runner word (queues_of a.core.cells)) a.core.cells) core_is
@@ -373,8 +401,11 @@ module _ {P T : Type 0} (a : Inside P T) (sound : IsWorld (execution_of a) a.cor
         found_is : (later : Execution T) → later ≡ counted (found_row (is_awake before) k (with_queues_row left (taking task.id.number a.core.cells.global (execution_of a)))) → row (search_row k word w) answer later
         found_is later is = rw (← view, answers) (subst (λ f. row (search_to_row k f (execution_of a)) (take_reply task.id.number task.cancelled) later) (sym found_now) (ap (take_reply task.id.number) (sym took.cancelled), is))
 
-        queues_now : record (execution_of a) { log = log; global = core.cells.global; locals = core.cells.locals; tasks = infos entries } ≡ with_queues_row left (taking task.id.number a.core.cells.global (execution_of a))
-        queues_now = rw (ap (λ c. c.global) cells_are, ap (λ c. c.locals) cells_are) (ap (with_queues_row left) took.world)
+        as_before : core.cells.closed ≡ a.core.cells.closed
+        as_before = ap (λ c. c.closed) cells_are ∙ same_closed (taken_runners a sound view far a.core.cells task.id.number)
+
+        queues_now : record (execution_of a) { log = log; global = core.cells.global; locals = core.cells.locals; tasks = infos entries; closed = core.cells.closed } ≡ with_queues_row left (taking task.id.number a.core.cells.global (execution_of a))
+        queues_now = rw (as_before, ap (λ c. c.global) cells_are, ap (λ c. c.locals) cells_are) (ap (with_queues_row left) took.world)
 
         -- what the search left fits together: a notice more is out
         found_sound : (v : Ticker) (s : SleeperList (Unit {0})) (notices : ℕ) → v.runner ≡ before.runner → in_store v.phase ≡ false → s.is_open ≡ a.core.sleepers.is_open → is_notified s ≡ is_notified a.core.sleepers → notices + notices_in v.phase ≡ a.notices + 1 → NumbersTied (slice_set a.tickers.items k v) s
@@ -389,7 +420,7 @@ module _ {P T : Type 0} (a : Inside P T) (sound : IsWorld (execution_of a) a.cor
             (no_notice_lost (flag_quiet (execution_of a) world sound.notices k before v was_made refl sound.tickers.stores (ap in_store seeks) refl notified refl refl) (covered_noticed (execution_of a) world sound.notices k before v was_made refl (omega arith)))
             (record { tied = tied; stores = stores_same a.tickers.items k before v was_made a.holder sound.tickers.stores (ap in_store seeks) apart; opened = opened ∙ sound.tickers.opened })
             (runners_left v same)
-            (omega arith)
+            (omega arith) (goes_open a sound k before was_made (ap is_over seeks)) as_before
 
         -- one that has a number keeps the notice
         pub wake_done : is_awake t ≡ false → Done (ticked core log entries a.notices tickers a.holder) core.cells entries a.rings.items room (search_row k word w) answer
@@ -446,15 +477,15 @@ module _ {P T : Type 0} (a : Inside P T) (sound : IsWorld (execution_of a) a.cor
         none None h = refl
         none (Some q) h = absurd (true≢false h)
 
-    held_sound : (u : Ticker) (s : SleeperList (Unit {0})) → slice_get a.tickers.items k ≡ Some before → a.holder ≡ None → in_store u.phase ≡ true → notices_in u.phase ≤ notices_in before.phase + 1 → s.is_open ≡ true
+    held_sound : (u : Ticker) (s : SleeperList (Unit {0})) → slice_get a.tickers.items k ≡ Some before → a.holder ≡ None → in_store u.phase ≡ true → notices_in u.phase ≤ notices_in before.phase + 1 → s.is_open ≡ true → is_over before.phase ≡ false
         → FlagLaw (held_world u s) → Covers (held_world u s) → NumbersTied (slice_set a.tickers.items k u) s → RunnersTied (slice_set a.tickers.items k u) a.core.cells a.rings.items → IsWorld (held_world u s) a.core.cells a.entries.items a.rings.items (vec_capacity a.log)
-    held_sound u s found free storing few opened flag covers tied runners =
+    held_sound u s found free storing few opened going flag covers tied runners =
         let change = kept_is (execution_of a) (held_world u s) sound.notices k before u found refl in
         ticked_sound (record a.core { sleepers = s }) a.log.items a.entries.items a.notices (slice_set a.tickers.items k u) (Some k) sound.agree refl (omega arith) (as_many u)
         (no_notice_lost flag covers)
         (record { tied = tied; stores = stores_taken a.tickers.items k before u found a.holder sound.tickers.stores free storing; opened = opened })
         runners
-        (omega arith)
+        (omega arith) (goes_open a sound k before found going) refl
 
     -- one that is awake goes to sleep
     module _ (enabled : in_sleep (ticker k w).phase && not (is_some w.holder) ≡ true) (up : is_awake (ticker k w) ≡ true) where
@@ -483,7 +514,7 @@ module _ {P T : Type 0} (a : Inside P T) (sound : IsWorld (execution_of a) a.cor
           let given : number ≡ next_number a.core.sleepers = ap given_number answered ∙ ap given_number (cond-true (has_place a.core.sleepers) (Ok (next_number a.core.sleepers, change_of s again)) (Err tt) has_room) in
           let v : Ticker = slept (next_number a.core.sleepers) before in
           rw (← view, core_is, tickers_are, u_is, given, t_is) (record {
-            sound = rw list (held_sound v s found_asleep (nobody_holds _ enabled).1 refl (omega arith) refl (flag_held (execution_of a) (held_world v s) sound.notices k before v found_asleep refl refl refl) (covered_searching (execution_of a) (held_world v s) sound.notices k before v found_asleep refl refl)
+            sound = rw list (held_sound v s found_asleep (nobody_holds _ enabled).1 refl (omega arith) refl (ap is_over phase_asleep) (flag_held (execution_of a) (held_world v s) sound.notices k before v found_asleep refl refl refl) (covered_searching (execution_of a) (held_world v s) sound.notices k before v found_asleep refl refl)
                 (tied_inserted sound.tickers.tied k before found_asleep law v up (ap has_ended phase_asleep) refl refl refl s refl refl) (on_queue v found_asleep refl (ap needs_queue phase_asleep)));
             does = (refl, refl);
           })
@@ -513,7 +544,7 @@ module _ {P T : Type 0} (a : Inside P T) (sound : IsWorld (execution_of a) a.cor
             let on = sleeps_on a.core.sleepers before.number tt old (rw t_is at answered) in
             let used = update_used a.core.sleepers before.number tt in
             rw (← view, core_is, tickers_are, u_is, t_is) (record {
-              sound = quiet_sound (rested before) found_again (ap in_store phase_again) (ap has_ended phase_again) refl refl (λ woken. absurd (false≢true woken)) refl (sym (ap notices_in phase_again)) s used (update_places a.core.sleepers before.number tt) on.opened on.long (rest_covered found_again (ap has_to_search phase_again) (ap notices_in phase_again) s used on.long) (on_queue (rested before) found_again refl (ap needs_queue phase_again));
+              sound = quiet_sound (rested before) found_again (ap in_store phase_again) (ap is_over phase_again) refl refl (λ woken. absurd (false≢true woken)) refl (sym (ap notices_in phase_again)) s used (update_places a.core.sleepers before.number tt) on.opened on.long (rest_covered found_again (ap has_to_search phase_again) (ap notices_in phase_again) s used on.long) (on_queue (rested before) found_again refl (ap needs_queue phase_again));
               does = rw on.unnotified (refl, refl);
             })
 
@@ -524,7 +555,7 @@ module _ {P T : Type 0} (a : Inside P T) (sound : IsWorld (execution_of a) a.cor
             let on = sleeps_again a.core.sleepers before.number tt asks (rw t_is at answered) in
             let v : Ticker = slept before.number before in
             rw (← view, core_is, tickers_are, u_is, t_is) (record {
-              sound = held_sound v s found_again (nobody_holds _ enabled).1 refl (omega arith) on.opened (flag_held (execution_of a) (held_world v s) sound.notices k before v found_again refl refl refl) (covered_searching (execution_of a) (held_world v s) sound.notices k before v found_again refl refl)
+              sound = held_sound v s found_again (nobody_holds _ enabled).1 refl (omega arith) on.opened (ap is_over phase_again) (flag_held (execution_of a) (held_world v s) sound.notices k before v found_again refl refl refl) (covered_searching (execution_of a) (held_world v s) sound.notices k before v found_again refl refl)
                   (tied_phase sound.tickers.tied k before found_again v refl (ap has_ended phase_again) refl (λ woken. absurd (false≢true woken)) s (update_used a.core.sleepers before.number tt) (update_places a.core.sleepers before.number tt)) (on_queue v found_again refl (ap needs_queue phase_again));
               does = rw on.notified (refl, refl);
             })
@@ -551,7 +582,7 @@ module _ {P T : Type 0} (a : Inside P T) (sound : IsWorld (execution_of a) a.cor
           let stands = sum_by-at (λ (t : Ticker). notices_in t.phase) a.tickers.items k before found_awake in
           let more = at_most b in
           rw (← view, core_is, tickers_are, u_is, answers, notified_is, t_is) (record {
-            sound = held_sound v s found_awake (nobody_holds _ enabled).1 refl (omega arith) refl (flag_held (execution_of a) (held_world v s) sound.notices k before v found_awake refl refl (or_left _ false (lt-ltb 0 (1 + cond b 1 0) (omega arith)))) (covered_noticed (execution_of a) (held_world v s) sound.notices k before v found_awake refl (omega arith))
+            sound = held_sound v s found_awake (nobody_holds _ enabled).1 refl (omega arith) refl (ap is_over phase) (flag_held (execution_of a) (held_world v s) sound.notices k before v found_awake refl refl (or_left _ false (lt-ltb 0 (1 + cond b 1 0) (omega arith)))) (covered_noticed (execution_of a) (held_world v s) sound.notices k before v found_awake refl (omega arith))
                 (tied_removed sound.tickers.tied k before found_awake v (sound.tickers.tied.asleep k before found_awake waking) refl (ap has_ended phase) refl refl s refl refl) (on_queue v found_awake refl (ap needs_queue phase));
             does = (refl, refl);
           })
@@ -596,11 +627,11 @@ module _ {P T : Type 0} (a : Inside P T) (sound : IsWorld (execution_of a) a.cor
               (covered_quiet (execution_of a) world sound.notices k before v found refl (same_queues refl refl) refl refl (omega arith) rest.search (omega arith) (λ some. some)))
               (record { tied = tied_ended sound.tickers.tied k before found v up (eqb-true before.number 0 up) rest.ended refl refl s refl places; stores = stores_same a.tickers.items k before v found a.holder sound.tickers.stores rest.stored refl; opened = sound.tickers.opened })
               (by_new found v (is_new_run a.core.cells.locals before) refl refl refl refl)
-              (omega arith);
+              (omega arith) (goes_open a sound k before found rest.over) refl;
           does = rw up (refl, refl);
         })
       where
-        by_new : slice_get a.tickers.items k ≡ Some before → (v : Ticker) (b : Bool) → is_new_run a.core.cells.locals before ≡ b → v.runner ≡ before.runner → at_rest v.phase ≡ false → needs_queue v.phase ≡ false
+        by_new : slice_get a.tickers.items k ≡ Some before → (v : Ticker) (b : Bool) → is_new_run a.core.cells.locals before ≡ b → v.runner ≡ before.runner → is_waiting v.phase ≡ false → needs_queue v.phase ≡ false
             → RunnersTied (slice_set a.tickers.items k v) (record a.core.cells { free_places = cond b (a.core.cells.free_places - 1) a.core.cells.free_places }) a.rings.items
         by_new found v true new same goes leaves = runners_dropped sound.runners k before v found same new goes leaves refl
         by_new found v false old same goes leaves = runners_gone sound.runners k before v found same old goes leaves
@@ -671,7 +702,7 @@ module _ {P T : Type 0} (a : Inside P T) (sound : IsWorld (execution_of a) a.cor
           let none : notices_in before.phase ≡ 0 = rests.kept in
           let more = at_most b in
           rw (← view, core_is, tickers_are, u_is, answers, notified_is, t_is) (record {
-            sound = held_sound v s found_rest (nobody_holds _ enabled).1 refl (omega arith) refl held.flag_law (held.covered, held.runs_covered) (tied_removed sound.tickers.tied k before found_rest v asleep refl rests.ended refl refl s refl refl) (runners_gone sound.runners k before v found_rest refl not_new refl refl);
+            sound = held_sound v s found_rest (nobody_holds _ enabled).1 refl (omega arith) refl rests.over held.flag_law (held.covered, held.runs_covered) (tied_removed sound.tickers.tied k before found_rest v asleep refl rests.ended refl refl s refl refl) (runners_gone sound.runners k before v found_rest refl not_new refl refl);
             does = rw asleep (refl, refl);
           })
         where
@@ -693,6 +724,9 @@ module _ {P T : Type 0} (a : Inside P T) (sound : IsWorld (execution_of a) a.cor
 
       found_storing : slice_get a.tickers.items k ≡ Some before
       found_storing = known in_store refl (slice_get a.tickers.items k) storing
+
+      storing_goes : is_over before.phase ≡ false
+      storing_goes = let change = is_store before.phase storing in ap is_over change.1
 
       going : has_ended before.phase ≡ false
       going = let change = is_store before.phase storing in ap has_ended change.1
@@ -720,7 +754,7 @@ module _ {P T : Type 0} (a : Inside P T) (sound : IsWorld (execution_of a) a.cor
             (no_notice_lost (flag_stored (execution_of a) world sound.notices k before v found_storing refl says) covered)
             (record { tied = tied; stores = stores_given a.tickers.items k before v found_storing a.holder sound.tickers.stores holder_is apart; opened = opened })
             runners
-            (omega arith)
+            (omega arith) (goes_open a sound k before found_storing storing_goes) refl
 
         -- one that goes on: it went to sleep and searches once more, or it is a run that found a task
         record GoesOn (v : Ticker) : Type 0 where
@@ -796,7 +830,7 @@ module _ {P T : Type 0} (a : Inside P T) (sound : IsWorld (execution_of a) a.cor
                 record {
                   number = sound.tickers.tied.awake k before found_storing (ap gave_up is);
                   quiet = ap has_to_search is;
-                  runners = runners_gone sound.runners k before (record before { phase = Ended }) found_storing refl (restless_not_new a.core.cells.locals before (ap at_rest is)) refl refl;
+                  runners = runners_gone sound.runners k before (record before { phase = Ended }) found_storing refl (restless_not_new a.core.cells.locals before (ap is_waiting is)) refl refl;
                 }
 
         pub store_ended : has_ended (stored t).phase ≡ true → {later : Core P T (Unit {0})} → later ≡ record core { sleepers = after_release core.sleepers }

@@ -15,7 +15,7 @@ use Rattle.executor_core.proofs.ListLemmas.{get-set_same, get-set_other, get-pus
 use Rattle.executor_core.proofs.SleeperNumberLemmas.{one-other}
 use Rattle.executor_core.proofs.SleeperUseLemmas.{next_fresh, insert_counts, insert_len, remove_counts, remove_len}
 use Rattle.executor_core.specs.declared.interleave.ticker.Phase.{Phase}
-use Rattle.executor_core.specs.declared.interleave.ticker.Phase.TheVariants.{Rest, Search, Sleep, Wake, Store, Leaving, Ended}
+use Rattle.executor_core.specs.declared.interleave.ticker.Phase.TheVariants.{Rest, Search, Sleep, Wake, Store, Leaving, Forgotten, Ended}
 use Rattle.executor_core.specs.declared.interleave.ticker.Ticker.{Ticker}
 
 -- a ticker whose phase passes a test that an ended one fails was made
@@ -30,6 +30,7 @@ ended_gave_up Sleep is = absurd (cc)
 ended_gave_up Wake is = absurd (cc)
 ended_gave_up (Store change) is = absurd (cc)
 ended_gave_up Leaving is = absurd (cc)
+ended_gave_up Forgotten is = absurd (cc)
 ended_gave_up Ended is = refl
 
 numbers-set : (tickers : List Ticker) (k : ℕ) (u : Ticker) → numbers_of (slice_set tickers k u) ≡ slice_set (numbers_of tickers) k u.number

@@ -68,6 +68,11 @@ module _ {P T W : Type 0} where
   idle_ids slot [] = []
   idle_ids slot (s ∷ rest) = cons_option (idle_id slot s) (idle_ids (slot + 1) rest)
 
+  -- the number of the task in this slot, if its future is not dropped
+  abbrev pub undropped_number : Option (Numbered (Cell P T W)) → Option ℕ
+  undropped_number None = None
+  undropped_number (Some e) = cond (is_undropped e.cell.state) (Some e.number) None
+
   -- there is such a cell, and it is scheduled
   abbrev pub scheduled_slot : Option (Numbered (Cell P T W)) → Bool
   scheduled_slot None = false

@@ -6,7 +6,7 @@ use Rattle.executor_core.specs.World.{Execution}
 use Rattle.executor_core.specs.World.Promises.{queues}
 use Rattle.executor_core.specs.World.Steps.{ticker, StepTo, FoldTo}
 use Rattle.executor_core.specs.declared.interleave.request.Step.{Step}
-use Rattle.executor_core.specs.declared.interleave.request.Step.TheVariants.{Spawn, Wake, TryTick, Pend, Cancel, DropHandle, Search}
+use Rattle.executor_core.specs.declared.interleave.request.Step.TheVariants.{Spawn, Wake, TryTick, Pend, Cancel, DropHandle, Search, Drain}
 use Rattle.executor_core.specs.declared.interleave.reply.Reply.{Reply}
 use Rattle.executor_core.specs.declared.interleave.reply.Reply.TheVariants as reply
 
@@ -47,6 +47,7 @@ module _ {P T : Type 0} where
   abbrev pub taken_by : Step P T → Reply T → List ℕ
   taken_by TryTick answer = taken_task answer
   taken_by (Search k word) answer = taken_task answer
+  taken_by Drain answer = taken_task answer
   taken_by _ answer = []
 
   -- the tasks that these steps queued, and those that they took, in order
@@ -70,11 +71,12 @@ abbrev pub line : {X : Type 0} → ℕ → QueueLists X → List X
 line r q = entries_of r q.locals ++ q.global
 
 module _ {P T : Type 0} where
-  -- a step that leaves this runner alone, and takes a task by a search of it alone
+  -- a step that leaves this runner alone, takes a task by a search of it alone, and closes nothing
   pub record LoneStep (r : ℕ) (old : Execution T) (step : Step P T) (answer : Reply T) (new : Execution T) : Type 0 where
     pub does : StepTo old step answer new
     pub alone : IsAlone r new.locals
     pub taker : taken_by step answer ≢ [] → searcher step old ≡ Some r
+    pub goes_on : new.closed ≡ old.closed
 
   -- these replies to these steps, where the runner is alone before and after each, and takes each task that is taken
   abbrev pub LoneSteps : ℕ → Execution T → List (Step P T) → List (Reply T) → Execution T → Type 0

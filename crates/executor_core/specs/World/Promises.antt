@@ -1,4 +1,4 @@
--- What holds of every world: of its log, and of the queue, the flag and the sleepers beside it.
+-- What holds of the log of every world, and of the queues, the flag and the sleepers beside it.
 use Rattle.std.specs.Prelude.{◌≡◌, ◌≢◌, ℕ, ◌+◌, ◌==◌, ◌<◌, ◌≤◌, nat_lt, Bool, true, false, not, ◌||◌, List, [], ◌∷◌, ◌++◌, length, map, sum_by, count_by, Option, Some, None, is_some, slice_get, cond}
 use Rattle.std.specs.List.{list_any}
 use Rattle.std.specs.FinSet as set
@@ -134,14 +134,3 @@ module _ {W : Type 0} where
     pub stores : HolderStores holder tickers
     -- the list is open exactly where somebody holds the lock
     pub opened : s.is_open ≡ is_some holder
-
-module _ {T : Type 0} where
-  -- what holds of every world
-  pub record KeepsPromises (w : Execution T) : Type 0 where
-    pub one_place : OnePlace w.log (all_queues w)
-    pub in_order : InOrder w.log
-    pub few_polls : FewPolls w.log
-    pub flag_law : FlagLaw w
-    pub covered : Covered w
-    pub runs_covered : RunsCovered w
-    pub tickers : TickersTied w.tickers w.holder w.sleepers

@@ -1,16 +1,18 @@
 -- Which step a world takes at a request, row by row.
-use Rattle.std.specs.Prelude.{◌≡◌, ◌≢◌, ◌⊎◌, ℕ, ◌+◌, ◌-◌, nat_lt, is_some, Bool, true, false, count_by, List, [], ◌∷◌, ◌++◌, length, Option, Some, None, cond, ◌&&◌, ◌||◌, not, slice_get, slice_set}
+use Rattle.std.specs.Prelude.{◌≡◌, ◌≢◌, ◌⊎◌, ℕ, ◌+◌, ◌-◌, ◌<◌, nat_lt, map, is_some, Bool, true, false, count_by, List, [], ◌∷◌, ◌++◌, length, Option, Some, None, cond, ◌&&◌, ◌||◌, not, slice_get, slice_set}
 use Rattle.executor_core.specs.World.Log.{spawned, dropped, cancelled, held, woken, idle, outputs}
+use Rattle.std.specs.List.{list_any, filter, range_with_len}
 use Rattle.std.specs.Map.{keys_of}
+use Rattle.executor_core.specs.Numbers.{times}
 use Rattle.executor_core.specs.World.{Execution}
 use Rattle.executor_core.specs.World.Promises.{queues, floating_notices, holds}
 use Rattle.executor_core.specs.Sleepers.{is_notified, is_notified_number}
 use Rattle.executor_core.specs.Sleepers.Calls.{no_sleepers, closed, last_of, all_unnotified, after_notify, after_reserve, after_release, next_number, after_insert, after_update, after_remove}
-use Rattle.executor_core.specs.World.Tickers.{at_rest, in_search, in_sleep, in_wake, has_ended, notices_in, ticker_or, is_awake, is_run, runner_of, has_queue, is_new_run, may_search, may_go, new_ticker, polled, searched, slept, rested, woke, dropped as dropped_ticker, ended, stored, left}
+use Rattle.executor_core.specs.World.Tickers.{at_rest, in_search, in_sleep, in_wake, has_ended, is_over, notices_in, ticker_or, is_awake, is_run, runner_of, has_queue, may_register, may_search, may_go, new_ticker, polled, searched, slept, rested, woke, dropped as dropped_ticker, ended, stored, left, forgotten}
 use Rattle.executor_core.specs.Cells.{Table}
 use Rattle.executor_core.specs.Cells.Calls.{IsTaken}
 use Rattle.executor_core.specs.declared.task.values.Taken.{Taken}
-use Rattle.executor_core.specs.Queues.{QueueLists, search_global, search, fair, fair_count, registered, unregistered, entries_of}
+use Rattle.executor_core.specs.Queues.{QueueLists, search_global, search, fair, fair_count, registered, unregistered, entries_of, local_entries, emptied}
 use Rattle.executor_core.specs.declared.interleave.entry.TaskInfo.{TaskInfo}
 use Rattle.executor_core.specs.declared.interleave.ticker.Ticker.{Ticker}
 use Rattle.executor_core.specs.declared.interleave.event.Purpose.{Purpose}
@@ -18,7 +20,7 @@ use Rattle.executor_core.specs.declared.interleave.event.Purpose.TheVariants.{To
 use Rattle.executor_core.specs.declared.interleave.event.Event.{Event}
 use Rattle.executor_core.specs.declared.interleave.event.Event.TheVariants.{Spawned, Woken, Cancelled, Took, Returned, Finished, Dropped, Got}
 use Rattle.executor_core.specs.declared.interleave.request.Step.{Step}
-use Rattle.executor_core.specs.declared.interleave.request.Step.TheVariants.{Spawn, Wake, TryTick, Pend, Ready, PollHandle, Cancel, Detach, DropHandle, Dropped as DropDone, Exchange, Notify, Tick, Run, Register, Poll, Search, Sleep, Yield, Remove, Store, Fair, Unregister, Drop}
+use Rattle.executor_core.specs.declared.interleave.request.Step.TheVariants.{Spawn, Wake, TryTick, Pend, Ready, PollHandle, Cancel, Detach, DropHandle, Dropped as DropDone, Exchange, Notify, Tick, Run, Register, Poll, Search, Sleep, Yield, Remove, Store, Fair, Unregister, Drop, Close, Drain}
 use Rattle.executor_core.specs.declared.interleave.reply.Reply.{Reply}
 use Rattle.executor_core.specs.declared.interleave.reply.Reply.TheVariants as reply
 
@@ -36,7 +38,7 @@ new_info slot = record { slot = slot; has_handle = true; awaited = false; to_dro
 
 -- a world before its first step
 abbrev pub opening : {T : Type 0} → ℕ → Execution T
-opening limit = record { log = []; accepted = 0; limit = limit; global = []; locals = []; notices = 0; picks = 0; flag = true; sleepers = no_sleepers; tasks = []; tickers = []; holder = None }
+opening limit = record { log = []; accepted = 0; limit = limit; global = []; locals = []; notices = 0; picks = 0; flag = true; sleepers = no_sleepers; tasks = []; tickers = []; holder = None; closed = false }
 
 -- for how many tasks a run's own queue has room
 abbrev pub local_places : ℕ
@@ -184,6 +186,36 @@ module _ {T : Type 0} where
   notify_row w =
       (cond (all_unnotified w.sleepers) (notify_reply (last_of (keys_of w.sleepers.unnotified))) reply.Nobody, record w { picks = w.picks - 1; sleepers = after_notify w.sleepers })
 
+-- the rows of a close
+module _ {T : Type 0} where
+  -- a task is held
+  abbrev pub some_held : Execution T → Bool
+  some_held w = list_any (λ n. held n w.log) (range_with_len 0 (length w.tasks))
+
+  -- a ticker is neither at rest nor over
+  abbrev pub some_busy : Execution T → Bool
+  some_busy w = list_any (λ t. not (at_rest t.phase || is_over t.phase)) w.tickers
+
+  -- the tasks whose future is not dropped, each once, by rising slot
+  pub record IsRising (w : Execution T) (order : List ℕ) : Type 0 where
+    pub each : (n : ℕ) → times n order ≡ cond (spawned n w.log && not (dropped n w.log)) 1 0
+    pub rises : (i j n k : ℕ) → i < j → slice_get order i ≡ Some n → slice_get order j ≡ Some k → (info n w).slot < (info k w).slot
+
+  -- what goes to the global end: the idle tasks in this order, and then what stands in the runners' queues
+  abbrev pub closing : List ℕ → Execution T → List ℕ
+  closing order w = filter (λ n. idle n w.log) order ++ local_entries w.locals
+
+  -- close: these are cancelled, in this order, and each ticker at rest is forgotten
+  abbrev pub close_row : List ℕ → Execution T → Reply T × Execution T
+  close_row order w =
+      let some = nat_lt 0 (length (closing order w)) in
+      (notice_reply some, noticed_where some (record w { log = w.log ++ map Cancelled order; global = w.global ++ closing order w; locals = map emptied w.locals; tickers = map forgotten w.tickers; closed = true }))
+
+  -- drain: the front of the global queue is taken to be dropped
+  abbrev pub drain_row : List ℕ → Execution T → Reply T × Execution T
+  drain_row [] w = (reply.NoTask, w)
+  drain_row (n ∷ rest) w = (reply.Drop n, taking n rest w)
+
 -- what the ticker's search finds: a tick looks at the global queue, a run at its runner's own, then the global one, then the others
 abbrev pub found_by : Option ℕ → ℕ → QueueLists ℕ → Option ℕ × QueueLists ℕ
 found_by None word q = search_global q
@@ -328,12 +360,16 @@ module _ {T : Type 0} where
   abbrev pub row : Reply T × Execution T → Reply T → Execution T → Type 0
   row r answer new = (answer ≡ r.0) × (new ≡ counted r.1)
 
+  -- the executor is closed, its tasks being taken by rising slot
+  abbrev pub Closes : Execution T → Reply T → Execution T → Type 0
+  Closes old answer new = (order : List ℕ) × IsRising old order × row (close_row order old) answer new
+
 module _ {P T : Type 0} where
   -- the step is enabled
   abbrev pub enabled : Step P T → Execution T → Bool
-  enabled (Spawn p) w = true
+  enabled (Spawn p) w = not w.closed
   enabled (Wake n) w = spawned n w.log
-  enabled TryTick w = true
+  enabled TryTick w = not w.closed
   enabled (Pend n) w = held n w.log && not (info n w).to_drop
   enabled (Ready n t) w = held n w.log && not (info n w).to_drop
   enabled (PollHandle n) w = (info n w).has_handle
@@ -343,9 +379,9 @@ module _ {P T : Type 0} where
   enabled (DropDone n) w = held n w.log && (info n w).to_drop
   enabled Exchange w = nat_lt 0 (floating_notices w)
   enabled Notify w = nat_lt 0 w.picks && not (is_some w.holder)
-  enabled Tick w = true
-  enabled Run w = true
-  enabled (Register k) w = is_new_run w.locals (ticker k w)
+  enabled Tick w = not w.closed
+  enabled Run w = not w.closed
+  enabled (Register k) w = may_register w.locals (ticker k w)
   enabled (Poll k) w = at_rest (ticker k w).phase && may_search w.locals (ticker k w)
   enabled (Search k word) w = in_search (ticker k w).phase
   enabled (Sleep k) w = in_sleep (ticker k w).phase && not (is_some w.holder)
@@ -355,6 +391,8 @@ module _ {P T : Type 0} where
   enabled (Fair k) w = at_rest (ticker k w).phase && has_queue w.locals (ticker k w)
   enabled (Unregister k) w = at_rest (ticker k w).phase && has_queue w.locals (ticker k w)
   enabled (Drop k) w = may_go w.locals (ticker k w) && (is_awake (ticker k w) || not (is_some w.holder))
+  enabled Close w = not w.closed && not (some_held w) && not (some_busy w)
+  enabled Drain w = w.closed
 
   -- what an enabled step does
   abbrev pub Does : Step P T → Execution T → Reply T → Execution T → Type 0
@@ -382,6 +420,8 @@ module _ {P T : Type 0} where
   Does (Fair k) old answer new = row (fair_row k old) answer new
   Does (Unregister k) old answer new = row (unregister_row k old) answer new
   Does (Drop k) old answer new = row (drop_row k old) answer new
+  Does Close old answer new = Closes old answer new
+  Does Drain old answer new = row (drain_row old.global old) answer new
 
   -- a step: refused where the log is full, else where it is not enabled, else done
   pub record StepTo (old : Execution T) (step : Step P T) (answer : Reply T) (new : Execution T) : Type 0 where

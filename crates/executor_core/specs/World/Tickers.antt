@@ -3,7 +3,7 @@ use Rattle.std.specs.Prelude.{ℕ, ◌+◌, ◌==◌, nat_lt, Bool, true, false,
 use Rattle.executor_core.specs.Queues.{RunnerQueue, is_registered}
 use Rattle.executor_core.specs.declared.interleave.ticker.ListChange.TheVariants.{Slept, Woke, Dropped}
 use Rattle.executor_core.specs.declared.interleave.ticker.Phase.{Phase}
-use Rattle.executor_core.specs.declared.interleave.ticker.Phase.TheVariants.{Rest, Search, Sleep, Wake, Store, Leaving, Ended}
+use Rattle.executor_core.specs.declared.interleave.ticker.Phase.TheVariants.{Rest, Search, Sleep, Wake, Store, Leaving, Forgotten, Ended}
 use Rattle.executor_core.specs.declared.interleave.ticker.Ticker.{Ticker}
 
 -- the phases
@@ -34,6 +34,18 @@ in_leaving _ = false
 abbrev pub has_ended : Phase → Bool
 has_ended Ended = true
 has_ended _ = false
+
+-- it takes no step any more: it has ended, or it was forgotten
+abbrev pub is_over : Phase → Bool
+is_over Forgotten = true
+is_over Ended = true
+is_over _ = false
+
+-- it is at rest, or it was when it was forgotten
+abbrev pub waits : Phase → Bool
+waits Rest = true
+waits Forgotten = true
+waits _ = false
 
 -- its number was removed for good
 abbrev pub gave_up : Phase → Bool
@@ -130,6 +142,10 @@ stored t = record t { phase = after_store t t.phase }
 abbrev pub left : Ticker → Ticker
 left t = record t { phase = Leaving }
 
+-- close: one that is at rest is forgotten
+abbrev pub forgotten : Ticker → Ticker
+forgotten t = record t { phase = cond (at_rest t.phase) Forgotten t.phase }
+
 -- the runner of a run, and its queue
 abbrev pub runner_or : Option ℕ → ℕ
 runner_or None = 0
@@ -143,9 +159,13 @@ module _ {X : Type 0} where
   abbrev pub has_queue : List (RunnerQueue X) → Ticker → Bool
   has_queue locals t = is_run t && is_registered (runner_of t) locals
 
-  -- a run that has still to register its runner
+  -- a run whose runner was not registered yet, at rest or forgotten
   abbrev pub is_new_run : List (RunnerQueue X) → Ticker → Bool
-  is_new_run locals t = is_run t && at_rest t.phase && not (is_registered (runner_of t) locals)
+  is_new_run locals t = is_run t && waits t.phase && not (is_registered (runner_of t) locals)
+
+  -- it may register its runner: it is a new run at rest
+  abbrev pub may_register : List (RunnerQueue X) → Ticker → Bool
+  may_register locals t = at_rest t.phase && is_new_run locals t
 
   -- it may search: a tick always may, and a run whose runner is registered
   abbrev pub may_search : List (RunnerQueue X) → Ticker → Bool

@@ -1,9 +1,10 @@
 -- How the fields of a `World` are seen, and what holds of them.
-use Rattle.std.specs.Prelude.{ℕ, ◌+◌, ◌*◌, ◌≤◌, List, length, Option}
+use Rattle.std.specs.Prelude.{◌≡◌, ℕ, ◌+◌, ◌*◌, ◌≤◌, true, false, List, length, Option}
 use Rattle.executor_core.specs.Cells.{Table}
 use Rattle.executor_core.specs.Ring.{IdRing}
 use Rattle.executor_core.specs.World.{Execution}
 use Rattle.executor_core.specs.World.Agreement.{Agree}
+use Rattle.executor_core.specs.World.Closing.{IsClosed}
 use Rattle.executor_core.specs.World.Entries.{infos}
 use Rattle.executor_core.specs.World.Promises.{NoNoticeLost, TickersTied, notices_out}
 use Rattle.executor_core.specs.World.Runners.{RunnersTied}
@@ -17,13 +18,15 @@ module _ {T : Type 0} where
     pub bounded : w.limit ≤ 1000000
     pub few_unspent : w.picks + notices_out w ≤ w.accepted
     pub few_tasks : length w.tasks ≤ w.accepted
-    pub few_events : length w.log ≤ 2 * w.accepted
+    -- a close adds an event for each task, once
+    pub few_events : length w.log ≤ 2 * w.accepted + w.limit
+    pub few_before : w.closed ≡ false → length w.log ≤ 2 * w.accepted
     pub few_tickers : length w.tickers ≤ w.accepted
     pub enough : 3 * w.limit ≤ capacity
 
 module _ {P T : Type 0} where
   abbrev pub execution_of : Inside P T → Execution T
-  execution_of a = record { log = a.log.items; accepted = a.accepted; limit = a.limit; global = a.core.cells.global; locals = a.core.cells.locals; notices = a.notices; picks = a.picks; flag = a.core.flag; sleepers = a.core.sleepers; tasks = infos a.entries.items; tickers = a.tickers.items; holder = a.holder }
+  execution_of a = record { log = a.log.items; accepted = a.accepted; limit = a.limit; global = a.core.cells.global; locals = a.core.cells.locals; notices = a.notices; picks = a.picks; flag = a.core.flag; sleepers = a.core.sleepers; tasks = infos a.entries.items; tickers = a.tickers.items; holder = a.holder; closed = a.core.cells.closed }
 
   -- what is seen, the cells, what is kept of the tasks, the rings of new runs, and the room of the log fit together
   pub record IsWorld (w : Execution T) (table : Table P T (Unit {0})) (entries : List (TaskEntry P)) (rings : List (Option IdRing)) (capacity : ℕ) : Type 0 where
@@ -31,4 +34,5 @@ module _ {P T : Type 0} where
     pub notices : NoNoticeLost w
     pub tickers : TickersTied w.tickers w.holder w.sleepers
     pub runners : RunnersTied w.tickers table rings
+    pub closing : w.closed ≡ true → IsClosed w
     pub room : HasRoom w capacity

@@ -1,6 +1,7 @@
 //! What a world keeps of each task beside its log: what is known of it, and its future where it is
 //! out.
 ghost use Rattle.std.specs.Prelude.{◌≡◌, ◌<◌, Some, None, false, true, is_some, length, slice_get, slice_set};
+ghost use Rattle.std.specs.List.{list_any};
 ghost use Rattle.executor_core.specs.World.Entries.{infos, is_out, is_unpolled};
 
 use crate::task::TaskId;
@@ -116,6 +117,18 @@ pub(crate) fn has_future<P>(entries: &Vec<TaskEntry<P>>, n: u64) -> bool
         Some(entry) => entry.out.is_some(),
         None => false,
     }
+}
+
+// Whether the future of some task is out.
+pub(crate) fn some_out<P>(entries: &Vec<TaskEntry<P>>) -> bool
+    ensures { result ≡ list_any (λ e. is_some e.out) entries.now.items }
+{
+    for entry in entries {
+        if entry.out.is_some() {
+            return true;
+        }
+    }
+    false
 }
 
 // Puts this in the place of what was known of the task.

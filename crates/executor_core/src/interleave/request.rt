@@ -52,4 +52,8 @@ pub enum Step<P, T> {
     Unregister(usize),
     /// This ticker is dropped.
     Drop(usize),
+    /// The executor is closed: every task is cancelled, and is to be drained.
+    Close,
+    /// The next task of a closed executor is taken, to be dropped.
+    Drain,
 }

@@ -2,6 +2,7 @@
 ghost use Rattle.std.specs.Prelude.{◌≡◌, ◌+◌, ◌<◌, Some, length, slice_get};
 ghost use Rattle.executor_core.specs.World.Entries.{infos};
 
+pub(crate) mod closing;
 pub(crate) mod enabled;
 pub(crate) mod handles;
 pub(crate) mod notices;

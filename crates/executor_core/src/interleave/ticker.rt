@@ -12,13 +12,16 @@
 //! | `Wake` | the removal of its number |
 //! | `Store` | the store of the flag |
 //! | `Leaving` | its drop |
+//! | `Forgotten` | none |
 //! | `Ended` | none |
 //!
 //! A ticker is a tick or a run. A tick ends once its task runs. A run is at rest then, and has the
-//! queue of a runner, which it registers before its first poll and unregisters before its drop.
+//! queue of a runner, which it registers before its first poll and unregisters before its drop. A
+//! ticker that is at rest when the executor is closed is forgotten: it keeps its number and its places.
 
-ghost use Rattle.std.specs.Prelude.{◌≡◌, nat_lt, slice_get, slice_set};
-ghost use Rattle.executor_core.specs.World.Tickers.{is_awake, is_run, has_ended, notices_in, ticker_or, new_ticker, after_task, polled, searched, slept, rested, woke, dropped, ended, stored, left};
+ghost use Rattle.std.specs.Prelude.{◌≡◌, ◌||◌, not, nat_lt, map, slice_get, slice_set};
+ghost use Rattle.std.specs.List.{list_any};
+ghost use Rattle.executor_core.specs.World.Tickers.{at_rest, is_over, is_awake, is_run, has_ended, notices_in, ticker_or, new_ticker, after_task, polled, searched, slept, rested, woke, dropped, ended, stored, left, forgotten};
 
 /// Which step of a ticker comes next.
 #[derive(Debug, Clone, Copy, PartialEq)]
@@ -36,6 +39,8 @@ pub enum Phase {
     Store(ListChange),
     /// Its runner is unregistered, and it has still to be dropped.
     Leaving,
+    /// It was at rest when the executor was closed, and takes no step any more.
+    Forgotten,
     /// It is a tick that found a task and is awake, or it was dropped.
     Ended,
 }
@@ -209,6 +214,24 @@ impl Ticker {
         Ticker { phase, ..self }
     }
 
+    // Whether it is neither at rest nor over.
+    pub(crate) fn is_busy(self) -> bool
+        ensures { result ≡ not (at_rest self.phase || is_over self.phase) }
+    {
+        !matches!(self.phase, Phase::Rest | Phase::Forgotten | Phase::Ended)
+    }
+
+    // The same after a close: one that is at rest is forgotten.
+    pub(crate) fn forgotten(self) -> Ticker
+        ensures { result ≡ forgotten self }
+    {
+        let phase = match self.phase {
+            Phase::Rest => Phase::Forgotten,
+            phase => phase,
+        };
+        Ticker { phase, ..self }
+    }
+
     // The same after its runner was unregistered.
     pub(crate) fn left(self) -> Ticker
         ensures { result ≡ left self }
@@ -240,5 +263,26 @@ pub(crate) fn set_ticker(tickers: &mut Vec<Ticker>, k: usize, ticker: Ticker)
 {
     if k < tickers.len() {
         tickers[k] = ticker;
+    }
+}
+
+// Whether one of the tickers is neither at rest nor over.
+pub(crate) fn some_busy(tickers: &Vec<Ticker>) -> bool
+    ensures { result ≡ list_any (λ t. not (at_rest t.phase || is_over t.phase)) tickers.now.items }
+{
+    for ticker in tickers {
+        if ticker.is_busy() {
+            return true;
+        }
+    }
+    false
+}
+
+// Forgets each ticker that is at rest.
+pub(crate) fn forget_all(tickers: &mut Vec<Ticker>)
+    ensures { tickers.new.items ≡ map forgotten tickers.old.items }
+{
+    for ticker in tickers.iter_mut() {
+        *ticker = ticker.forgotten();
     }
 }

@@ -43,6 +43,13 @@ impl<P, T, W> Cells<P, T, W> {
         let moved = self.queues.gather();
         Notice::of(idle | moved)
     }
+
+    // Whether the cells were closed.
+    pub(crate) fn is_closed(&self) -> bool
+        ensures { result ≡ self.now.closed }
+    {
+        self.closed
+    }
 }
 
 // Cancels each task, or wakes it, by rising slot, and queues the idle ones at the global end. Says

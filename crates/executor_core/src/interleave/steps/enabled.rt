@@ -2,13 +2,13 @@
 ghost use Rattle.std.specs.Prelude.{◌≡◌, ◌&&◌, ◌||◌, not, is_some};
 ghost use Rattle.executor_core.specs.World.Log.{held};
 ghost use Rattle.executor_core.specs.World.Promises.{holds};
-ghost use Rattle.executor_core.specs.World.Steps.{info, ticker, enabled};
-ghost use Rattle.executor_core.specs.World.Tickers.{at_rest, is_awake, has_queue, is_new_run, may_search, may_go};
+ghost use Rattle.executor_core.specs.World.Steps.{info, ticker, some_held, enabled};
+ghost use Rattle.executor_core.specs.World.Tickers.{at_rest, is_awake, has_queue, is_new_run, may_register, may_search, may_go};
 
 use crate::interleave::World;
-use crate::interleave::entry::find_info;
+use crate::interleave::entry::{find_info, some_out};
 use crate::interleave::request::Step;
-use crate::interleave::ticker::{Phase, Ticker, ticker_at};
+use crate::interleave::ticker::{Phase, Ticker, some_busy, ticker_at};
 use crate::queue::RunnerKey;
 
 impl<P: Drop, T: Copy> World<P, T> {
@@ -76,11 +76,20 @@ impl<P: Drop, T: Copy> World<P, T> {
         }
     }
 
-    // Whether the ticker is a run that has still to register its runner.
+    // Whether the ticker is a run whose runner was not registered yet, at rest or forgotten.
     pub(crate) fn is_new_run(&self, ticker: Ticker) -> bool
         ensures { result ≡ is_new_run self.now.locals ticker }
     {
-        ticker.is_run() && matches!(ticker.phase, Phase::Rest) && !self.has_queue(ticker)
+        let waits = matches!(ticker.phase, Phase::Rest | Phase::Forgotten);
+        ticker.is_run() && waits && !self.has_queue(ticker)
+    }
+
+    // Whether the ticker may register its runner.
+    fn may_register(&self, k: usize) -> bool
+        ensures { result ≡ may_register self.now.locals (ticker k self.now) }
+    {
+        let ticker = self.ticker(k);
+        matches!(ticker.phase, Phase::Rest) && self.is_new_run(ticker)
     }
 
     // Whether the ticker may be polled.
@@ -112,12 +121,26 @@ impl<P: Drop, T: Copy> World<P, T> {
         may_go && (ticker.is_awake() || self.is_free())
     }
 
+    // Whether the executor is closed.
+    fn is_closed(&self) -> bool
+        ensures { result ≡ self.now.closed }
+    {
+        self.core.cells.is_closed()
+    }
+
+    // Whether a task is held.
+    fn some_held(&self) -> bool
+        ensures { result ≡ some_held self.now }
+    {
+        some_out(&self.entries)
+    }
+
     // Whether the step is enabled.
     pub(crate) fn is_enabled(&self, step: &Step<P, T>) -> bool
         ensures { result ≡ enabled step.now self.now }
     {
         match step {
-            Step::Spawn(_) | Step::TryTick => true,
+            Step::Spawn(_) | Step::TryTick | Step::Tick | Step::Run => !self.is_closed(),
             Step::Wake(n) => find_info(&self.entries, *n).is_some(),
             Step::Pend(n) => self.may_end(*n),
             Step::Ready(n, _) => self.may_end(*n),
@@ -128,9 +151,7 @@ impl<P: Drop, T: Copy> World<P, T> {
             Step::Dropped(n) => self.may_drop(*n),
             Step::Exchange => self.notices > 0,
             Step::Notify => self.picks > 0 && self.is_free(),
-            Step::Tick => true,
-            Step::Run => true,
-            Step::Register(k) => self.is_new_run(self.ticker(*k)),
+            Step::Register(k) => self.may_register(*k),
             Step::Poll(k) => self.may_poll(*k),
             Step::Search(k, _) => matches!(self.ticker(*k).phase, Phase::Search),
             Step::Sleep(k) => matches!(self.ticker(*k).phase, Phase::Sleep) && self.is_free(),
@@ -140,6 +161,8 @@ impl<P: Drop, T: Copy> World<P, T> {
             Step::Fair(k) => self.rests_registered(*k),
             Step::Unregister(k) => self.rests_registered(*k),
             Step::Drop(k) => self.may_drop_ticker(*k),
+            Step::Close => !self.is_closed() && !self.some_held() && !some_busy(&self.tickers),
+            Step::Drain => self.is_closed(),
         }
     }
 }

@@ -2,8 +2,8 @@
 //!
 //! A run takes its ring, its sleeper's place and its runner's place as it is made. It registers its
 //! runner before its first poll, and unregisters it before its drop.
-ghost use Rattle.std.specs.Prelude.{◌≡◌, ◌≢◌, ◌&&◌, true, None, slice_index_or, slice_set};
-ghost use Rattle.executor_core.specs.World.Tickers.{at_rest, has_queue, is_new_run};
+ghost use Rattle.std.specs.Prelude.{◌≡◌, ◌≢◌, ◌&&◌, true, false, None, slice_index_or, slice_set};
+ghost use Rattle.executor_core.specs.World.Tickers.{at_rest, has_queue, may_register};
 ghost use Rattle.executor_core.specs.World.Steps.{ticker, row, Makes, run_row, register_row, fair_row, unregister_row};
 
 use crate::interleave::World;
@@ -18,6 +18,7 @@ const LOCAL_PLACES: usize = 512;
 impl<P: Drop, T: Copy> World<P, T> {
     pub(crate) fn make_run(&mut self) -> Reply<T>
         requires room { self.old.accepted ≢ self.old.limit }
+        requires unclosed { self.old.closed ≡ false }
         ensures { Makes run_row self.old result self.new }
     {
         if self.tickers.try_reserve(1).is_err() {
@@ -49,7 +50,7 @@ impl<P: Drop, T: Copy> World<P, T> {
 
     pub(crate) fn register(&mut self, k: usize) -> Reply<T>
         requires room { self.old.accepted ≢ self.old.limit }
-        requires enabled { is_new_run self.old.locals (ticker k self.old) ≡ true }
+        requires enabled { may_register self.old.locals (ticker k self.old) ≡ true }
         ensures { row (register_row k self.old) result self.new }
     {
         self.accepted += 1;

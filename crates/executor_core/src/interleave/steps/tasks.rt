@@ -1,5 +1,5 @@
 //! The steps of those who spawn tasks, and of those who have a waker.
-ghost use Rattle.std.specs.Prelude.{◌≡◌, ◌≢◌, true};
+ghost use Rattle.std.specs.Prelude.{◌≡◌, ◌≢◌, true, false};
 ghost use Rattle.executor_core.specs.World.Log.{spawned};
 ghost use Rattle.executor_core.specs.World.Steps.{Spawns, row, wake_row};
 
@@ -14,6 +14,7 @@ use crate::task::SpawnError;
 impl<P: Drop, T: Copy> World<P, T> {
     pub(crate) fn spawn(&mut self, future: P) -> Reply<T>
         requires room { self.old.accepted ≢ self.old.limit }
+        requires unclosed { self.old.closed ≡ false }
         ensures { Spawns self.old result self.new }
     {
         if self.entries.try_reserve(1).is_err() {

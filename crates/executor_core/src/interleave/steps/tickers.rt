@@ -73,6 +73,7 @@ fn release_place<P, T>(core: &mut Core<P, T, ()>, ticker: Ticker, is_new: bool)
 impl<P: Drop, T: Copy> World<P, T> {
     pub(crate) fn tick(&mut self) -> Reply<T>
         requires room { self.old.accepted ≢ self.old.limit }
+        requires unclosed { self.old.closed ≡ false }
         ensures { Makes tick_row self.old result self.new }
     {
         if self.tickers.try_reserve(1).is_err() {

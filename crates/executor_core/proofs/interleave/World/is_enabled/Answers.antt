@@ -1,6 +1,5 @@
 use Rattle.std.proofs.Common.{◌&&◌, not, ◌∙◌, sym, ap, is_some, refl, nat_lt}
 use Rattle.std.proofs.lemmas.Bool.{lt-ltb}
-use Rattle.executor_core.specs.World.Tickers.{is_new_run}
 use Rattle.executor_core.proofs.World.Agreement.{spawned_known}
 use Rattle.executor_core.proofs.interleave.World.is_enabled.Goals as goal
 
@@ -31,14 +30,8 @@ returns-in-Dropped g c = rw c.in-Dropped.is c.may_drop.ensures
 pub returns-in-Exchange : goal.returns-in-Exchange
 returns-in-Exchange g c = rw c.in-Exchange.is (ap (λ w. nat_lt 0 w.notices) c.self.view_is)
 
-pub returns-in-Tick : goal.returns-in-Tick
-returns-in-Tick g c = rw c.in-Tick.is refl
-
-pub returns-in-Run : goal.returns-in-Run
-returns-in-Run g c = rw c.in-Run.is refl
-
 pub returns-in-Register : goal.returns-in-Register
-returns-in-Register g c = rw c.in-Register.is (c.is_new_run.ensures ∙ ap (is_new_run c.args.self.now.locals) c.ticker.ensures)
+returns-in-Register g c = rw c.in-Register.is c.may_register.ensures
 
 pub returns-in-Poll : goal.returns-in-Poll
 returns-in-Poll g c = rw c.in-Poll.is c.may_poll.ensures

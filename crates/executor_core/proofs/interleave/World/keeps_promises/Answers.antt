@@ -1,5 +1,5 @@
 use Rattle.std.proofs.Common.{subst}
-use Rattle.executor_core.specs.World.Promises.{KeepsPromises}
+use Rattle.executor_core.specs.World.AllPromises.{KeepsPromises}
 use Rattle.executor_core.proofs.World.Agreement.{one_place}
 use Rattle.executor_core.proofs.World.Steps.{promises}
 use Rattle.executor_core.proofs.interleave.World.keeps_promises.Goals as goal

@@ -51,7 +51,7 @@ returns-in-Err-OutOfMemory g c =
     (make_refused c.self.inside c.self.invariant c.self.view_is c.requires.room run_row back c.try_reserve.ensures.items c.try_reserve-2.ensures.items).1
 
 pub invariant_of-self-2 : goal.invariant_of-self-2
-invariant_of-self-2 g c = (run_done c.self.inside c.self.invariant c.self.view_is c.requires.room (on_ok c.reserve.result c.reserve.ensures.ok (sym c.is_err-3.ensures.value ∙ c.if-is_err-3.false)) c.in-Ok-reserve_runner.ensures.ok c.in-Ok-reserve_runner.ensures.key c.in-Ok.ensures c.push_reserved-2.ensures.items c.try_reserve.ensures.items c.new-2.ensures (c.len-k.ensures ∙ c.try_reserve.new.self.ok.0) c.push_reserved.ensures.items c.try_reserve-2.ensures.items).0
+invariant_of-self-2 g c = (run_done c.self.inside c.self.invariant c.self.view_is c.requires.room c.requires.unclosed (on_ok c.reserve.result c.reserve.ensures.ok (sym c.is_err-3.ensures.value ∙ c.if-is_err-3.false)) c.in-Ok-reserve_runner.ensures.ok c.in-Ok-reserve_runner.ensures.key c.in-Ok.ensures c.push_reserved-2.ensures.items c.try_reserve.ensures.items c.new-2.ensures (c.len-k.ensures ∙ c.try_reserve.new.self.ok.0) c.push_reserved.ensures.items c.try_reserve-2.ensures.items).0
 
 pub returns : goal.returns
-returns g c = (run_done c.self.inside c.self.invariant c.self.view_is c.requires.room (on_ok c.reserve.result c.reserve.ensures.ok (sym c.is_err-3.ensures.value ∙ c.if-is_err-3.false)) c.in-Ok-reserve_runner.ensures.ok c.in-Ok-reserve_runner.ensures.key c.in-Ok.ensures c.push_reserved-2.ensures.items c.try_reserve.ensures.items c.new-2.ensures (c.len-k.ensures ∙ c.try_reserve.new.self.ok.0) c.push_reserved.ensures.items c.try_reserve-2.ensures.items).1
+returns g c = (run_done c.self.inside c.self.invariant c.self.view_is c.requires.room c.requires.unclosed (on_ok c.reserve.result c.reserve.ensures.ok (sym c.is_err-3.ensures.value ∙ c.if-is_err-3.false)) c.in-Ok-reserve_runner.ensures.ok c.in-Ok-reserve_runner.ensures.key c.in-Ok.ensures c.push_reserved-2.ensures.items c.try_reserve.ensures.items c.new-2.ensures (c.len-k.ensures ∙ c.try_reserve.new.self.ok.0) c.push_reserved.ensures.items c.try_reserve-2.ensures.items).1

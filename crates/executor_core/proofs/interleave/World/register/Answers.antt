@@ -1,6 +1,6 @@
 use Rattle.std.proofs.Common.{◌∙◌, sym}
 use Rattle.executor_core.proofs.World.Room.{count_fits}
-use Rattle.executor_core.proofs.World.RunSteps.{ring_waits, no_ring, ring_empty, registers, register_done}
+use Rattle.executor_core.proofs.World.RunSteps.{new_is_run, ring_waits, no_ring, ring_empty, registers, register_done}
 use Rattle.executor_core.proofs.interleave.World.register.Goals as goal
 
 pub overflow_add-self : goal.overflow_add-self
@@ -20,3 +20,6 @@ invariant_of-self g c = (register_done c.self.inside c.self.invariant c.self.vie
 
 pub returns : goal.returns
 returns g c = (register_done c.self.inside c.self.invariant c.self.view_is c.requires.room c.args.k c.requires.enabled c.ticker_at.ensures c.in-Some.is (ring_waits c.self.inside c.self.invariant c.self.view_is c.requires.room c.args.k c.requires.enabled c.ticker_at.ensures c.in-Some.is (sym c.in-Some-take_ring.is ∙ c.take_ring.ensures.ring)) c.in-Ok.ensures.ok c.take_ring.ensures.rest).does
+
+pub unreachable-requires : goal.unreachable-requires
+unreachable-requires g c = new_is_run c.self.inside c.self.invariant c.self.view_is c.requires.room c.args.k c.requires.enabled c.ticker_at.ensures c.in_default.is

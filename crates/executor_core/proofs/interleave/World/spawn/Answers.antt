@@ -19,10 +19,10 @@ pub unreachable-requires : goal.unreachable-requires
 unreachable-requires g c = last_unreached c.self.inside c.self.invariant c.self.view_is c.requires.room (rw c.in-Err-Exhausted.field-0-is at c.in-Err-Exhausted.ensures.cause).1
 
 pub invariant_of-self-2 : goal.invariant_of-self-2
-invariant_of-self-2 g c = (spawn_done c.self.inside c.self.invariant c.self.view_is c.requires.room c.in-Ok.spawned.0.slot c.args.future c.in-Ok.ensures.id c.in-Ok.ensures.free c.in-Ok.ensures.ok c.new.ensures c.push_reserved.ensures.items c.try_reserve.ensures.items c.push_reserved-2.ensures.items c.keep_notice.ensures.counted c.push_reserved-2.ensures.capacity).0
+invariant_of-self-2 g c = (spawn_done c.self.inside c.self.invariant c.self.view_is c.requires.room c.requires.unclosed c.in-Ok.spawned.0.slot c.args.future c.in-Ok.ensures.id c.in-Ok.ensures.free c.in-Ok.ensures.ok c.new.ensures c.push_reserved.ensures.items c.try_reserve.ensures.items c.push_reserved-2.ensures.items c.keep_notice.ensures.counted c.push_reserved-2.ensures.capacity).0
 
 pub returns : goal.returns
-returns g c = (spawn_done c.self.inside c.self.invariant c.self.view_is c.requires.room c.in-Ok.spawned.0.slot c.args.future c.in-Ok.ensures.id c.in-Ok.ensures.free c.in-Ok.ensures.ok c.new.ensures c.push_reserved.ensures.items c.try_reserve.ensures.items c.push_reserved-2.ensures.items c.keep_notice.ensures.counted c.push_reserved-2.ensures.capacity).1
+returns g c = (spawn_done c.self.inside c.self.invariant c.self.view_is c.requires.room c.requires.unclosed c.in-Ok.spawned.0.slot c.args.future c.in-Ok.ensures.id c.in-Ok.ensures.free c.in-Ok.ensures.ok c.new.ensures c.push_reserved.ensures.items c.try_reserve.ensures.items c.push_reserved-2.ensures.items c.keep_notice.ensures.counted c.push_reserved-2.ensures.capacity).1
 
 pub invariant_of-self : goal.invariant_of-self
 invariant_of-self g c = (spawn_refused c.self.inside c.self.invariant c.self.view_is c.requires.room refl c.try_reserve.ensures.items).0

@@ -1,5 +1,5 @@
 use Rattle.std.proofs.Common.{◌≡◌, ◌≢◌, subst, sym, ◌∙◌}
-use Rattle.std.proofs.lemmas.Bool.{ltb-true}
+use Rattle.std.proofs.lemmas.Bool.{ltb-true, not-true}
 use Rattle.executor_core.proofs.World.Steps.{step_full, step_not_now, step_enabled, step_done}
 use Rattle.executor_core.proofs.interleave.World.take_step.Goals as goal
 
@@ -10,7 +10,7 @@ pub returns-then-not-is_enabled : goal.returns-then-not-is_enabled
 returns-then-not-is_enabled g c = step_not_now _ _ (subst (λ w. w.accepted ≢ w.limit) c.self.view_is c.if-self.false) (sym c.is_enabled.ensures ∙ c.if-not-is_enabled.true)
 
 pub spawn-requires : goal.spawn-requires
-spawn-requires g c = record { room = (subst (λ w. w.accepted ≢ w.limit) c.self.view_is c.if-self.false) }
+spawn-requires g c = record { room = (subst (λ w. w.accepted ≢ w.limit) c.self.view_is c.if-self.false); unclosed = not-true _ (step_enabled _ _ c.in-Spawn.is (sym c.is_enabled.ensures ∙ c.if-not-is_enabled.false)) }
 
 pub returns-in-Spawn : goal.returns-in-Spawn
 returns-in-Spawn g c = step_done _ _ _ c.in-Spawn.is _ _ (subst (λ w. w.accepted ≢ w.limit) c.self.view_is c.if-self.false) (sym c.is_enabled.ensures ∙ c.if-not-is_enabled.false) c.spawn.ensures
@@ -82,7 +82,7 @@ pub returns-in-Notify : goal.returns-in-Notify
 returns-in-Notify g c = step_done _ _ _ c.in-Notify.is _ _ (subst (λ w. w.accepted ≢ w.limit) c.self.view_is c.if-self.false) (sym c.is_enabled.ensures ∙ c.if-not-is_enabled.false) c.notify.ensures
 
 pub tick-requires : goal.tick-requires
-tick-requires g c = record { room = (subst (λ w. w.accepted ≢ w.limit) c.self.view_is c.if-self.false) }
+tick-requires g c = record { room = (subst (λ w. w.accepted ≢ w.limit) c.self.view_is c.if-self.false); unclosed = not-true _ (step_enabled _ _ c.in-Tick.is (sym c.is_enabled.ensures ∙ c.if-not-is_enabled.false)) }
 
 pub returns-in-Tick : goal.returns-in-Tick
 returns-in-Tick g c = step_done _ _ _ c.in-Tick.is _ _ (subst (λ w. w.accepted ≢ w.limit) c.self.view_is c.if-self.false) (sym c.is_enabled.ensures ∙ c.if-not-is_enabled.false) c.tick.ensures
@@ -130,7 +130,7 @@ pub returns-in-Drop : goal.returns-in-Drop
 returns-in-Drop g c = step_done _ _ _ c.in-Drop.is _ _ (subst (λ w. w.accepted ≢ w.limit) c.self.view_is c.if-self.false) (sym c.is_enabled.ensures ∙ c.if-not-is_enabled.false) c.drop_ticker.ensures
 
 pub make_run-requires : goal.make_run-requires
-make_run-requires g c = record { room = (subst (λ w. w.accepted ≢ w.limit) c.self.view_is c.if-self.false) }
+make_run-requires g c = record { room = (subst (λ w. w.accepted ≢ w.limit) c.self.view_is c.if-self.false); unclosed = not-true _ (step_enabled _ _ c.in-Run.is (sym c.is_enabled.ensures ∙ c.if-not-is_enabled.false)) }
 
 pub returns-in-Run : goal.returns-in-Run
 returns-in-Run g c = step_done _ _ _ c.in-Run.is _ _ (subst (λ w. w.accepted ≢ w.limit) c.self.view_is c.if-self.false) (sym c.is_enabled.ensures ∙ c.if-not-is_enabled.false) c.make_run.ensures
@@ -152,3 +152,15 @@ unregister-requires g c = record { room = (subst (λ w. w.accepted ≢ w.limit) 
 
 pub returns-in-Unregister : goal.returns-in-Unregister
 returns-in-Unregister g c = step_done _ _ _ c.in-Unregister.is _ _ (subst (λ w. w.accepted ≢ w.limit) c.self.view_is c.if-self.false) (sym c.is_enabled.ensures ∙ c.if-not-is_enabled.false) c.unregister.ensures
+
+pub close-requires : goal.close-requires
+close-requires g c = record { room = (subst (λ w. w.accepted ≢ w.limit) c.self.view_is c.if-self.false); enabled = step_enabled _ _ c.in-Close.is (sym c.is_enabled.ensures ∙ c.if-not-is_enabled.false) }
+
+pub returns-in-Close : goal.returns-in-Close
+returns-in-Close g c = step_done _ _ _ c.in-Close.is _ _ (subst (λ w. w.accepted ≢ w.limit) c.self.view_is c.if-self.false) (sym c.is_enabled.ensures ∙ c.if-not-is_enabled.false) c.close.ensures
+
+pub drain-requires : goal.drain-requires
+drain-requires g c = record { room = (subst (λ w. w.accepted ≢ w.limit) c.self.view_is c.if-self.false); enabled = step_enabled _ _ c.in-Drain.is (sym c.is_enabled.ensures ∙ c.if-not-is_enabled.false) }
+
+pub returns-in-Drain : goal.returns-in-Drain
+returns-in-Drain g c = step_done _ _ _ c.in-Drain.is _ _ (subst (λ w. w.accepted ≢ w.limit) c.self.view_is c.if-self.false) (sym c.is_enabled.ensures ∙ c.if-not-is_enabled.false) c.drain.ensures

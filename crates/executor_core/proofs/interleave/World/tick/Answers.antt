@@ -23,7 +23,7 @@ pub returns-then-is_err-2 : goal.returns-then-is_err-2
 returns-then-is_err-2 g c = (make_refused c.self.inside c.self.invariant c.self.view_is c.requires.room tick_row (on_err c.reserve.result c.reserve.ensures.refused (sym c.is_err-2.ensures.value ∙ c.if-is_err-2.true)) c.try_reserve.ensures.items refl).1
 
 pub invariant_of-self-2 : goal.invariant_of-self-2
-invariant_of-self-2 g c = (tick_done c.self.inside c.self.invariant c.self.view_is c.requires.room (on_ok c.reserve.result c.reserve.ensures.ok (sym c.is_err-2.ensures.value ∙ c.if-is_err-2.false)) c.push_reserved.ensures.items c.try_reserve.ensures.items c.new.ensures (c.len-k.ensures ∙ c.try_reserve.new.self.ok.0)).0
+invariant_of-self-2 g c = (tick_done c.self.inside c.self.invariant c.self.view_is c.requires.room c.requires.unclosed (on_ok c.reserve.result c.reserve.ensures.ok (sym c.is_err-2.ensures.value ∙ c.if-is_err-2.false)) c.push_reserved.ensures.items c.try_reserve.ensures.items c.new.ensures (c.len-k.ensures ∙ c.try_reserve.new.self.ok.0)).0
 
 pub returns : goal.returns
-returns g c = (tick_done c.self.inside c.self.invariant c.self.view_is c.requires.room (on_ok c.reserve.result c.reserve.ensures.ok (sym c.is_err-2.ensures.value ∙ c.if-is_err-2.false)) c.push_reserved.ensures.items c.try_reserve.ensures.items c.new.ensures (c.len-k.ensures ∙ c.try_reserve.new.self.ok.0)).1
+returns g c = (tick_done c.self.inside c.self.invariant c.self.view_is c.requires.room c.requires.unclosed (on_ok c.reserve.result c.reserve.ensures.ok (sym c.is_err-2.ensures.value ∙ c.if-is_err-2.false)) c.push_reserved.ensures.items c.try_reserve.ensures.items c.new.ensures (c.len-k.ensures ∙ c.try_reserve.new.self.ok.0)).1
