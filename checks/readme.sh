@@ -34,7 +34,7 @@ stands() { printf '%s\n' "$sources" | xargs grep -qE -- "$1"; }
 # A word that names a call, a clause, a type, a definition, a crate or a path has to be there.
 is_there() {
     case $1 in
-        *[!A-Za-z0-9_:./]* | S | self | break | unsafe | specs/ | proofs/ | src/ | out/) return 0 ;;
+        *[!A-Za-z0-9_:./]* | F | R | S | W | self | break | unsafe | specs/ | proofs/ | src/ | out/) return 0 ;;
         uses::*) grep -qE "fn ${1#uses::}\b" crates/uses/src/*.rt ;;
         */* | *.md | *.txt | *.svg) [ -e "$1" ] || [ -e "docs/$1" ] || [ -e "crates/executor_core/src/$1.rt" ] ||
             [ -e "crates/async_executor/src/$1.rt" ] || [ -e "crates/async_utilities/src/$1.rt" ] ;;
@@ -85,7 +85,7 @@ block "$calling" text "## Contracts" | sed -n 's/^  \(ensures\|requires\)\( [a-z
 sed 's/^ *//; s/[;,]$//' "$copy/clauses" | grep -Fxf "$copy/said" | sort -u > "$copy/wanted"
 same "CALLING.md, the clauses and the sources"
 
-for page in README.md docs/PROVED.md docs/ARCHITECTURE.md "$calling"; do
+for page in README.md docs/PROVED.md docs/ARCHITECTURE.md docs/MEASURED.md "$calling"; do
     quoted "$page" | while read -r word; do
         is_there "$word" || echo "$word"
     done > "$copy/log"

@@ -1,16 +1,17 @@
 #!/usr/bin/env python3
 """Writes the figures of docs/figures.txt where readers look for them.
 
-They become tables in README.md and docs/EXSIM.md, between the lines '<!-- figures: KIND -->' and
-'<!-- end -->', and the chart docs/benchmark.svg. With the argument --check nothing is written:
-each page that does not say what docs/figures.txt says is named, and the last line counts the pages.
+They become tables in README.md, docs/MEASURED.md and docs/EXSIM.md, between the lines
+'<!-- figures: KIND -->' and '<!-- end -->', and the chart docs/benchmark.svg. With the argument
+--check nothing is written: each page that does not say what docs/figures.txt says is named, and the
+last line counts the pages.
 """
 import pathlib
 import re
 import sys
 
 TOP = pathlib.Path(__file__).resolve().parent.parent
-PAGES = ("README.md", "docs/EXSIM.md")
+PAGES = ("README.md", "docs/MEASURED.md", "docs/EXSIM.md")
 CHART = "docs/benchmark.svg"
 HEADS = {
     "time": ("from a fresh clone", "what it does", "time"),
