@@ -1,6 +1,6 @@
 -- A walk over the slots: one that changes each cell and queues what was idle, and one that logs what is undropped.
-use Rattle.std.proofs.Common.{◌≡◌, ℕ, zero, suc, ◌+◌, ◌<◌, ◌≤◌, ◌||◌, Bool, true, false, List, [], ◌∷◌, ◌++◌, length, map as list_map, set, get_or, take, drop, take_all, Option, Some, None, cond, refl, sym, ap, subst, ◌∙◌, arith}
-use Rattle.std.specs.Prelude.{nat_lt, count_by}
+use Rattle.std.proofs.Common.{◌≡◌, ℕ, zero, suc, ◌+◌, ◌<◌, ◌≤◌, true, List, [], ◌∷◌, ◌++◌, length, map as list_map, set, get_or, take, drop, take_all, Option, Some, None, refl, sym, ap, subst, ◌∙◌, arith}
+use Rattle.std.specs.Prelude.{nat_lt}
 use Rattle.std.specs.List.{cons_option}
 use Rattle.std.proofs.lemmas.List.{map-append, length-map, take-append-drop}
 use Rattle.std.proofs.lemmas.List.Elements.{filter_map-append}
@@ -9,7 +9,7 @@ use Rattle.std.proofs.Common.{length-append, append_assoc, append-nil}
 use Rattle.executor_core.specs.Slots.{HasCell, IsQueue}
 use Rattle.executor_core.proofs.LinkLemmas.{prefix_queue}
 use Rattle.executor_core.specs.Queues.State.{QueueState, with_lists, pushed, pushed_all}
-use Rattle.executor_core.specs.Cells.View.{changed_slot, idle_id, idle_ids, is_queueable, undropped_number}
+use Rattle.executor_core.specs.Cells.View.{changed_slot, idle_id, idle_ids, undropped_number}
 use Rattle.executor_core.proofs.RisingLemmas.{undropped_numbers}
 use Rattle.executor_core.specs.declared.task.cell.Cell.{Cell}
 use Rattle.executor_core.specs.declared.task.cell.Numbered.{Numbered}

@@ -1,5 +1,6 @@
 -- That a world keeps its promises at each step.
 pub mod Agreement
+pub mod AllTasks
 pub mod Closes
 pub mod Closing
 pub mod Entries

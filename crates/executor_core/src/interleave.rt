@@ -5,10 +5,10 @@
 //! polled and dropped, and while it is polled it searches for a task, goes to sleep, removes its
 //! number and stores the flag, each by a step of its own. A ticker is a tick, which looks at the
 //! global queue alone, or a run, whose runner has a queue of its own while it is registered. The
-//! executor may be closed once, and then its tasks are drained, each to be dropped. A
-//! `World` takes any list of such steps, of all parties, with steps of others between any two of one
-//! party. It makes each on its `Core`, and logs what happened to which task. A step that is not
-//! enabled is answered and changes nothing.
+//! executor may be closed once, and then its tasks are drained, each to be dropped; or it may be
+//! leaked once, and then it goes on and is never closed. A `World` takes any list of such steps, of
+//! all parties, with steps of others between any two of one party. It makes each on its `Core`, and
+//! logs what happened to which task. A step that is not enabled is answered and changes nothing.
 //!
 //! The notices and the picks that the steps leave to be spent are kept as counts. They float: any
 //! party may spend one, at any time, a notice by an exchange, a pick by a notification. A ticker
@@ -73,6 +73,8 @@ pub struct World<P, T> {
     picks: u32,
     tickers: Vec<Ticker>,
     holder: Option<usize>,
+    // Whether the executor was leaked.
+    leaked: bool,
     // By runner, the ring of a run that has still to register.
     rings: Vec<Option<Ring>>,
 }
@@ -115,6 +117,7 @@ impl<P: Drop, T: Copy> World<P, T> {
             picks: 0,
             tickers: Vec::new(alloc),
             holder: None,
+            leaked: false,
             rings: Vec::new(alloc),
         })
     }
@@ -162,6 +165,7 @@ impl<P: Drop, T: Copy> World<P, T> {
             Step::Drop(k) => self.drop_ticker(k),
             Step::Close => self.close(),
             Step::Drain => self.drain(),
+            Step::Leak => self.leak(),
         }
     }
 

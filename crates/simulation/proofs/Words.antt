@@ -123,6 +123,7 @@ is_word (Step (step.Unregister k)) = word_by_letters _ refl
 is_word (Step (step.Drop k)) = word_by_letters _ refl
 is_word (Step step.Close) = word_by_letters _ refl
 is_word (Step step.Drain) = word_by_letters _ refl
+is_word (Step step.Leak) = word_by_letters _ refl
 
 -- the numbers of each command are arguments
 pub arguments_for : (command : Command) → (a : Arguments) × (listed a ≡ numbers_of command)
@@ -153,3 +154,4 @@ arguments_for (Step (step.Unregister k)) = (arguments.One k, refl)
 arguments_for (Step (step.Drop k)) = (arguments.One k, refl)
 arguments_for (Step step.Close) = (arguments.None, refl)
 arguments_for (Step step.Drain) = (arguments.None, refl)
+arguments_for (Step step.Leak) = (arguments.None, refl)

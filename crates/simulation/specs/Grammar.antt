@@ -39,6 +39,7 @@ word_of (Step (step.Unregister _)) = codes "unregister"
 word_of (Step (step.Drop _)) = codes "drop"
 word_of (Step step.Close) = codes "close"
 word_of (Step step.Drain) = codes "drain"
+word_of (Step step.Leak) = codes "leak"
 
 -- the numbers behind it
 abbrev pub numbers_of : Command → List ℕ
@@ -69,6 +70,7 @@ numbers_of (Step (step.Unregister k)) = k ∷ []
 numbers_of (Step (step.Drop k)) = k ∷ []
 numbers_of (Step step.Close) = []
 numbers_of (Step step.Drain) = []
+numbers_of (Step step.Leak) = []
 
 -- it is the command of this word and these numbers
 abbrev pub IsWritten : List ℕ → List ℕ → Command → Type 0

@@ -65,6 +65,7 @@ fn command_alone(word: &str) -> Option<Command>
         "run" => Step::Run,
         "close" => Step::Close,
         "drain" => Step::Drain,
+        "leak" => Step::Leak,
         _ => return None,
     }))
 }

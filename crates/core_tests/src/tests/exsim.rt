@@ -1,5 +1,6 @@
 //! Whole runs over readers and writers in memory, which may fail.
 mod closing;
+mod leaking;
 mod runs;
 mod tickers;
 
@@ -243,7 +244,7 @@ fn runs_print_their_replies_however_the_input_is_cut(rt: HostRuntime) {
     }
 }
 
-const NO_STEPS: [&[u8]; 43] = [
+const NO_STEPS: [&[u8]; 44] = [
     b"",
     b"\r",
     b"spwan",
@@ -287,6 +288,7 @@ const NO_STEPS: [&[u8]; 43] = [
     b"search 0",
     b"tick 0",
     b"close 0",
+    b"leak 0",
 ];
 
 // What is written where such a line comes third.

@@ -335,3 +335,37 @@ fn a_close_takes_the_tasks_by_rising_slot(rt: HostRuntime) -> Result<(), Fail> {
     trial.see(is_empty);
     trial.end()
 }
+
+#[test]
+fn a_leak_wakes_the_tasks_by_rising_slot(rt: HostRuntime) -> Result<(), Fail> {
+    let mut trial = Trial::new(World::new(rt.alloc(), 30)?);
+    leave_idle(&mut trial);
+    trial.take(Step::Spawn(10), Reply::Task(4));
+    trial.take(Step::TryTick, Reply::Poll(4));
+    trial.refuse(Step::Leak);
+    trial.take(Step::Ready(4, 7), Reply::Finished { awaiter: false });
+    trial.take(Step::Spawn(10), Reply::Task(5));
+    trial.take(Step::Tick, Reply::Ticker(0));
+    trial.take(Step::Leak, Reply::Notice);
+    trial.expect(Phase::Forgotten, None, 12);
+    trial.expect_fronts(None, (Some(5), Some(3)));
+    let log = trial.world.log();
+    let woken = [
+        Event::Spawned(5),
+        Event::Woken(3),
+        Event::Woken(1),
+        Event::Woken(2),
+        Event::Woken(5),
+    ];
+    let holds = log.ends_with(&woken);
+    trial.see(holds);
+    trial.refuse(Step::Leak);
+    trial.refuse(Step::Close);
+    trial.refuse(Step::Drain);
+    for n in [5, 3, 1, 2] {
+        trial.take(Step::TryTick, Reply::Poll(n));
+        trial.take(Step::Pend(n), Reply::Idle(n));
+    }
+    trial.take(Step::TryTick, Reply::NoTask);
+    trial.end()
+}

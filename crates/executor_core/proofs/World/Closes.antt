@@ -1,231 +1,57 @@
--- The executor is closed, and then drained.
-use Rattle.std.proofs.Common.{◌≡◌, ◌≢◌, ℕ, zero, suc, ◌+◌, ◌<◌, ◌≤◌, ◌==◌, ◌||◌, ◌&&◌, not, Bool, true, false, List, [], ◌∷◌, ◌++◌, length, map, Option, Some, None, is_some, cond, refl, sym, ap, subst, ◌∙◌, ◌⊎◌, inl, inr, append_assoc, append-nil, length-append, arith}
-use Rattle.std.proofs.lemmas.Bool.{cases_Bool, cases_eq, and_parts, not-true, lt-ltb, eq-eqb, ne_eqb, or_right, true≢false, false≢true, cond-true, cond-false}
-use Rattle.std.proofs.lemmas.List.{length-map}
-use Rattle.std.proofs.lemmas.List.Sums.{sum_by-cons}
-use Rattle.std.specs.Prelude.{nat_lt, option_map, slice_get, slice_set}
-use Rattle.std.specs.List.{filter, list_any, range_with_len}
+-- The executor is closed, and then drained; or it is leaked.
+use Rattle.std.proofs.Common.{◌≡◌, ◌≢◌, ℕ, zero, suc, ◌+◌, ◌<◌, ◌≤◌, ◌||◌, ◌&&◌, not, Bool, true, false, List, [], ◌∷◌, ◌++◌, length, map, Option, Some, None, is_some, cond, refl, sym, ap, subst, ◌∙◌, ◌⊎◌, inl, inr, append-nil, arith}
+use Rattle.std.proofs.lemmas.Bool.{and_parts, not-true, lt-ltb, eq-eqb, true≢false, cond-true}
+use Rattle.std.specs.Prelude.{nat_lt, slice_get, slice_set}
+use Rattle.std.specs.List.{list_any, range_with_len}
 use Rattle.std.specs.FinMap as fin_map
 use Rattle.std.specs.Vec.{vec_capacity}
-use Rattle.executor_core.specs.Numbers.{times}
-use Rattle.executor_core.specs.Cells.{Slotted, Table}
-use Rattle.executor_core.specs.Cell.{is_idle, is_undropped}
-use Rattle.executor_core.specs.Cell.Changes.{cancelled_cell}
-use Rattle.executor_core.specs.Cells.Calls.{each_changed, rising, rising_idle, SlotsDiffer, SlotsRise, closing as closing_cells, after_close, close_queues, draining, after_drain_next, after_take, take_first, with_taken, IsTaken, TakesFront}
+use Rattle.executor_core.specs.Cells.{Table}
+use Rattle.executor_core.specs.Cell.{is_undropped}
+use Rattle.executor_core.specs.Cells.Calls.{rising, rising_idle, SlotsDiffer, closing as closing_cells, after_close, close_queues, after_wake_all, wake_all_queues, draining, after_drain_next, after_take, take_first, with_taken, IsTaken, TakesFront}
 use Rattle.executor_core.specs.Queues.{RunnerQueue, local_entries, emptied}
 use Rattle.executor_core.specs.Ring.{IdRing}
 use Rattle.executor_core.specs.World.{Execution}
-use Rattle.executor_core.specs.World.Agreement.{Status, status, no_status, FewPollsFor, StateAgrees, NumberAgrees, Agree}
-use Rattle.executor_core.specs.World.Closing.{AllMarked, IsClosed}
+use Rattle.executor_core.specs.World.Agreement.{status, Agree}
+use Rattle.executor_core.specs.World.Closing.{AllMarked}
 use Rattle.executor_core.specs.World.Entries.{infos, is_out, out_entry}
-use Rattle.executor_core.specs.World.Log.{spawned, dropped, cancelled, held, idle, handle_finished}
-use Rattle.executor_core.specs.World.Promises.{InOrder, MayFollow, NoNoticeLost, holds, all_queues}
-use Rattle.executor_core.specs.World.Runners.{RunTied, RunnersTied}
-use Rattle.executor_core.specs.World.Steps.{info, info_or, row, counted, purpose_of, take_reply, taking, notice_reply, some_held, some_busy, IsRising, closing, close_row, Closes, drain_row}
+use Rattle.executor_core.specs.World.Log.{spawned, dropped, cancelled, held}
+use Rattle.executor_core.specs.World.Promises.{NoNoticeLost, holds}
+use Rattle.executor_core.specs.World.Runners.{RunnersTied}
+use Rattle.executor_core.specs.World.Steps.{row, counted, purpose_of, take_reply, taking, notice_reply, some_held, some_busy, closing, may_close, close_row, leak_row, ByRisingSlot, drain_row}
 use Rattle.executor_core.specs.World.Tickers.{at_rest, is_over, in_store, is_run, needs_queue, is_new_run, notices_in, ticker_or, forgotten}
 use Rattle.executor_core.specs.World.View.{execution_of, IsWorld, HasRoom}
-use Rattle.executor_core.proofs.AllTasksLemmas.{changed, get-each_changed}
-use Rattle.executor_core.proofs.RisingLemmas.{passing, times-rising, rising-rises, rising_among, once}
-use Rattle.executor_core.proofs.World.Agreement.{spawned_is, undropped_state, cells_agree, out_is}
-use Rattle.executor_core.proofs.World.Entries.{info_at, no_info, length-infos}
+use Rattle.executor_core.proofs.RisingLemmas.{passing}
+use Rattle.executor_core.proofs.World.Agreement.{out_is}
+use Rattle.executor_core.proofs.World.Entries.{length-infos}
 use Rattle.executor_core.proofs.World.Forgotten.{forgotten_same, forgotten_over, length-forgotten, sum_by-forgotten, count_by-forgotten, was_ticker, tied_forgotten, stores_forgotten}
-use Rattle.executor_core.proofs.World.Log.{status_other, on_cancel, order-push}
-use Rattle.executor_core.proofs.World.Marks.{cancelled_state, ended_state}
+use Rattle.executor_core.proofs.World.AllTasks.{undropped_ones, undropped_match, each_undropped, rising_slots, idle_ones, marked_log, marked_holds, all_cancelled}
+use Rattle.executor_core.proofs.World.Marks.{waking, cancelling}
 use Rattle.executor_core.proofs.World.Notices.{StayEmpty, notices_again, notices_forgotten}
-use Rattle.executor_core.proofs.World.Polls.{TookTask, took_task, taken_runners, cells_alone}
+use Rattle.executor_core.proofs.World.Polls.{took_task, taken_runners, cells_alone}
 use Rattle.executor_core.proofs.World.Room.{room_again}
 use Rattle.executor_core.proofs.World.Runners.{shapes, fixed_part, same_locals, same_closed, runners_shaped, runners_same}
-use Rattle.executor_core.proofs.World.Status.{task_of}
 use Rattle.executor_core.proofs.World.Steps.{stepped, Done, stepped_sound}
 use Rattle.executor_core.proofs.World.Tickers.{known}
-use Rattle.executor_core.specs.declared.task.cell.Cell.{Cell}
-use Rattle.executor_core.specs.declared.task.cell.CellState.{CellState}
-use Rattle.executor_core.specs.declared.task.cell.CellState.TheVariants.{Idle, Scheduled, Held, Finished, Gone}
 use Rattle.executor_core.specs.declared.task.values.Taken.{Taken}
 use Rattle.executor_core.specs.declared.plain_core.Core.{Core}
 use Rattle.executor_core.specs.declared.interleave.World.TheInside.{Inside}
-use Rattle.executor_core.specs.declared.interleave.entry.TaskInfo.{TaskInfo}
 use Rattle.executor_core.specs.declared.interleave.entry.TaskEntry.{TaskEntry}
 use Rattle.executor_core.specs.declared.interleave.event.Event.{Event}
-use Rattle.executor_core.specs.declared.interleave.event.Event.TheVariants.{Took, Cancelled}
+use Rattle.executor_core.specs.declared.interleave.event.Event.TheVariants.{Took, Woken, Cancelled}
 use Rattle.executor_core.specs.declared.interleave.reply.Reply.{Reply}
 use Rattle.executor_core.specs.declared.interleave.reply.Reply.TheVariants as reply
 use Rattle.executor_core.specs.declared.interleave.ticker.Phase.{Phase}
 use Rattle.executor_core.specs.declared.interleave.ticker.Phase.TheVariants.{Rest, Search, Sleep, Wake, Store, Leaving, Forgotten, Ended}
 use Rattle.executor_core.specs.declared.interleave.ticker.Ticker.{Ticker}
 
--- an event for each of these numbers
-module _ {T : Type 0} (event : ℕ → Event T) (of : (m : ℕ) → task_of (event m) ≡ m) where
-  -- a number that is none of them
-  status-others : (order : List ℕ) (log : List (Event T)) (n : ℕ) → times n order ≡ 0 → status n (log ++ map event order) ≡ status n log
-  status-others [] log n none = ap (status n) (append-nil log)
-  status-others (m ∷ rest) log n none = elim (cases_eq m n) [
-    | inl same ↦
-        let one = sum_by-cons (λ k. cond (k == n) 1 0) m rest in
-        let here : ◌≡◌ {A = ℕ} (cond (m == n) 1 0) 1 = ap (λ b. cond {A = ℕ} b 1 0) (eq-eqb m n same) in
-        absurd (omega arith)
-    | inr far ↦
-        let one = sum_by-cons (λ k. cond (k == n) 1 0) m rest in
-        ap (status n) (sym (append_assoc log (event m ∷ []) (map event rest))) ∙ status-others rest (log ++ event m ∷ []) n (omega arith) ∙ status_other n log (event m) (λ same. far (sym (of m) ∙ sym same))
-  ]
-
-  -- a number that stands among them once
-  status-once : (change : Status T → Status T) → ((n : ℕ) (log : List (Event T)) → status n (log ++ event n ∷ []) ≡ change (status n log)) → (order : List ℕ) (log : List (Event T)) (n : ℕ) → times n order ≡ 1 → status n (log ++ map event order) ≡ change (status n log)
-  status-once change on [] log n some = absurd (omega arith)
-  status-once change on (m ∷ rest) log n some =
-      let one = sum_by-cons (λ k. cond (k == n) 1 0) m rest in
-      ap (status n) (sym (append_assoc log (event m ∷ []) (map event rest)))
-      ∙ elim (cases_eq m n) [
-        | inl same ↦
-            let here : ◌≡◌ {A = ℕ} (cond (m == n) 1 0) 1 = ap (λ b. cond {A = ℕ} b 1 0) (eq-eqb m n same) in
-            status-others rest (log ++ event m ∷ []) n (omega arith) ∙ ap (λ k. status n (log ++ event k ∷ [])) same ∙ on n log
-        | inr far ↦
-            let away : ◌≡◌ {A = ℕ} (cond (m == n) 1 0) 0 = ap (λ b. cond {A = ℕ} b 1 0) (ne_eqb m n far) in
-            status-once change on rest (log ++ event m ∷ []) n (omega arith) ∙ ap change (status_other n log (event m) (λ same. far (sym (of m) ∙ sym same)))
-      ]
-
-  order-all : ((log : List (Event T)) (m : ℕ) → MayFollow log (event m)) → (order : List ℕ) (log : List (Event T)) → InOrder log → InOrder (log ++ map event order)
-  order-all follows [] log ordered = subst InOrder (sym (append-nil log)) ordered
-  order-all follows (m ∷ rest) log ordered = subst InOrder (append_assoc log (event m ∷ []) (map event rest)) (order-all follows rest (log ++ event m ∷ []) (order-push log (event m) ordered (follows log m)))
-
--- the tasks whose future is not dropped, by rising slot
-module _ {P T : Type 0} {table : Table P T (Unit {0})} {log : List (Event T)} {entries : List (TaskEntry P)} (agree : Agree table log entries) where
-  abbrev pub undropped_ones : List ℕ
-  undropped_ones = rising (λ c. is_undropped c.state) table.cells
-
-  undropped_match : (o : Option (Slotted P T (Unit {0}))) (s : Status T) (i : Option (TaskEntry P)) → NumberAgrees o s i → passing (λ c. is_undropped c.state) o ≡ s.spawned && not s.dropped
-  undropped_match None s None h = sym (ap (λ x. x.spawned && not x.dropped) h)
-  undropped_match None s (Some e) h = rw (h.spawned, h.dropped) refl
-  undropped_match (Some slotted) s None h = absurd h
-  undropped_match (Some slotted) s (Some e) h = undropped_state slotted.cell.state slotted.cell.woken s h.state ∙ sym (ap (λ b. b && not s.dropped) (was slotted.cell.state slotted.cell.woken h.state))
-    where
-      was : (st : CellState P T) (w : Bool) → StateAgrees st w s → s.spawned ≡ true
-      was (Idle p) w h = h.0.spawned
-      was (Scheduled p) w h = h.0.spawned
-      was Held w h = h.0.spawned
-      was (Finished t) w h = h.spawned
-      was Gone w h = h.spawned
-
-  each_undropped : (n : ℕ) → times n undropped_ones ≡ cond (spawned n log && not (dropped n log)) 1 0
-  each_undropped n = times-rising (λ c. is_undropped c.state) table.cells n ∙ ap (λ b. cond b 1 0) (undropped_match (fin_map.get table.cells n) (status n log) (slice_get entries n) (agree.each n))
-
-  slot_known : (n : ℕ) (s : Slotted P T (Unit {0})) → fin_map.get table.cells n ≡ Some s → (info_or (slice_get (infos entries) n)).slot ≡ s.slot
-  slot_known n s here = by_entry (slice_get entries n) refl (subst (λ o. NumberAgrees o (status n log) (slice_get entries n)) here (agree.each n))
-    where
-      by_entry : (i : Option (TaskEntry P)) → slice_get entries n ≡ i → NumberAgrees (Some s) (status n log) i → (info_or (slice_get (infos entries) n)).slot ≡ s.slot
-      by_entry None found h = absurd h
-      by_entry (Some e) found h = ap (λ o. (info_or o).slot) (info_at entries n e found) ∙ sym h.slot
-
-  -- a number among them has a cell
-  listed_cell : (i n : ℕ) → slice_get undropped_ones i ≡ Some n → (s : Slotted P T (Unit {0})) × (fin_map.get table.cells n ≡ Some s)
-  listed_cell i n at = by_cell (fin_map.get table.cells n) refl
-    where
-      by_cell : (o : Option (Slotted P T (Unit {0}))) → fin_map.get table.cells n ≡ o → (s : Slotted P T (Unit {0})) × (fin_map.get table.cells n ≡ Some s)
-      by_cell (Some s) here = (s, here)
-      by_cell None here =
-          let some = once n i undropped_ones at in
-          let none = times-rising (λ c. is_undropped c.state) table.cells n ∙ ap (λ o. cond (passing (λ (c : Cell P T (Unit {0})). is_undropped c.state) o) 1 0) here in
-          absurd (omega arith)
-
-  rising_slots : SlotsDiffer table → (i j n k : ℕ) → i < j → slice_get undropped_ones i ≡ Some n → slice_get undropped_ones j ≡ Some k → (info_or (slice_get (infos entries) n)).slot < (info_or (slice_get (infos entries) k)).slot
-  rising_slots differ i j n k before at_i at_j =
-      let s = listed_cell i n at_i in
-      let t = listed_cell j k at_j in
-      let rises = rising-rises (λ c. is_undropped c.state) table differ i j n k s.0 t.0 before at_i at_j s.1 t.1 in
-      let one = slot_known n s.0 s.1 in
-      let two = slot_known k t.0 t.1 in
-      omega arith
-
-  idle_ones : filter (λ n. idle n log) undropped_ones ≡ rising_idle table
-  idle_ones = rising_among (λ c. is_undropped c.state) (λ c. is_idle c.state) (λ c. idle_undropped c.state) table.cells (λ n. idle n log) (λ n s here. sym ((cells_agree agree).idle n) ∙ ap (has_idle) here)
-    where
-      has_idle : Option (Slotted P T (Unit {0})) → Bool
-      has_idle None = false
-      has_idle (Some s) = is_idle s.cell.state
-
-      idle_undropped : (st : CellState P T) → is_idle st ≡ true → is_undropped st ≡ true
-      idle_undropped (Idle p) is = refl
-      idle_undropped (Scheduled p) is = absurd (cc)
-      idle_undropped Held is = absurd (cc)
-      idle_undropped (Finished t) is = absurd (cc)
-      idle_undropped Gone is = absurd (cc)
-
-  -- each of them is cancelled
-  abbrev cancelled_status : Status T → Status T
-  cancelled_status s = record s { cancelled = true; cancelled_since = true }
-
-  abbrev cancelled_log : List (Event T)
-  cancelled_log = log ++ map (λ n. Cancelled n) undropped_ones
-
-  status-cancelled : (n : ℕ) → spawned n log && not (dropped n log) ≡ true → status n cancelled_log ≡ cancelled_status (status n log)
-  status-cancelled n is = status-once (λ m. Cancelled m) (λ m. refl) cancelled_status (λ m log. on_cancel m log) undropped_ones log n (each_undropped n ∙ ap (λ b. cond b 1 0) is)
-
-  status-left : (n : ℕ) → spawned n log && not (dropped n log) ≡ false → status n cancelled_log ≡ status n log
-  status-left n is = status-others (λ m. Cancelled m) (λ m. refl) undropped_ones log n (each_undropped n ∙ ap (λ b. cond b 1 0) is)
-
-  -- what a number's cell is then
-  number_cancelled : (o : Option (Slotted P T (Unit {0}))) (s t : Status T) (i : Option (TaskEntry P)) → (s.spawned && not s.dropped ≡ true → t ≡ cancelled_status s) → (s.spawned && not s.dropped ≡ false → t ≡ s) → NumberAgrees o s i → NumberAgrees (option_map (changed cancelled_cell) o) t i
-  number_cancelled None s t None alive gone h = gone (ap (λ x. x.spawned && not x.dropped) h) ∙ h
-  number_cancelled None s t (Some e) alive gone h = subst (λ t. NumberAgrees {P = P} {T = T} None t (Some e)) (sym (gone (rw (h.spawned, h.dropped) refl))) h
-  number_cancelled (Some slotted) s t None alive gone h = absurd h
-  number_cancelled (Some slotted) s t (Some e) alive gone h =
-      let c = slotted.cell in
-      let undropped = undropped_match (Some slotted) s (Some e) h in
-      elim (cases_Bool (is_undropped c.state)) [
-        | inl is ↦ subst (λ t. NumberAgrees (option_map (changed cancelled_cell) (Some slotted)) t (Some e)) (sym (alive (sym undropped ∙ is))) (record {
-          slot = h.slot;
-          has_handle = h.has_handle;
-          awaited = h.awaited;
-          cancelled = cond-true (is_undropped c.state) true c.cancelled is;
-          state = cancelled_state c.state c.woken s is h.state;
-          out = h.out;
-          polled = h.polled;
-        })
-        | inr ended ↦ subst (λ t. NumberAgrees (option_map (changed cancelled_cell) (Some slotted)) t (Some e)) (sym (gone (sym undropped ∙ ended))) (record {
-          slot = h.slot;
-          has_handle = h.has_handle;
-          awaited = h.awaited;
-          cancelled = cond-false (is_undropped c.state) true c.cancelled ended ∙ h.cancelled;
-          state = ended_state c.state c.woken c.woken s ended h.state;
-          out = h.out;
-          polled = h.polled;
-        })
-      ]
-
-  few_cancelled : (s t : Status T) → (s.spawned && not s.dropped ≡ true → t ≡ cancelled_status s) → (s.spawned && not s.dropped ≡ false → t ≡ s) → FewPollsFor s → FewPollsFor t
-  few_cancelled s t alive gone few = elim (cases_Bool (s.spawned && not s.dropped)) [
-    | inl is ↦ subst FewPollsFor (sym (alive is)) few
-    | inr is ↦ subst FewPollsFor (sym (gone is)) few
-  ]
-
-  pub cancelled_holds : {later : Table P T (Unit {0})} → later.next ≡ table.next → later.cells ≡ each_changed cancelled_cell table.cells → Agree later cancelled_log entries
-  cancelled_holds {later} next cells =
-      record {
-        next = next ∙ agree.next;
-        each = λ n. subst (λ o. NumberAgrees o (status n cancelled_log) (slice_get entries n)) (sym (ap (λ m. fin_map.get m n) cells ∙ get-each_changed cancelled_cell table.cells n))
-            (number_cancelled (fin_map.get table.cells n) (status n log) (status n cancelled_log) (slice_get entries n) (status-cancelled n) (status-left n) (agree.each n));
-        few_polls = λ n. few_cancelled (status n log) (status n cancelled_log) (status-cancelled n) (status-left n) (agree.few_polls n);
-        order = order-all (λ m. Cancelled m) (λ m. refl) (λ before m. tt) undropped_ones log agree.order;
-      }
-
-  -- so each task is marked
-  pub all_cancelled : AllMarked cancelled_log
-  all_cancelled n was = elim (cases_Bool (spawned n log && not (dropped n log))) [
-    | inl alive ↦ let is = status-cancelled n alive in or_right (dropped n cancelled_log) _ (ap (λ s. s.cancelled) is)
-    | inr gone ↦
-        let is = status-left n gone in
-        let there : spawned n log ≡ true = sym (ap (λ s. s.spawned) is) ∙ was in
-        ap (λ s. s.dropped || s.cancelled) is ∙ by_drop (cancelled n log) (dropped n log) (sym (ap (λ b. b && not (dropped n log)) there) ∙ gone)
-  ]
-    where
-      by_drop : (c d : Bool) → not d ≡ false → d || c ≡ true
-      by_drop c true is = refl
-      by_drop c false is = absurd (true≢false is)
-
 -- what has no item
 nothing : (xs : List ℕ) → nat_lt 0 (length xs) ≡ false → xs ≡ []
 nothing [] none = refl
 nothing (x ∷ xs) none = absurd (true≢false (sym (lt-ltb 0 (length (x ∷ xs)) (omega arith)) ∙ none))
+
+first_empty : (xs ys : List ℕ) → xs ++ ys ≡ [] → xs ≡ []
+first_empty [] ys none = refl
+first_empty (x ∷ xs) ys none = absurd (cc)
 
 last_empty : (xs ys : List ℕ) → xs ++ ys ≡ [] → ys ≡ []
 last_empty [] ys none = none
@@ -305,12 +131,22 @@ module _ {P T : Type 0} (a : Inside P T) (sound : IsWorld (execution_of a) a.cor
       ∙ ap (λ k. list_any (λ n. held n a.log.items) (range_with_len 0 k)) (sym (length-infos a.entries.items)) ∙ ap some_held view
 
 module _ {P T : Type 0} (a : Inside P T) (sound : IsWorld (execution_of a) a.core.cells a.entries.items a.rings.items (vec_capacity a.log)) {w : Execution T} (view : execution_of a ≡ w) (far : w.accepted ≢ w.limit) where
-  module _ (enabled : (not w.closed && not (some_held w) && not (some_busy w)) ≡ true) where
+  -- it may be closed, or leaked
+  module _ (enabled : may_close w ≡ true) where
+    parts : (not w.closed && not w.leaked && not (some_held w) ≡ true) × (not (some_busy w) ≡ true)
+    parts = and_parts (not w.closed && not w.leaked && not (some_held w)) (not (some_busy w)) enabled
+
+    neither_yet : (not w.closed ≡ true) × (not w.leaked ≡ true)
+    neither_yet = and_parts (not w.closed) (not w.leaked) (and_parts (not w.closed && not w.leaked) (not (some_held w)) parts.0).0
+
     was_open : a.core.cells.closed ≡ false
-    was_open = ap (λ (w : Execution T). w.closed) view ∙ not-true w.closed (and_parts (not w.closed) (not (some_held w)) (and_parts (not w.closed && not (some_held w)) (not (some_busy w)) enabled).0).0
+    was_open = ap (λ (w : Execution T). w.closed) view ∙ not-true w.closed neither_yet.0
+
+    was_kept : a.leaked ≡ false
+    was_kept = ap (λ (w : Execution T). w.leaked) view ∙ not-true w.leaked neither_yet.1
 
     none_busy : some_busy (execution_of a) ≡ false
-    none_busy = ap some_busy view ∙ not-true (some_busy w) (and_parts (not w.closed && not (some_held w)) (not (some_busy w)) enabled).1
+    none_busy = ap some_busy view ∙ not-true (some_busy w) parts.1
 
     nobody_stores : a.holder ≡ None
     nobody_stores = by_holder a.holder refl
@@ -324,7 +160,7 @@ module _ {P T : Type 0} (a : Inside P T) (sound : IsWorld (execution_of a) a.cor
     -- there is room for an event for each task
     pub room_for_each : length a.log.items + a.core.cells.next ≤ vec_capacity a.log
     room_for_each =
-        let few = sound.room.few_before was_open in
+        let few = sound.room.few_before was_open was_kept in
         let known = sound.agree.next in
         let tasks = sound.room.few_tasks in
         let as_many = length-infos a.entries.items in
@@ -332,83 +168,98 @@ module _ {P T : Type 0} (a : Inside P T) (sound : IsWorld (execution_of a) a.cor
         let within = sound.room.within in
         omega arith
 
-    abbrev closed_cells : Table P T (Unit {0})
-    closed_cells = after_close a.core.cells
+    -- the world once each task is marked, and these went to the global end
+    abbrev all_marked : Table P T (Unit {0}) → List (Event T) → List ℕ → Bool → Execution T
+    all_marked table log moved leaked =
+        record (stepped a (a.accepted + 1) (record a.core { cells = table }) log a.entries.items (cond (nat_lt 0 (length moved)) (a.notices + 1) a.notices) a.picks) { tickers = map forgotten a.tickers.items; leaked = leaked }
 
-    abbrev closed_world : List (Event T) → Execution T
-    closed_world log = record (stepped a (a.accepted + 1) (record a.core { cells = closed_cells }) log a.entries.items (cond (close_queues a.core.cells) (a.notices + 1) a.notices) a.picks) { tickers = map forgotten a.tickers.items }
+    module _ {table : Table P T (Unit {0})} {log : List (Event T)} (agree : Agree table log a.entries.items) (moved : List ℕ) (global : table.global ≡ a.core.cells.global ++ moved) (locals : local_entries a.core.cells.locals ≡ [] → local_entries table.locals ≡ []) (leaked : Bool) where
+      marked_notices : NoNoticeLost (all_marked table log moved leaked)
+      marked_notices = notices_again (notices_forgotten (execution_of a) sound.notices nobody_stores) refl refl refl refl refl (by_queues (nat_lt 0 (length moved)) refl)
+        where
+          by_queues : (b : Bool) → nat_lt 0 (length moved) ≡ b → (0 < cond b (a.notices + 1) a.notices) ⊎ (StayEmpty (record (execution_of a) { tickers = map forgotten a.tickers.items }) (all_marked table log moved leaked) × (cond b (a.notices + 1) a.notices ≡ a.notices))
+          by_queues true is = inl (omega arith)
+          by_queues false is =
+              let same : table.global ≡ a.core.cells.global = global ∙ ap (λ l. a.core.cells.global ++ l) (nothing moved is) ∙ append-nil a.core.cells.global in
+              inr (
+                record {
+                  global = λ empty. same ∙ empty;
+                  all = λ empty. ap (λ l. l ++ table.global) (locals (first_empty (local_entries a.core.cells.locals) a.core.cells.global empty)) ∙ same ∙ last_empty (local_entries a.core.cells.locals) a.core.cells.global empty;
+                },
+                refl,
+              )
 
-    closed_notices : NoNoticeLost (closed_world (cancelled_log sound.agree))
-    closed_notices = notices_again (notices_forgotten (execution_of a) sound.notices nobody_stores) refl refl refl refl refl (by_queues (close_queues a.core.cells) refl)
-      where
-        by_queues : (b : Bool) → close_queues a.core.cells ≡ b → (0 < cond b (a.notices + 1) a.notices) ⊎ (StayEmpty (record (execution_of a) { tickers = map forgotten a.tickers.items }) (closed_world (cancelled_log sound.agree)) × (cond b (a.notices + 1) a.notices ≡ a.notices))
-        by_queues true is = inl (omega arith)
-        by_queues false is =
-            let none : closing_cells a.core.cells ≡ [] = nothing (closing_cells a.core.cells) is in
-            let same : closed_cells.global ≡ a.core.cells.global = ap (λ l. a.core.cells.global ++ l) none ∙ append-nil a.core.cells.global in
-            inr (
-              record {
-                global = λ empty. same ∙ empty;
-                all = λ empty. ap (λ l. l ++ closed_cells.global) (emptied_entries a.core.cells.locals) ∙ same ∙ last_empty (local_entries a.core.cells.locals) a.core.cells.global empty;
-              },
-              refl,
-            )
+      marked_room : (table.closed ≡ false → leaked ≡ false → ⊥) → length log ≤ length a.log.items + a.core.cells.next → HasRoom (all_marked table log moved leaked) (vec_capacity a.log)
+      marked_room over few =
+          let has = sound.room in
+          let other : a.accepted ≢ a.limit = rw (← view) at far in
+          let h1 = has.within in
+          let h2 = has.bounded in
+          let h3 = has.few_unspent in
+          let h4 = has.few_tasks in
+          let h5 = has.few_before was_open was_kept in
+          let h6 = has.few_tickers in
+          let h7 = has.enough in
+          let known = sound.agree.next in
+          let as_many = length-infos a.entries.items in
+          let kept = sum_by-forgotten (λ p. notices_in p) refl a.tickers.items in
+          let more = one_more (nat_lt 0 (length moved)) a.notices in
+          let tickers = length-forgotten a.tickers.items in
+          record {
+            within = omega arith;
+            bounded = h2;
+            few_unspent = omega arith;
+            few_tasks = omega arith;
+            few_events = omega arith;
+            few_before = λ unclosed unleaked. absurd (over unclosed unleaked);
+            few_tickers = omega arith;
+            enough = h7;
+          }
+        where
+          one_more : (b : Bool) (n : ℕ) → cond b (n + 1) n ≤ n + 1
+          one_more true n = omega arith
+          one_more false n = omega arith
 
-    closed_room : length (cancelled_log sound.agree) ≤ length a.log.items + a.core.cells.next → HasRoom (closed_world (cancelled_log sound.agree)) (vec_capacity a.log)
-    closed_room few =
-        let has = sound.room in
-        let other : a.accepted ≢ a.limit = rw (← view) at far in
-        let h1 = has.within in
-        let h2 = has.bounded in
-        let h3 = has.few_unspent in
-        let h4 = has.few_tasks in
-        let h5 = has.few_before was_open in
-        let h6 = has.few_tickers in
-        let h7 = has.enough in
-        let known = sound.agree.next in
-        let as_many = length-infos a.entries.items in
-        let kept = sum_by-forgotten (λ p. notices_in p) refl a.tickers.items in
-        let more = one_more (close_queues a.core.cells) a.notices in
-        let tickers = length-forgotten a.tickers.items in
-        record {
-          within = omega arith;
-          bounded = h2;
-          few_unspent = omega arith;
-          few_tasks = omega arith;
-          few_events = omega arith;
-          few_before = λ on. absurd (true≢false on);
-          few_tickers = omega arith;
-          enough = h7;
-        }
-      where
-        one_more : (b : Bool) (n : ℕ) → cond b (n + 1) n ≤ n + 1
-        one_more true n = omega arith
-        one_more false n = omega arith
+      pub marked_sound : (table.closed ≡ false → leaked ≡ false → ⊥) → length log ≤ length a.log.items + a.core.cells.next → shapes table.locals ≡ shapes a.core.cells.locals → table.next_runner ≡ a.core.cells.next_runner → table.free_places ≡ a.core.cells.free_places
+          → (table.closed ≡ true → (local_entries table.locals ≡ []) × AllMarked log) → IsWorld (all_marked table log moved leaked) table a.entries.items a.rings.items (vec_capacity a.log)
+      marked_sound over few same runners places closes =
+          record {
+            agree = agree;
+            notices = marked_notices;
+            tickers = record { tied = tied_forgotten sound.tickers.tied; stores = stores_forgotten a.holder a.tickers.items sound.tickers.stores; opened = sound.tickers.opened };
+            runners = runners_shaped (runners_forgotten sound.runners) same runners places;
+            closing = λ on. record {
+              over = λ k t at. let u = was_ticker a.tickers.items k t at in ap (λ (t : Ticker). is_over t.phase) u.2 ∙ forgotten_over u.0.phase (still_at a.tickers.items k u.0 none_busy u.1);
+              emptied = (closes on).0;
+              marked = (closes on).1;
+            };
+            room = marked_room over few;
+          }
 
-    closed_sound : length (cancelled_log sound.agree) ≤ length a.log.items + a.core.cells.next → IsWorld (closed_world (cancelled_log sound.agree)) closed_cells a.entries.items a.rings.items (vec_capacity a.log)
-    closed_sound few =
-        record {
-          agree = cancelled_holds sound.agree refl refl;
-          notices = closed_notices;
-          tickers = record { tied = tied_forgotten sound.tickers.tied; stores = stores_forgotten a.holder a.tickers.items sound.tickers.stores; opened = sound.tickers.opened };
-          runners = runners_shaped (runners_forgotten sound.runners) (emptied_shapes a.core.cells.locals) refl refl;
-          closing = λ _. record {
-            over = λ k t at. let u = was_ticker a.tickers.items k t at in ap (λ (t : Ticker). is_over t.phase) u.2 ∙ forgotten_over u.0.phase (still_at a.tickers.items k u.0 none_busy u.1);
-            emptied = emptied_entries a.core.cells.locals;
-            marked = all_cancelled sound.agree;
-          };
-          room = closed_room few;
-        }
+    -- what the walk over the slots leaves is that of the tasks by rising slot
+    by_rising_slot : SlotsDiffer a.core.cells → (does : List ℕ → Execution T → Reply T × Execution T) {answer : Reply T} {later : Execution T} → row (does (undropped_ones sound.agree) (execution_of a)) answer later → ByRisingSlot does (execution_of a) answer later
+    by_rising_slot differ does is = (undropped_ones sound.agree, record { each = each_undropped sound.agree; rises = rising_slots sound.agree differ }, is)
 
     pub close_done : SlotsDiffer a.core.cells → {core : Core P T (Unit {0})} → core ≡ record a.core { cells = after_close a.core.cells } → {log : List (Event T)} → log ≡ a.log.items ++ map (λ n. Cancelled n) (rising (λ c. is_undropped c.state) a.core.cells.cells) → length log ≤ length a.log.items + a.core.cells.next
         → {tickers : List Ticker} → tickers ≡ map forgotten a.tickers.items → {queues kept : Bool} {notices : ℕ} → queues ≡ close_queues a.core.cells → notices ≡ cond queues (a.notices + 1) a.notices → kept ≡ queues → {room : ℕ} → room ≡ vec_capacity a.log → {answer : Reply T} → answer ≡ notice_reply kept
-        → IsWorld (record (stepped a (a.accepted + 1) core log a.entries.items notices a.picks) { tickers = tickers }) core.cells a.entries.items a.rings.items room × Closes w answer (record (stepped a (a.accepted + 1) core log a.entries.items notices a.picks) { tickers = tickers })
+        → IsWorld (record (stepped a (a.accepted + 1) core log a.entries.items notices a.picks) { tickers = tickers }) core.cells a.entries.items a.rings.items room × ByRisingSlot close_row w answer (record (stepped a (a.accepted + 1) core log a.entries.items notices a.picks) { tickers = tickers })
     close_done differ core_is {log} log_is few tickers_are queues_is noticed keeps capacity answers =
         let moved : closing (undropped_ones sound.agree) (execution_of a) ≡ closing_cells a.core.cells = ap (λ l. l ++ local_entries a.core.cells.locals) (idle_ones sound.agree) in
-        let few : length (cancelled_log sound.agree) ≤ length a.log.items + a.core.cells.next = subst (λ (l : List (Event T)). length l ≤ length a.log.items + a.core.cells.next) log_is few in
+        let few : length (marked_log sound.agree cancelling) ≤ length a.log.items + a.core.cells.next = subst (λ (l : List (Event T)). length l ≤ length a.log.items + a.core.cells.next) log_is few in
         rw (← view, core_is, log_is, tickers_are, answers, keeps, noticed, queues_is, capacity) (
-          closed_sound few,
-          (undropped_ones sound.agree, record { each = each_undropped sound.agree; rises = rising_slots sound.agree differ }, rw moved (refl, refl)),
+          marked_sound {table = after_close a.core.cells} (marked_holds sound.agree cancelling refl refl) (closing_cells a.core.cells) refl (λ _. emptied_entries a.core.cells.locals) a.leaked (λ unclosed _. true≢false unclosed) few (emptied_shapes a.core.cells.locals) refl refl
+              (λ _. (emptied_entries a.core.cells.locals, all_cancelled sound.agree)),
+          by_rising_slot differ close_row (rw moved (refl, refl)),
+        )
+
+    pub leak_done : SlotsDiffer a.core.cells → {core : Core P T (Unit {0})} → core ≡ record a.core { cells = after_wake_all a.core.cells } → {log : List (Event T)} → log ≡ a.log.items ++ map (λ n. Woken n) (rising (λ c. is_undropped c.state) a.core.cells.cells) → length log ≤ length a.log.items + a.core.cells.next
+        → {tickers : List Ticker} → tickers ≡ map forgotten a.tickers.items → {queues kept : Bool} {notices : ℕ} → queues ≡ wake_all_queues a.core.cells → notices ≡ cond queues (a.notices + 1) a.notices → kept ≡ queues → {room : ℕ} → room ≡ vec_capacity a.log → {answer : Reply T} → answer ≡ notice_reply kept
+        → IsWorld (record (stepped a (a.accepted + 1) core log a.entries.items notices a.picks) { tickers = tickers; leaked = true }) core.cells a.entries.items a.rings.items room × ByRisingSlot leak_row w answer (record (stepped a (a.accepted + 1) core log a.entries.items notices a.picks) { tickers = tickers; leaked = true })
+    leak_done differ core_is {log} log_is few tickers_are queues_is noticed keeps capacity answers =
+        let few : length (marked_log sound.agree waking) ≤ length a.log.items + a.core.cells.next = subst (λ (l : List (Event T)). length l ≤ length a.log.items + a.core.cells.next) log_is few in
+        rw (← view, core_is, log_is, tickers_are, answers, keeps, noticed, queues_is, capacity) (
+          marked_sound {table = after_wake_all a.core.cells} (marked_holds sound.agree waking refl refl) (rising_idle a.core.cells) refl (λ empty. empty) true (λ _ unleaked. true≢false unleaked) few refl refl refl (λ on. absurd (true≢false (sym on ∙ was_open))),
+          by_rising_slot differ leak_row (rw (idle_ones sound.agree) (refl, refl)),
         )
 
   -- a closed executor is drained
@@ -463,7 +314,7 @@ module _ {P T : Type 0} (a : Inside P T) (sound : IsWorld (execution_of a) a.cor
                 tickers = sound.tickers;
                 runners = runners_same sound.runners fixed;
                 closing = λ _. let closed = sound.closing was_closed in record { over = closed.over; emptied = ap local_entries (same_locals fixed) ∙ closed.emptied; marked = took.marks closed.marked };
-                room = room_again sound.room refl room _ refl refl (omega arith) (let before = length-infos a.entries.items in let after = length-infos entries in omega arith) (omega arith) (omega arith) (same_closed fixed);
+                room = room_again sound.room refl room _ refl refl (omega arith) (let before = length-infos a.entries.items in let after = length-infos entries in omega arith) (omega arith) (omega arith) (same_closed fixed) refl;
               };
           does = by_row a.core.cells.global takes.front took.world (same_locals fixed) (same_closed fixed);
         })

@@ -1,20 +1,17 @@
 -- What was closed stays so, and what follows of it.
-use Rattle.std.proofs.Common.{◌≡◌, ◌≢◌, ℕ, ◌+◌, ◌<◌, ◌≤◌, ◌==◌, ◌||◌, ◌&&◌, not, Bool, true, false, List, [], ◌∷◌, ◌++◌, Option, Some, None, cond, refl, sym, ap, subst, ◌∙◌, inl, inr, append_assoc, arith}
-use Rattle.std.proofs.lemmas.Bool.{cases_Bool, eqb-true, eq-eqb, or_left, or_right, or_cases, true≢false, false≢true}
+use Rattle.std.proofs.Common.{◌≡◌, ◌≢◌, ℕ, ◌==◌, ◌||◌, Bool, true, false, List, [], ◌∷◌, ◌++◌, Option, Some, None, cond, refl, sym, ap, ◌∙◌, inl, inr, append_assoc, arith}
+use Rattle.std.proofs.lemmas.Bool.{cases_Bool, eqb-true, eq-eqb, or_left, or_right, true≢false, false≢true}
 use Rattle.std.proofs.lemmas.List.Sums.{sum_by-cons}
-use Rattle.std.specs.Prelude.{◌↔◌, count_by, slice_get}
-use Rattle.std.specs.List.{list_any}
+use Rattle.std.specs.Prelude.{slice_get}
 use Rattle.std.specs.FinMap as map
 use Rattle.executor_core.specs.Numbers.{times}
-use Rattle.executor_core.specs.Queues.{local_entries}
 use Rattle.executor_core.specs.Cells.{Slotted, Table}
 use Rattle.executor_core.specs.World.{Execution}
-use Rattle.executor_core.specs.World.Entries.{infos}
-use Rattle.executor_core.specs.World.Log.{is_spawn, is_drop, spawned, dropped, cancelled, held, owed, outputs, handle_finished}
+use Rattle.executor_core.specs.World.Log.{is_spawn, is_drop, spawned, dropped, cancelled, held, owed, outputs}
 use Rattle.executor_core.specs.World.Promises.{InOrder, OnePlace, all_queues}
-use Rattle.executor_core.specs.World.Closing.{NoneOwed, NoneHeld, drops, AllMarked, Closing, IsClosed}
-use Rattle.executor_core.specs.World.Steps.{info, drain_row, handle_row, give_row}
-use Rattle.executor_core.specs.World.Agreement.{Status, status, no_status, StateAgrees, NumberAgrees, Agree}
+use Rattle.executor_core.specs.World.Closing.{NoneOwed, drops, AllMarked, Closing, IsClosed}
+use Rattle.executor_core.specs.World.Steps.{drain_row, handle_row}
+use Rattle.executor_core.specs.World.Agreement.{Status, status, StateAgrees, NumberAgrees, Agree}
 use Rattle.executor_core.proofs.World.Agreement.{owed_of, owed_state}
 use Rattle.executor_core.proofs.World.Log.{status-push}
 use Rattle.executor_core.specs.declared.task.cell.CellState.{CellState}
@@ -22,7 +19,6 @@ use Rattle.executor_core.specs.declared.task.cell.CellState.TheVariants.{Idle, S
 use Rattle.executor_core.specs.declared.interleave.entry.TaskEntry.{TaskEntry}
 use Rattle.executor_core.specs.declared.interleave.event.Event.{Event}
 use Rattle.executor_core.specs.declared.interleave.event.Event.TheVariants.{Spawned, Woken, Cancelled, Took, Returned, Finished as Finish, Dropped, Got}
-use Rattle.executor_core.specs.declared.interleave.reply.Reply.{Reply}
 use Rattle.executor_core.specs.declared.interleave.reply.Reply.TheVariants as reply
 
 either_more : (a b c d : Bool) → a || b ≡ true → (c || a) || (d || b) ≡ true

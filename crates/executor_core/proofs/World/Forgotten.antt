@@ -1,10 +1,10 @@
 -- What forgetting the tickers at rest leaves as it is.
-use Rattle.std.proofs.Common.{◌≡◌, ℕ, zero, suc, ◌+◌, ◌||◌, Bool, true, false, not, cond, List, [], ◌∷◌, ◌++◌, length, map, take, drop, get_or, Option, Some, None, refl, sym, ap, subst, ◌∙◌, arith}
+use Rattle.std.proofs.Common.{◌≡◌, ℕ, zero, suc, ◌+◌, ◌||◌, Bool, true, false, not, cond, List, [], ◌∷◌, ◌++◌, length, map, take, drop, get_or, Option, Some, refl, sym, ap, ◌∙◌, arith}
 use Rattle.std.proofs.lemmas.List.Sums.{sum_by-cons}
 use Rattle.std.specs.List.{list_any}
 use Rattle.std.specs.Prelude.{sum_by, count_by, slice_get, slice_set}
 use Rattle.executor_core.specs.Sleepers.{SleeperList}
-use Rattle.executor_core.specs.World.Promises.{numbers_of, holds, NumbersTied, HolderStores}
+use Rattle.executor_core.specs.World.Promises.{numbers_of, NumbersTied, HolderStores}
 use Rattle.executor_core.specs.World.Tickers.{at_rest, is_over, is_awake, has_ended, gave_up, in_wake, in_store, ticker_or, forgotten}
 use Rattle.executor_core.specs.declared.interleave.ticker.Phase.{Phase}
 use Rattle.executor_core.specs.declared.interleave.ticker.Phase.TheVariants.{Rest, Search, Sleep, Wake, Store, Leaving, Forgotten, Ended}

@@ -3,18 +3,18 @@ use Rattle.std.proofs.Common.{◌≡◌, ◌≢◌, ℕ, ◌+◌, ◌≤◌, ◌
 use Rattle.std.proofs.lemmas.Bool.{cases_Bool, or_left, or_right, cond-true, cond-false}
 use Rattle.std.specs.Prelude.{slice_get}
 use Rattle.std.specs.FinMap as map
-use Rattle.executor_core.specs.Cells.{Table}
+use Rattle.executor_core.specs.Cells.{Slotted, Table}
 use Rattle.executor_core.specs.Cell.{is_idle, is_held, is_undropped}
 use Rattle.std.specs.Vec.{vec_capacity}
 use Rattle.executor_core.specs.Cells.Calls.{cell_at, undropped_in, idle_in, wakes, after_wake, wake_at, passes, after_cancel, cancel_at, cancel_queues, queued_if, with_cell}
 use Rattle.executor_core.specs.Cell.Changes.{woken, state_woken, cancelled_cell}
 use Rattle.executor_core.specs.World.{Execution}
 use Rattle.executor_core.specs.World.Entries.{infos}
-use Rattle.executor_core.specs.World.Log.{is_spawn, dropped, cancelled, held, idle}
+use Rattle.executor_core.specs.World.Log.{is_spawn, dropped, idle}
 use Rattle.executor_core.specs.World.Steps.{info, notice_reply, mark_row, wake_row, cancel_row}
 use Rattle.executor_core.specs.World.View.{execution_of, IsWorld}
 use Rattle.executor_core.specs.World.Promises.{MayFollow}
-use Rattle.executor_core.specs.World.Agreement.{Status, status, FewPollsFor, StateAgrees, Agree}
+use Rattle.executor_core.specs.World.Agreement.{Status, status, FewPollsFor, StateAgrees, CellAgrees, Agree}
 use Rattle.executor_core.proofs.World.Status.{task_of}
 use Rattle.executor_core.proofs.World.Log.{on_wake, on_cancel, order-push}
 use Rattle.executor_core.proofs.World.Closing.{marked_push_if}
@@ -64,6 +64,84 @@ module _ {P T : Type 0} where
   ended_state (Finished t) v w s u h = h
   ended_state Gone v w s u h = h
 
+-- what a wake and a cancel make of what the log says of a task
+module _ {T : Type 0} where
+  abbrev pub woken_status : Status T → Status T
+  woken_status s = record s { woken = true; wakes = 1 + s.wakes }
+
+  abbrev pub cancelled_status : Status T → Status T
+  cancelled_status s = record s { cancelled = true; cancelled_since = true }
+
+-- what a mark makes of a cell, and its event of what the log says of a task whose future is not dropped
+module _ {P T : Type 0} where
+  pub record Marking (event : ℕ → Event T) (mark : Cell P T (Unit {0}) → Cell P T (Unit {0})) (change : Status T → Status T) : Type 0 where
+    pub of : (n : ℕ) → task_of (event n) ≡ n
+    pub follows : (log : List (Event T)) (n : ℕ) → MayFollow log (event n)
+    pub on : (n : ℕ) (log : List (Event T)) → status n (log ++ event n ∷ []) ≡ change (status n log)
+    pub has_handle : (c : Cell P T (Unit {0})) → (mark c).has_handle ≡ c.has_handle
+    pub awaiter : (c : Cell P T (Unit {0})) → (mark c).awaiter ≡ c.awaiter
+    pub held : (s : Status T) → (change s).held ≡ s.held
+    pub few_polls : (s : Status T) → FewPollsFor s → FewPollsFor (change s)
+    pub alive : (c : Cell P T (Unit {0})) (s : Status T) → is_undropped c.state ≡ true → c.cancelled ≡ s.cancelled → StateAgrees c.state c.woken s → ((mark c).cancelled ≡ (change s).cancelled) × StateAgrees (mark c).state (mark c).woken (change s)
+    pub ended : (c : Cell P T (Unit {0})) (s : Status T) → is_undropped c.state ≡ false → StateAgrees c.state c.woken s → ((mark c).cancelled ≡ c.cancelled) × StateAgrees (mark c).state (mark c).woken s
+
+  pub waking : Marking (λ n. Woken n) woken woken_status
+  waking =
+      record {
+        of = λ n. refl;
+        follows = λ log n. tt;
+        on = on_wake;
+        has_handle = λ c. refl;
+        awaiter = λ c. refl;
+        held = λ s. refl;
+        few_polls = λ s few. few_wake _ _ _ _ few;
+        alive = λ c s alive cancelled state. (cancelled, woken_state c.state c.woken s _ alive state);
+        ended = λ c s ended state. (refl, ended_state c.state _ c.woken s ended state);
+      }
+
+  pub cancelling : Marking (λ n. Cancelled n) cancelled_cell cancelled_status
+  cancelling =
+      record {
+        of = λ n. refl;
+        follows = λ log n. tt;
+        on = on_cancel;
+        has_handle = λ c. refl;
+        awaiter = λ c. refl;
+        held = λ s. refl;
+        few_polls = λ s few. few;
+        alive = λ c s alive cancelled state. (cond-true (is_undropped c.state) _ _ alive, cancelled_state c.state c.woken s alive state);
+        ended = λ c s ended state. (cond-false (is_undropped c.state) _ _ ended, ended_state c.state c.woken c.woken s ended state);
+      }
+
+  module _ {event : ℕ → Event T} {mark : Cell P T (Unit {0}) → Cell P T (Unit {0})} {change : Status T → Status T} (marking : Marking event mark change) {slotted : Slotted P T (Unit {0})} {s : Status T} {e : TaskEntry P} (h : CellAgrees slotted s e) {slot : ℕ} (same : slot ≡ e.info.slot) where
+    -- the cell agrees again once it is marked, with the event where its future is not dropped
+    pub marked_cell : is_undropped slotted.cell.state ≡ true → CellAgrees (record { slot = slot; cell = mark slotted.cell }) (change s) e
+    marked_cell alive =
+        let now = marking.alive slotted.cell s alive h.cancelled h.state in
+        record {
+          slot = same;
+          has_handle = marking.has_handle slotted.cell ∙ h.has_handle;
+          awaited = ap is_some (marking.awaiter slotted.cell) ∙ h.awaited;
+          cancelled = now.0;
+          state = now.1;
+          out = h.out ∙ sym (marking.held s);
+          polled = h.polled;
+        }
+
+    -- and without it where its future was dropped
+    pub ended_cell : is_undropped slotted.cell.state ≡ false → CellAgrees (record { slot = slot; cell = mark slotted.cell }) s e
+    ended_cell ended =
+        let now = marking.ended slotted.cell s ended h.state in
+        record {
+          slot = same;
+          has_handle = marking.has_handle slotted.cell ∙ h.has_handle;
+          awaited = ap is_some (marking.awaiter slotted.cell) ∙ h.awaited;
+          cancelled = now.0 ∙ h.cancelled;
+          state = now.1;
+          out = h.out;
+          polled = h.polled;
+        }
+
 module _ {P T : Type 0} {table : Table P T (Unit {0})} {log : List (Event T)} {entries : List (TaskEntry P)} (agree : Agree table log entries) (n : ℕ) (e : TaskEntry P) (found : slice_get entries n ≡ Some e) where
   -- what a mark makes of the table: it is logged unless the future was dropped, and an idle task is queued
   pub record Marks (event : Event T) (later : Table P T (Unit {0})) (queues : Bool) : Type 0 where
@@ -72,30 +150,17 @@ module _ {P T : Type 0} {table : Table P T (Unit {0})} {log : List (Event T)} {e
     pub runners : fixed_part later ≡ fixed_part table
     pub queued : queues ≡ idle n log
 
-  -- what the mark makes of the cell
-  record MarksCell (at : CellAt table log n e) (cell : Cell P T (Unit {0})) (s : Status T) : Type 0 where
-    pub has_handle : cell.has_handle ≡ at.slotted.cell.has_handle
-    pub awaiter : cell.awaiter ≡ at.slotted.cell.awaiter
-    pub held : s.held ≡ held n log
-    pub few_polls : FewPollsFor s
-    pub alive : is_undropped at.slotted.cell.state ≡ true → (cell.cancelled ≡ s.cancelled) × StateAgrees cell.state cell.woken s
-    pub ended : is_undropped at.slotted.cell.state ≡ false → (cell.cancelled ≡ cancelled n log) × StateAgrees cell.state cell.woken (status n log)
-
-  marked : (at : CellAt table log n e) (later : Table P T (Unit {0})) (cell : Cell P T (Unit {0})) (event : Event T) (s : Status T) → later.next ≡ table.next → later.cells ≡ map.insert table.cells n (record { slot = e.info.slot; cell = cell })
-      → task_of event ≡ n → status n (log ++ event ∷ []) ≡ s → MayFollow log event → MarksCell at cell s → Agree later (cond (not (dropped n log)) (log ++ event ∷ []) log) entries
-  marked at later cell event s next cells of on follows marks =
+  marked : {event : ℕ → Event T} {mark : Cell P T (Unit {0}) → Cell P T (Unit {0})} {change : Status T → Status T} → Marking event mark change → (at : CellAt table log n e) (later : Table P T (Unit {0})) → later.next ≡ table.next → later.cells ≡ map.insert table.cells n (record { slot = e.info.slot; cell = mark at.slotted.cell })
+      → Agree later (cond (not (dropped n log)) (log ++ event n ∷ []) log) entries
+  marked {event} {mark} {change} marking at later next cells =
       let h = at.agrees in
       let here = undropped_state at.slotted.cell.state at.slotted.cell.woken (status n log) h.state in
-      let put = cell_put table later n (record { slot = e.info.slot; cell = cell }) next cells in
+      let put = cell_put table later n (record { slot = e.info.slot; cell = mark at.slotted.cell }) next cells in
       elim (cases_Bool (is_undropped at.slotted.cell.state)) [
-        | inl alive ↦ rw (cond-true (not (dropped n log)) (log ++ event ∷ []) log (sym here ∙ alive))
-            (agree_again agree put (log_pushed log n event s of on) (entry_same entries n e found)
-            (record { slot = refl; has_handle = marks.has_handle ∙ h.has_handle; awaited = ap is_some marks.awaiter ∙ h.awaited; cancelled = (marks.alive alive).0; state = (marks.alive alive).1; out = h.out ∙ sym marks.held; polled = h.polled })
-            marks.few_polls (order-push log event agree.order follows))
-        | inr ended ↦ rw (cond-false (not (dropped n log)) (log ++ event ∷ []) log (sym here ∙ ended))
-            (agree_again agree put (log_same log n) (entry_same entries n e found)
-            (record { slot = refl; has_handle = marks.has_handle ∙ h.has_handle; awaited = ap is_some marks.awaiter ∙ h.awaited; cancelled = (marks.ended ended).0; state = (marks.ended ended).1; out = h.out; polled = h.polled })
-            (agree.few_polls n) agree.order)
+        | inl alive ↦ rw (cond-true (not (dropped n log)) (log ++ event n ∷ []) log (sym here ∙ alive))
+            (agree_again agree put (log_pushed log n (event n) (change (status n log)) (marking.of n) (marking.on n log)) (entry_same entries n e found) (marked_cell marking h refl alive) (marking.few_polls (status n log) (agree.few_polls n)) (order-push log (event n) agree.order (marking.follows log n)))
+        | inr ended ↦ rw (cond-false (not (dropped n log)) (log ++ event n ∷ []) log (sym here ∙ ended))
+            (agree_again agree put (log_same log n) (entry_same entries n e found) (ended_cell marking h refl ended) (agree.few_polls n) agree.order)
       ]
 
   pub wake_marks : Marks (Woken n) (after_wake table (id_of n e.info)) (wakes table (id_of n e.info))
@@ -104,14 +169,7 @@ module _ {P T : Type 0} {table : Table P T (Unit {0})} {log : List (Event T)} {e
         let c = at.slotted.cell in
         let now = idle_state c.state c.woken (status n log) at.agrees.state in
         record {
-          holds = marked at _ (woken c) (Woken n) _ (ap (λ x. (wake_at table (id_of n e.info) x).next) at.cell) (ap (λ x. (wake_at table (id_of n e.info) x).cells) at.cell) refl (on_wake n log) tt (record {
-            has_handle = refl;
-            awaiter = refl;
-            held = refl;
-            few_polls = few_wake _ _ _ _ (agree.few_polls n);
-            alive = λ alive. (at.agrees.cancelled, woken_state c.state c.woken (status n log) _ alive at.agrees.state);
-            ended = λ ended. (at.agrees.cancelled, ended_state c.state _ c.woken (status n log) ended at.agrees.state);
-          });
+          holds = marked waking at _ (ap (λ x. (wake_at table (id_of n e.info) x).next) at.cell) (ap (λ x. (wake_at table (id_of n e.info) x).cells) at.cell);
           runners = ap (λ x. fixed_part (wake_at table (id_of n e.info) x)) at.cell;
           global = ap (λ x. (wake_at table (id_of n e.info) x).global) at.cell ∙ ap (λ b. cond b (table.global ++ n ∷ []) table.global) (sym now);
           queued = ap idle_in at.cell ∙ sym now;
@@ -136,14 +194,7 @@ module _ {P T : Type 0} {table : Table P T (Unit {0})} {log : List (Event T)} {e
       let now = idle_state c.state c.woken (status n log) at.agrees.state in
       let is : after_cancel table (id_of n e.info) ≡ queued_if (is_idle c.state) (with_cell table (id_of n e.info) (cancelled_cell c)) (id_of n e.info) = ap (cancel_at table (id_of n e.info)) at.cell ∙ cond-true c.has_handle _ _ has in
       record {
-        holds = marked at _ (cancelled_cell c) (Cancelled n) _ (ap (λ x. x.next) is) (ap (λ x. x.cells) is) refl (on_cancel n log) tt (record {
-          has_handle = refl;
-          awaiter = refl;
-          held = refl;
-          few_polls = agree.few_polls n;
-          alive = λ alive. (cond-true (is_undropped c.state) _ _ alive, cancelled_state c.state c.woken (status n log) alive at.agrees.state);
-          ended = λ ended. (cond-false (is_undropped c.state) _ _ ended ∙ at.agrees.cancelled, ended_state c.state c.woken c.woken (status n log) ended at.agrees.state);
-        });
+        holds = marked cancelling at _ (ap (λ x. x.next) is) (ap (λ x. x.cells) is);
         runners = ap fixed_part is;
         global = ap (λ x. x.global) is ∙ ap (λ b. cond b (table.global ++ n ∷ []) table.global) (sym now);
         queued = ap (passes (λ c. c.has_handle && is_idle c.state)) at.cell ∙ ap (λ b. b && is_idle c.state) has ∙ sym now;

@@ -1,19 +1,21 @@
 -- A lone runner takes tasks in the order in which they were queued.
-use Rattle.std.proofs.Common.{◌≡◌, ◌≢◌, ℕ, Bool, true, false, not, ◌&&◌, cond, List, [], ◌∷◌, ◌++◌, length, Option, Some, None, refl, sym, ap, ◌∙◌, subst, inl, inr, append_assoc}
+use Rattle.std.proofs.Common.{◌≡◌, ◌≢◌, ℕ, Bool, true, false, not, ◌&&◌, cond, List, [], ◌∷◌, ◌++◌, length, map, drop, Option, Some, None, refl, sym, ap, ◌∙◌, subst, inl, inr, append_assoc}
 use Rattle.std.proofs.lemmas.Bool.{cases_eq, cases_Bool, and_parts, not-true, true≢false}
 use Rattle.std.proofs.lemmas.List.{append-nil}
+use Rattle.std.specs.List.{filter_map}
 use Rattle.executor_core.specs.Queues.{QueueLists, entries_of, search, global_front}
 use Rattle.executor_core.specs.Sleepers.{is_notified_number}
 use Rattle.executor_core.specs.World.{Execution}
 use Rattle.executor_core.specs.World.Log.{cancelled, idle, woken, dropped, outputs}
 use Rattle.executor_core.specs.World.Promises.{queues}
 use Rattle.executor_core.specs.World.Tickers.{is_awake, is_run, has_ended, stored, runner_of}
-use Rattle.executor_core.specs.World.Steps.{row, local_places, Spawns, spawn_row, wake_row, cancel_row, drop_handle_row, ready_row, detach_row, dropped_row, exchange_row, notify_row, handle_row, tick_row, run_row, poll_row, sleep_row, yield_row, remove_row, store_row, drop_row, fair_row, unregister_row, Makes, enabled, Does, StepTo, FoldTo, logged, informed, noticed, queued_where, notice_reply, end_reply, return_reply, take_reply, take_row, give_row, placed_where, taking, drain_row, with_queues, found_row, found_by, search_to_row, some_held, some_busy, ticker}
-use Rattle.executor_core.specs.World.Order.{new_task, noticed_task, requeued_task, taken_task, queued_by, taken_by, queued, taken, searcher, IsAlone, line, LoneStep, LoneOrder}
+use Rattle.executor_core.specs.World.Steps.{row, local_places, Spawns, spawn_row, wake_row, cancel_row, drop_handle_row, ready_row, detach_row, dropped_row, exchange_row, notify_row, handle_row, tick_row, run_row, poll_row, sleep_row, yield_row, remove_row, store_row, drop_row, fair_row, unregister_row, Makes, enabled, Does, StepTo, FoldTo, logged, informed, noticed, queued_where, notice_reply, end_reply, return_reply, take_reply, take_row, give_row, placed_where, taking, drain_row, with_queues, found_row, found_by, search_to_row, some_held, some_busy, idle_ones, ticker}
+use Rattle.executor_core.specs.World.Order.{new_task, noticed_task, requeued_task, taken_task, woken_task, woken_idle, queued_by, taken_by, queued, taken, searcher, IsAlone, line, LoneStep, LoneOrder}
 use Rattle.executor_core.specs.declared.interleave.entry.TaskInfo.{TaskInfo}
-use Rattle.executor_core.specs.declared.interleave.event.Event.TheVariants.{Returned}
+use Rattle.executor_core.specs.declared.interleave.event.Event.{Event}
+use Rattle.executor_core.specs.declared.interleave.event.Event.TheVariants.{Returned, Woken}
 use Rattle.executor_core.specs.declared.interleave.request.Step.{Step}
-use Rattle.executor_core.specs.declared.interleave.request.Step.TheVariants.{Spawn, Wake, TryTick, Pend, Ready, PollHandle, Cancel, Detach, DropHandle, Dropped as DropDone, Exchange, Notify, Tick, Run, Register, Poll, Search, Sleep, Yield, Remove, Store, Fair, Unregister, Drop, Close, Drain}
+use Rattle.executor_core.specs.declared.interleave.request.Step.TheVariants.{Spawn, Wake, TryTick, Pend, Ready, PollHandle, Cancel, Detach, DropHandle, Dropped as DropDone, Exchange, Notify, Tick, Run, Register, Poll, Search, Sleep, Yield, Remove, Store, Fair, Unregister, Drop, Close, Drain, Leak}
 use Rattle.executor_core.specs.declared.interleave.reply.Reply.{Reply}
 use Rattle.executor_core.specs.declared.interleave.reply.Reply.TheVariants as reply
 use Rattle.executor_core.proofs.World.OrderQueues.{FindsFront, search_front, search-other, line-fair, alone_registered, line-unregistered}
@@ -37,15 +39,30 @@ module _ (T : Type 0) where
   taken-take n true = refl
   taken-take n false = refl
 
+-- what a log says of the tasks that were woken
+module _ (T : Type 0) where
+  woken-all : (order : List ℕ) → filter_map (woken_task {T = T}) (map (λ n. Woken n) order) ≡ order
+  woken-all [] = refl
+  woken-all (n ∷ order) = ap (λ l. n ∷ l) (woken-all order)
+
+module _ {T : Type 0} where
+  since : (before more : List (Event T)) → drop (length before) (before ++ more) ≡ more
+  since [] more = refl
+  since (e ∷ before) more = since before more
+
+  woken_now : (old new : Execution T) (order : List ℕ) → new.log ≡ old.log ++ map (λ n. Woken n) order → woken_idle old new ≡ idle_ones order old
+  woken_now old new order is = ap (λ l. idle_ones (filter_map woken_task l) old) (ap (drop (length old.log)) is ∙ since old.log (map (λ n. Woken n) order)) ∙ ap (λ l. idle_ones l old) (woken-all T order)
+
 -- a step that is refused queues nothing, and takes nothing
 module _ {P T : Type 0} where
-  refused_queued : (step : Step P T) (answer : Reply T) → new_task answer ≡ [] → ((n : ℕ) → noticed_task n answer ≡ []) → requeued_task answer ≡ [] → queued_by step answer ≡ []
-  refused_queued (Spawn p) answer spawns notices requeues = spawns
-  refused_queued (Wake n) answer spawns notices requeues = notices n
-  refused_queued (Cancel n) answer spawns notices requeues = notices n
-  refused_queued (DropHandle n) answer spawns notices requeues = notices n
-  refused_queued (Pend n) answer spawns notices requeues = requeues
-  refused_queued _ answer spawns notices requeues = refl
+  refused_queued : (step : Step P T) (old new : Execution T) (answer : Reply T) → new ≡ old → new_task answer ≡ [] → ((n : ℕ) → noticed_task n answer ≡ []) → requeued_task answer ≡ [] → queued_by step old answer new ≡ []
+  refused_queued (Spawn p) old new answer same spawns notices requeues = spawns
+  refused_queued (Wake n) old new answer same spawns notices requeues = notices n
+  refused_queued (Cancel n) old new answer same spawns notices requeues = notices n
+  refused_queued (DropHandle n) old new answer same spawns notices requeues = notices n
+  refused_queued (Pend n) old new answer same spawns notices requeues = requeues
+  refused_queued Leak old new answer same spawns notices requeues = woken_now old new [] (ap (λ (w : Execution T). w.log) same ∙ sym (append-nil old.log))
+  refused_queued _ old new answer same spawns notices requeues = refl
 
   refused_taken : (step : Step P T) (answer : Reply T) → taken_task answer ≡ [] → taken_by step answer ≡ []
   refused_taken TryTick answer takes = takes
@@ -153,7 +170,7 @@ module _ {T : Type 0} (r : ℕ) (old new : Execution T) (answer : Reply T) (befo
   spawning (inr made) = queueing_if true (length old.tasks) new_task (reply.Task (length old.tasks), spawn_row made.0 old) (made.2, made.3) refl refl
 
   -- an enabled step
-  done : {P : Type 0} (step : Step P T) → enabled step old ≡ true → new.closed ≡ old.closed → Does step old answer new → (taken_by step answer ≢ [] → searcher step old ≡ Some r) → Moves (queued_by step answer) (taken_by step answer)
+  done : {P : Type 0} (step : Step P T) → enabled step old ≡ true → new.closed ≡ old.closed → Does step old answer new → (taken_by step answer ≢ [] → searcher step old ≡ Some r) → Moves (queued_by step old answer new) (taken_by step answer)
   done (Spawn p) on goes_on does taker = spawning does
   done (Wake n) on goes_on does taker = queueing_if (idle n old.log) n (noticed_task n) (wake_row n old) does refl (noticed-notice T n (idle n old.log))
   done (Cancel n) on goes_on does taker = queueing_if (idle n old.log) n (noticed_task n) (cancel_row n old) does refl (noticed-notice T n (idle n old.log))
@@ -178,22 +195,23 @@ module _ {T : Type 0} (r : ℕ) (old new : Execution T) (answer : Reply T) (befo
   done (Remove k) on goes_on does taker = quiet (remove_row k old) does refl
   done (Store k) on goes_on does taker = quiet (store_row k old) does (queues-placed (has_ended (stored (ticker k old)).phase) _)
   done Drain on goes_on does taker = draining old.global does (λ some. let h = taker some in cc)
+  done Leak on goes_on does taker = let order = does.0 in subst (λ l. Moves l []) (sym (woken_now old new order (ap (λ (w : Execution T). w.log) does.2.1))) (queueing (idle_ones order old) (ap queues does.2.1))
   done Close on goes_on does taker =
-      let unclosed : old.closed ≡ false = not-true old.closed (and_parts (not old.closed) (not (some_held old)) (and_parts (not old.closed && not (some_held old)) (not (some_busy old)) on).0).0 in
+      let unclosed : old.closed ≡ false = not-true old.closed (and_parts (not old.closed) (not old.leaked) (and_parts (not old.closed && not old.leaked) (not (some_held old)) (and_parts (not old.closed && not old.leaked && not (some_held old)) (not (some_busy old)) on).0).0).0 in
       let shut : new.closed ≡ true = ap (λ (w : Execution T). w.closed) does.2.1 in
       absurd (true≢false (sym shut ∙ goes_on ∙ unclosed))
   done (Drop k) on goes_on does taker = quiet (drop_row k old) does (queues-cond (is_awake (ticker k old)) _ _ (queues old) refl refl)
 
-  refused : {P : Type 0} (step : Step P T) (a : Reply T) → (answer ≡ a) × (new ≡ old) → queued_by step a ≡ [] → taken_by step a ≡ [] → Moves (queued_by step answer) (taken_by step answer)
-  refused step a is none_queued none_taken = subst (λ l. Moves l (taken_by step answer)) (sym (ap (queued_by step) is.0 ∙ none_queued)) (subst (Moves []) (sym (ap (taken_by step) is.0 ∙ none_taken)) (same_line (ap (λ w. line r (queues w)) is.1)))
+  refused : {P : Type 0} (step : Step P T) (a : Reply T) → (answer ≡ a) × (new ≡ old) → queued_by step old a new ≡ [] → taken_by step a ≡ [] → Moves (queued_by step old answer new) (taken_by step answer)
+  refused step a is none_queued none_taken = subst (λ l. Moves l (taken_by step answer)) (sym (ap (λ a. queued_by step old a new) is.0 ∙ none_queued)) (subst (Moves []) (sym (ap (taken_by step) is.0 ∙ none_taken)) (same_line (ap (λ w. line r (queues w)) is.1)))
 
   -- a step that is refused, or done
-  one_step : {P : Type 0} (step : Step P T) → StepTo old step answer new → new.closed ≡ old.closed → (taken_by step answer ≢ [] → searcher step old ≡ Some r) → Moves (queued_by step answer) (taken_by step answer)
+  one_step : {P : Type 0} (step : Step P T) → StepTo old step answer new → new.closed ≡ old.closed → (taken_by step answer ≢ [] → searcher step old ≡ Some r) → Moves (queued_by step old answer new) (taken_by step answer)
   one_step step to goes_on taker = elim (cases_eq old.accepted old.limit) [
-    | inl full ↦ refused step reply.LogFull (to.full full) (refused_queued step reply.LogFull refl (λ n. refl) refl) (refused_taken step reply.LogFull refl)
+    | inl full ↦ refused step reply.LogFull (to.full full) (refused_queued step old new reply.LogFull (to.full full).1 refl (λ n. refl) refl) (refused_taken step reply.LogFull refl)
     | inr far ↦ elim (cases_Bool (enabled step old)) [
       | inl on ↦ done step on goes_on (to.done far on) taker
-      | inr off ↦ refused step reply.NotNow (to.not_now far off) (refused_queued step reply.NotNow refl (λ n. refl) refl) (refused_taken step reply.NotNow refl)
+      | inr off ↦ refused step reply.NotNow (to.not_now far off) (refused_queued step old new reply.NotNow (to.not_now far off).1 refl (λ n. refl) refl) (refused_taken step reply.NotNow refl)
     ]
   ]
 
@@ -204,11 +222,11 @@ module _ {P T : Type 0} where
   pub lone_order : (old : Execution T) (steps : List (Step P T)) (answers : List (Reply T)) (new : Execution T) → LoneOrder old steps answers new
   lone_order old steps answers new r run = by_turns old steps answers run.0 run.1
     where
-      by_turns : (old : Execution T) (steps : List (Step P T)) (answers : List (Reply T)) → IsAlone r old.locals → FoldTo (LoneStep r) old steps answers new → line r (queues old) ++ queued steps answers ≡ taken steps answers ++ line r (queues new)
+      by_turns : (old : Execution T) (steps : List (Step P T)) (answers : List (Reply T)) → IsAlone r old.locals → (run : FoldTo (LoneStep r) old steps answers new) → line r (queues old) ++ queued r old steps answers new run ≡ taken steps answers ++ line r (queues new)
       by_turns old [] [] alone run = append-nil (line r (queues old)) ∙ ap (λ w. line r (queues w)) (sym run)
       by_turns old (step ∷ steps) (answer ∷ answers) alone run =
           let mid = run.0 in
           let first = run.1 in
-          joined (line r (queues old)) (line r (queues mid)) (line r (queues new)) (queued_by step answer) (taken_by step answer) (queued steps answers) (taken steps answers) (one_step r old mid answer alone first.alone step first.does first.goes_on first.taker) (by_turns mid steps answers first.alone run.2)
+          joined (line r (queues old)) (line r (queues mid)) (line r (queues new)) (queued_by step old answer mid) (taken_by step answer) (queued r mid steps answers new run.2) (taken steps answers) (one_step r old mid answer alone first.alone step first.does first.goes_on first.taker) (by_turns mid steps answers first.alone run.2)
       by_turns old [] (answer ∷ answers) alone run = absurd run
       by_turns old (step ∷ steps) [] alone run = absurd run

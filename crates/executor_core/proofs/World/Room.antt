@@ -49,8 +49,8 @@ module _ {T : Type 0} {w : Execution T} {room : ℕ} (has : HasRoom w room) wher
         omega arith
 
     -- a step leaves one thing more to be spent, one task and one ticker more and two events more, at most
-    pub room_again : (u : Execution T) → u.accepted ≡ w.accepted + 1 → u.limit ≡ w.limit → u.picks + notices_out u ≤ w.picks + notices_out w + 1 → length u.tasks ≤ length w.tasks + 1 → length u.log ≤ length w.log + 2 → length u.tickers ≤ length w.tickers + 1 → u.closed ≡ w.closed → HasRoom u room
-    room_again u counted same unspent tasks events tickers closed =
+    pub room_again : (u : Execution T) → u.accepted ≡ w.accepted + 1 → u.limit ≡ w.limit → u.picks + notices_out u ≤ w.picks + notices_out w + 1 → length u.tasks ≤ length w.tasks + 1 → length u.log ≤ length w.log + 2 → length u.tickers ≤ length w.tickers + 1 → u.closed ≡ w.closed → u.leaked ≡ w.leaked → HasRoom u room
+    room_again u counted same unspent tasks events tickers closed leaked =
         let h1 = is_below in
         let h2 = has.few_unspent in
         let h3 = has.few_tasks in
@@ -58,7 +58,7 @@ module _ {T : Type 0} {w : Execution T} {room : ℕ} (has : HasRoom w room) wher
         let h5 = has.enough in
         let h6 = has.bounded in
         let h7 = has.few_tickers in
-        record { within = omega arith; bounded = omega arith; few_unspent = omega arith; few_tasks = omega arith; few_events = omega arith; few_before = λ unclosed. let h8 = has.few_before (sym closed ∙ unclosed) in omega arith; few_tickers = omega arith; enough = omega arith }
+        record { within = omega arith; bounded = omega arith; few_unspent = omega arith; few_tasks = omega arith; few_events = omega arith; few_before = λ unclosed unleaked. let h8 = has.few_before (sym closed ∙ unclosed) (sym leaked ∙ unleaked) in omega arith; few_tickers = omega arith; enough = omega arith }
 
 -- one item more fits where a place for it was reserved
 pub reserved_fits : {A E : Type 0} (r : Result A E) {count capacity : ℕ} → OnOk r (count + 1 ≤ capacity) → is_err r ≡ false → count < capacity

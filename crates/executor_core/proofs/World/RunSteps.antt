@@ -78,7 +78,7 @@ module _ {P T : Type 0} (a : Inside P T) (sound : IsWorld (execution_of a) a.cor
         notices = notices_again sound.notices refl refl refl refl refl (inr (record { global = empty; all = nothing }, refl));
         tickers = sound.tickers;
         runners = runners;
-        room = room_again sound.room view far _ refl refl (omega arith) (omega arith) (omega arith) (omega arith) as_before;
+        room = room_again sound.room view far _ refl refl (omega arith) (omega arith) (omega arith) (omega arith) as_before refl;
         closing = λ on. absurd (true≢false (sym on ∙ as_before ∙ unclosed));
       }
 

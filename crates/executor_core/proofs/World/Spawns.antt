@@ -114,7 +114,7 @@ opening_sound {P} {T} {w} {table} {entries} {rings} cells_are nobody no_tickers 
       tickers = record { tied = rw (no_tickers, nobody) tied_opening; stores = λ k. rw (no_tickers, free) refl; opened = rw (nobody, free) refl };
       runners = rw (no_tickers, cells_are, no_rings) runners_opening;
       closing = λ on. absurd (true≢false (sym on ∙ unclosed));
-      room = record { within = omega arith; bounded = bounded; few_unspent = omega arith; few_tasks = omega arith; few_events = omega arith; few_before = λ _. omega arith; few_tickers = omega arith; enough = omega arith };
+      room = record { within = omega arith; bounded = bounded; few_unspent = omega arith; few_tasks = omega arith; few_events = omega arith; few_before = λ _ _. omega arith; few_tickers = omega arith; enough = omega arith };
     }
   where
     no_split : {E : Type 0} (before : List E) (e : E) (after : List E) → [] ≡ before ++ e ∷ after → ⊥

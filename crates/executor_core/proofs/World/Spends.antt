@@ -53,7 +53,7 @@ module _ {P T : Type 0} (a : Inside P T) (sound : IsWorld (execution_of a) a.cor
           notices = notices_exchanged sound.notices refl refl refl refl;
           tickers = sound.tickers;
           runners = sound.runners;
-          room = room_again sound.room refl far _ refl refl (let less = fewer (not a.core.flag) a.picks a.notices floats in omega arith) (omega arith) (omega arith) (omega arith) refl;
+          room = room_again sound.room refl far _ refl refl (let less = fewer (not a.core.flag) a.picks a.notices floats in omega arith) (omega arith) (omega arith) (omega arith) refl refl;
           closing = λ on. let closed = sound.closing on in record { over = closed.over; emptied = closed.emptied; marked = closed.marked };
         };
         does = (refl, refl);
@@ -83,7 +83,7 @@ module _ {P T : Type 0} (a : Inside P T) (sound : IsWorld (execution_of a) a.cor
           notices = notices_notified sound.notices lawful refl;
           tickers = record { tied = tied_notified sound.tickers.tied; stores = sound.tickers.stores; opened = sound.tickers.opened };
           runners = sound.runners;
-          room = room_again sound.room refl far _ refl refl (omega arith) (omega arith) (omega arith) (omega arith) refl;
+          room = room_again sound.room refl far _ refl refl (omega arith) (omega arith) (omega arith) (omega arith) refl refl;
           closing = λ on. let closed = sound.closing on in record { over = closed.over; emptied = closed.emptied; marked = closed.marked };
         };
         does = (by_list (all_unnotified a.core.sleepers), refl);

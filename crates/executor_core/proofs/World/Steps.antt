@@ -30,7 +30,7 @@ use Rattle.executor_core.specs.declared.interleave.reply.Reply.TheVariants as re
 module _ {P T : Type 0} where
   -- the world after a step, by its parts
   abbrev pub stepped : Inside P T → ℕ → Core P T (Unit {0}) → List (Event T) → List (TaskEntry P) → ℕ → ℕ → Execution T
-  stepped a accepted core log entries notices picks = record { log = log; accepted = accepted; limit = a.limit; global = core.cells.global; locals = core.cells.locals; notices = notices; picks = picks; flag = core.flag; sleepers = core.sleepers; tasks = infos entries; tickers = a.tickers.items; holder = a.holder; closed = core.cells.closed }
+  stepped a accepted core log entries notices picks = record { log = log; accepted = accepted; limit = a.limit; global = core.cells.global; locals = core.cells.locals; notices = notices; picks = picks; flag = core.flag; sleepers = core.sleepers; tasks = infos entries; tickers = a.tickers.items; holder = a.holder; closed = core.cells.closed; leaked = a.leaked }
 
   -- what a step left fits together, and is what its row says
   pub record Done (later : Execution T) (table : Table P T (Unit {0})) (entries : List (TaskEntry P)) (rings : List (Option IdRing)) (room : ℕ) (r : Reply T × Execution T) (answer : Reply T) : Type 0 where
@@ -51,7 +51,7 @@ module _ {P T : Type 0} (a : Inside P T) (sound : IsWorld (execution_of a) a.cor
             let was = sym (same_closed runners) ∙ on in
             let closed = sound.closing was in
             record { over = closed.over; emptied = ap local_entries (same_locals runners) ∙ closed.emptied; marked = marks was closed.marked };
-        room = room_again sound.room view far _ refl refl (let more = one_more queues in omega arith) (let before = length-infos a.entries.items in let after = length-infos entries in omega arith) events (omega arith) (same_closed runners);
+        room = room_again sound.room view far _ refl refl (let more = one_more queues in omega arith) (let before = length-infos a.entries.items in let after = length-infos entries in omega arith) events (omega arith) (same_closed runners) refl;
       }
     where
       noticed : (q : Bool) → (q ≡ false → table.global ≡ a.core.cells.global) → (0 < cond q (a.notices + 1) a.notices) ⊎ (StayEmpty (execution_of a) (stepped a (a.accepted + 1) (record a.core { cells = table }) log entries (cond q (a.notices + 1) a.notices) a.picks) × (cond q (a.notices + 1) a.notices ≡ a.notices))

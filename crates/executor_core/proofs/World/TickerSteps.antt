@@ -206,7 +206,7 @@ module _ {P T : Type 0} (a : Inside P T) (sound : IsWorld (execution_of a) a.cor
         notices = law;
         tickers = tied;
         runners = runners;
-        room = room_again sound.room view far _ refl refl (omega arith) (let before = length-infos a.entries.items in let after = length-infos entries in omega arith) (omega arith) made as_before;
+        room = room_again sound.room view far _ refl refl (omega arith) (let before = length-infos a.entries.items in let after = length-infos entries in omega arith) (omega arith) made as_before refl;
         closing = λ on. absurd (true≢false (sym on ∙ as_before ∙ unclosed));
       }
 

@@ -20,7 +20,7 @@ use Rattle.executor_core.specs.declared.interleave.event.Purpose.TheVariants.{To
 use Rattle.executor_core.specs.declared.interleave.event.Event.{Event}
 use Rattle.executor_core.specs.declared.interleave.event.Event.TheVariants.{Spawned, Woken, Cancelled, Took, Returned, Finished, Dropped, Got}
 use Rattle.executor_core.specs.declared.interleave.request.Step.{Step}
-use Rattle.executor_core.specs.declared.interleave.request.Step.TheVariants.{Spawn, Wake, TryTick, Pend, Ready, PollHandle, Cancel, Detach, DropHandle, Dropped as DropDone, Exchange, Notify, Tick, Run, Register, Poll, Search, Sleep, Yield, Remove, Store, Fair, Unregister, Drop, Close, Drain}
+use Rattle.executor_core.specs.declared.interleave.request.Step.TheVariants.{Spawn, Wake, TryTick, Pend, Ready, PollHandle, Cancel, Detach, DropHandle, Dropped as DropDone, Exchange, Notify, Tick, Run, Register, Poll, Search, Sleep, Yield, Remove, Store, Fair, Unregister, Drop, Close, Drain, Leak}
 use Rattle.executor_core.specs.declared.interleave.reply.Reply.{Reply}
 use Rattle.executor_core.specs.declared.interleave.reply.Reply.TheVariants as reply
 
@@ -38,7 +38,7 @@ new_info slot = record { slot = slot; has_handle = true; awaited = false; to_dro
 
 -- a world before its first step
 abbrev pub opening : {T : Type 0} → ℕ → Execution T
-opening limit = record { log = []; accepted = 0; limit = limit; global = []; locals = []; notices = 0; picks = 0; flag = true; sleepers = no_sleepers; tasks = []; tickers = []; holder = None; closed = false }
+opening limit = record { log = []; accepted = 0; limit = limit; global = []; locals = []; notices = 0; picks = 0; flag = true; sleepers = no_sleepers; tasks = []; tickers = []; holder = None; closed = false; leaked = false }
 
 -- for how many tasks a run's own queue has room
 abbrev pub local_places : ℕ
@@ -86,6 +86,11 @@ module _ {T : Type 0} where
   -- whether a task was queued
   abbrev pub notice_reply : Bool → Reply T
   notice_reply noticed = cond noticed reply.Notice reply.Nothing
+
+  -- the event of a task that is cancelled, or woken
+  abbrev pub mark_event : Bool → ℕ → Event T
+  mark_event true n = Cancelled n
+  mark_event false n = Woken n
 
   -- a task is marked so, unless its future was dropped, and an idle one is queued
   abbrev pub mark_row : Event T → ℕ → Execution T → Reply T × Execution T
@@ -186,7 +191,7 @@ module _ {T : Type 0} where
   notify_row w =
       (cond (all_unnotified w.sleepers) (notify_reply (last_of (keys_of w.sleepers.unnotified))) reply.Nobody, record w { picks = w.picks - 1; sleepers = after_notify w.sleepers })
 
--- the rows of a close
+-- the rows of a close and of a leak
 module _ {T : Type 0} where
   -- a task is held
   abbrev pub some_held : Execution T → Bool
@@ -196,20 +201,34 @@ module _ {T : Type 0} where
   abbrev pub some_busy : Execution T → Bool
   some_busy w = list_any (λ t. not (at_rest t.phase || is_over t.phase)) w.tickers
 
+  -- the executor may be closed, or leaked: it was neither yet, no task is held, and no ticker is busy
+  abbrev pub may_close : Execution T → Bool
+  may_close w = not w.closed && not w.leaked && not (some_held w) && not (some_busy w)
+
   -- the tasks whose future is not dropped, each once, by rising slot
   pub record IsRising (w : Execution T) (order : List ℕ) : Type 0 where
     pub each : (n : ℕ) → times n order ≡ cond (spawned n w.log && not (dropped n w.log)) 1 0
     pub rises : (i j n k : ℕ) → i < j → slice_get order i ≡ Some n → slice_get order j ≡ Some k → (info n w).slot < (info k w).slot
 
+  -- the idle ones of these tasks
+  abbrev pub idle_ones : List ℕ → Execution T → List ℕ
+  idle_ones order w = filter (λ n. idle n w.log) order
+
   -- what goes to the global end: the idle tasks in this order, and then what stands in the runners' queues
   abbrev pub closing : List ℕ → Execution T → List ℕ
-  closing order w = filter (λ n. idle n w.log) order ++ local_entries w.locals
+  closing order w = idle_ones order w ++ local_entries w.locals
 
   -- close: these are cancelled, in this order, and each ticker at rest is forgotten
   abbrev pub close_row : List ℕ → Execution T → Reply T × Execution T
   close_row order w =
       let some = nat_lt 0 (length (closing order w)) in
       (notice_reply some, noticed_where some (record w { log = w.log ++ map Cancelled order; global = w.global ++ closing order w; locals = map emptied w.locals; tickers = map forgotten w.tickers; closed = true }))
+
+  -- leak: these are woken, in this order, the idle ones go to the global end, and each ticker at rest is forgotten
+  abbrev pub leak_row : List ℕ → Execution T → Reply T × Execution T
+  leak_row order w =
+      let some = nat_lt 0 (length (idle_ones order w)) in
+      (notice_reply some, noticed_where some (record w { log = w.log ++ map Woken order; global = w.global ++ idle_ones order w; tickers = map forgotten w.tickers; leaked = true }))
 
   -- drain: the front of the global queue is taken to be dropped
   abbrev pub drain_row : List ℕ → Execution T → Reply T × Execution T
@@ -360,9 +379,9 @@ module _ {T : Type 0} where
   abbrev pub row : Reply T × Execution T → Reply T → Execution T → Type 0
   row r answer new = (answer ≡ r.0) × (new ≡ counted r.1)
 
-  -- the executor is closed, its tasks being taken by rising slot
-  abbrev pub Closes : Execution T → Reply T → Execution T → Type 0
-  Closes old answer new = (order : List ℕ) × IsRising old order × row (close_row order old) answer new
+  -- the row of the tasks whose future is not dropped, by rising slot
+  abbrev pub ByRisingSlot : (List ℕ → Execution T → Reply T × Execution T) → Execution T → Reply T → Execution T → Type 0
+  ByRisingSlot does old answer new = (order : List ℕ) × IsRising old order × row (does order old) answer new
 
 module _ {P T : Type 0} where
   -- the step is enabled
@@ -391,8 +410,9 @@ module _ {P T : Type 0} where
   enabled (Fair k) w = at_rest (ticker k w).phase && has_queue w.locals (ticker k w)
   enabled (Unregister k) w = at_rest (ticker k w).phase && has_queue w.locals (ticker k w)
   enabled (Drop k) w = may_go w.locals (ticker k w) && (is_awake (ticker k w) || not (is_some w.holder))
-  enabled Close w = not w.closed && not (some_held w) && not (some_busy w)
+  enabled Close w = may_close w
   enabled Drain w = w.closed
+  enabled Leak w = may_close w
 
   -- what an enabled step does
   abbrev pub Does : Step P T → Execution T → Reply T → Execution T → Type 0
@@ -420,8 +440,9 @@ module _ {P T : Type 0} where
   Does (Fair k) old answer new = row (fair_row k old) answer new
   Does (Unregister k) old answer new = row (unregister_row k old) answer new
   Does (Drop k) old answer new = row (drop_row k old) answer new
-  Does Close old answer new = Closes old answer new
+  Does Close old answer new = ByRisingSlot close_row old answer new
   Does Drain old answer new = row (drain_row old.global old) answer new
+  Does Leak old answer new = ByRisingSlot leak_row old answer new
 
   -- a step: refused where the log is full, else where it is not enabled, else done
   pub record StepTo (old : Execution T) (step : Step P T) (answer : Reply T) (new : Execution T) : Type 0 where

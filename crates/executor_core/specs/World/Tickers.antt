@@ -142,7 +142,7 @@ stored t = record t { phase = after_store t t.phase }
 abbrev pub left : Ticker → Ticker
 left t = record t { phase = Leaving }
 
--- close: one that is at rest is forgotten
+-- close or leak: one that is at rest is forgotten
 abbrev pub forgotten : Ticker → Ticker
 forgotten t = record t { phase = cond (at_rest t.phase) Forgotten t.phase }
 

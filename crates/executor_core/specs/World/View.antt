@@ -18,15 +18,15 @@ module _ {T : Type 0} where
     pub bounded : w.limit ≤ 1000000
     pub few_unspent : w.picks + notices_out w ≤ w.accepted
     pub few_tasks : length w.tasks ≤ w.accepted
-    -- a close adds an event for each task, once
+    -- a close or a leak adds an event for each task, once
     pub few_events : length w.log ≤ 2 * w.accepted + w.limit
-    pub few_before : w.closed ≡ false → length w.log ≤ 2 * w.accepted
+    pub few_before : w.closed ≡ false → w.leaked ≡ false → length w.log ≤ 2 * w.accepted
     pub few_tickers : length w.tickers ≤ w.accepted
     pub enough : 3 * w.limit ≤ capacity
 
 module _ {P T : Type 0} where
   abbrev pub execution_of : Inside P T → Execution T
-  execution_of a = record { log = a.log.items; accepted = a.accepted; limit = a.limit; global = a.core.cells.global; locals = a.core.cells.locals; notices = a.notices; picks = a.picks; flag = a.core.flag; sleepers = a.core.sleepers; tasks = infos a.entries.items; tickers = a.tickers.items; holder = a.holder; closed = a.core.cells.closed }
+  execution_of a = record { log = a.log.items; accepted = a.accepted; limit = a.limit; global = a.core.cells.global; locals = a.core.cells.locals; notices = a.notices; picks = a.picks; flag = a.core.flag; sleepers = a.core.sleepers; tasks = infos a.entries.items; tickers = a.tickers.items; holder = a.holder; closed = a.core.cells.closed; leaked = a.leaked }
 
   -- what is seen, the cells, what is kept of the tasks, the rings of new runs, and the room of the log fit together
   pub record IsWorld (w : Execution T) (table : Table P T (Unit {0})) (entries : List (TaskEntry P)) (rings : List (Option IdRing)) (capacity : ℕ) : Type 0 where

@@ -56,4 +56,6 @@ pub enum Step<P, T> {
     Close,
     /// The next task of a closed executor is taken, to be dropped.
     Drain,
+    /// The executor is leaked: every task is woken, and it is never closed.
+    Leak,
 }

@@ -17,7 +17,8 @@
 //!
 //! A ticker is a tick or a run. A tick ends once its task runs. A run is at rest then, and has the
 //! queue of a runner, which it registers before its first poll and unregisters before its drop. A
-//! ticker that is at rest when the executor is closed is forgotten: it keeps its number and its places.
+//! ticker that is at rest when the executor is closed or leaked is forgotten: it keeps its number and
+//! its places.
 
 ghost use Rattle.std.specs.Prelude.{◌≡◌, ◌||◌, not, nat_lt, map, slice_get, slice_set};
 ghost use Rattle.std.specs.List.{list_any};
@@ -39,7 +40,7 @@ pub enum Phase {
     Store(ListChange),
     /// Its runner is unregistered, and it has still to be dropped.
     Leaving,
-    /// It was at rest when the executor was closed, and takes no step any more.
+    /// It was at rest when the executor was closed or leaked, and takes no step any more.
     Forgotten,
     /// It is a tick that found a task and is awake, or it was dropped.
     Ended,
@@ -221,7 +222,7 @@ impl Ticker {
         !matches!(self.phase, Phase::Rest | Phase::Forgotten | Phase::Ended)
     }
 
-    // The same after a close: one that is at rest is forgotten.
+    // The same after a close or a leak: one that is at rest is forgotten.
     pub(crate) fn forgotten(self) -> Ticker
         ensures { result ≡ forgotten self }
     {

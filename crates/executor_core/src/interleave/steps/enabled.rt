@@ -2,7 +2,7 @@
 ghost use Rattle.std.specs.Prelude.{◌≡◌, ◌&&◌, ◌||◌, not, is_some};
 ghost use Rattle.executor_core.specs.World.Log.{held};
 ghost use Rattle.executor_core.specs.World.Promises.{holds};
-ghost use Rattle.executor_core.specs.World.Steps.{info, ticker, some_held, enabled};
+ghost use Rattle.executor_core.specs.World.Steps.{info, ticker, some_held, may_close, enabled};
 ghost use Rattle.executor_core.specs.World.Tickers.{at_rest, is_awake, has_queue, is_new_run, may_register, may_search, may_go};
 
 use crate::interleave::World;
@@ -135,6 +135,13 @@ impl<P: Drop, T: Copy> World<P, T> {
         some_out(&self.entries)
     }
 
+    // Whether the executor may be closed, or leaked.
+    fn may_close(&self) -> bool
+        ensures { result ≡ may_close self.now }
+    {
+        !self.is_closed() && !self.leaked && !self.some_held() && !some_busy(&self.tickers)
+    }
+
     // Whether the step is enabled.
     pub(crate) fn is_enabled(&self, step: &Step<P, T>) -> bool
         ensures { result ≡ enabled step.now self.now }
@@ -161,8 +168,9 @@ impl<P: Drop, T: Copy> World<P, T> {
             Step::Fair(k) => self.rests_registered(*k),
             Step::Unregister(k) => self.rests_registered(*k),
             Step::Drop(k) => self.may_drop_ticker(*k),
-            Step::Close => !self.is_closed() && !self.some_held() && !some_busy(&self.tickers),
+            Step::Close => self.may_close(),
             Step::Drain => self.is_closed(),
+            Step::Leak => self.may_close(),
         }
     }
 }

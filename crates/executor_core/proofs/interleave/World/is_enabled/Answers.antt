@@ -1,4 +1,4 @@
-use Rattle.std.proofs.Common.{◌&&◌, not, ◌∙◌, sym, ap, is_some, refl, nat_lt}
+use Rattle.std.proofs.Common.{◌&&◌, not, ◌∙◌, sym, ap, is_some, nat_lt}
 use Rattle.std.proofs.lemmas.Bool.{lt-ltb}
 use Rattle.executor_core.proofs.World.Agreement.{spawned_known}
 use Rattle.executor_core.proofs.interleave.World.is_enabled.Goals as goal
@@ -47,6 +47,12 @@ returns-in-Unregister g c = rw c.in-Unregister.is c.rests_registered-in-Unregist
 
 pub returns-in-Drop : goal.returns-in-Drop
 returns-in-Drop g c = rw c.in-Drop.is c.may_drop_ticker.ensures
+
+pub returns-in-Close : goal.returns-in-Close
+returns-in-Close g c = rw c.in-Close.is c.may_close.ensures
+
+pub returns-in-Leak : goal.returns-in-Leak
+returns-in-Leak g c = rw c.in-Leak.is c.may_close-in-Leak.ensures
 
 pub returns-then-self-gt0 : goal.returns-then-self-gt0
 returns-then-self-gt0 g c = rw c.in-Notify.is (c.is_free.ensures ∙ ap (λ b. b && not (is_some c.args.self.now.holder)) (sym (lt-ltb _ _ c.if-self-gt0.true) ∙ ap (λ w. nat_lt 0 w.picks) c.self.view_is))

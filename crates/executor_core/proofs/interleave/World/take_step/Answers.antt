@@ -164,3 +164,9 @@ drain-requires g c = record { room = (subst (λ w. w.accepted ≢ w.limit) c.sel
 
 pub returns-in-Drain : goal.returns-in-Drain
 returns-in-Drain g c = step_done _ _ _ c.in-Drain.is _ _ (subst (λ w. w.accepted ≢ w.limit) c.self.view_is c.if-self.false) (sym c.is_enabled.ensures ∙ c.if-not-is_enabled.false) c.drain.ensures
+
+pub leak-requires : goal.leak-requires
+leak-requires g c = record { room = (subst (λ w. w.accepted ≢ w.limit) c.self.view_is c.if-self.false); enabled = step_enabled _ _ c.in-Leak.is (sym c.is_enabled.ensures ∙ c.if-not-is_enabled.false) }
+
+pub returns-in-Leak : goal.returns-in-Leak
+returns-in-Leak g c = step_done _ _ _ c.in-Leak.is _ _ (subst (λ w. w.accepted ≢ w.limit) c.self.view_is c.if-self.false) (sym c.is_enabled.ensures ∙ c.if-not-is_enabled.false) c.leak.ensures
