@@ -1,4 +1,5 @@
 mod Counts
+mod Fairs
 mod Handles
 mod Places
 mod RunRows

@@ -13,7 +13,7 @@ use Rattle.async_executor.specs.Ticks.Table as tick
 use Rattle.async_executor.specs.Ticks.Tickers as ticks_seen
 use Rattle.async_executor.specs.Runs.{AskTick, AskNothing, is_fit}
 use Rattle.async_executor.specs.Runs.Decisions as decided
-use Rattle.async_executor.specs.Runs.Decisions.{turn, fair}
+use Rattle.async_executor.specs.Runs.Counts.{goes_on}
 use Rattle.async_executor.specs.Runs.Rows.{keeps, kept_in, IsRowFrom, IsRowIn, IsRow}
 use Rattle.async_executor.specs.Runs.Table.{table, of_row}
 use Rattle.async_executor.specs.Runs.Tickers.{runner_in, run_at, ticker_in}
@@ -39,7 +39,7 @@ use Rattle.async_executor.specs.declared.machine.tick.TickRest.{TickRest}
 use Rattle.async_executor.proofs.Runs.{works, passes_on, leaves, departs, was_running}
 
 -- a tick that departs runs no task, and ends only with its return
-runs_no_task : (machine : TickMachine) → course machine ≡ Departing → ticks.asked machine ≡ AskRun → ⊥
+pub runs_no_task : (machine : TickMachine) → course machine ≡ Departing → ticks.asked machine ≡ AskRun → ⊥
 runs_no_task machine departing is =
     let none : under_way (ticks.asked machine) ≡ 0 = departs machine.state departing in
     let one : under_way (ticks.asked machine) ≡ 1 = ap under_way is in
@@ -74,7 +74,7 @@ module _ {W : Type 0} where
 
   work_row : (runner : Runner) (k : tick.Kept) (asked : Asked) (step : Ticker → Ticker) (here : Bool → Ticker) (reply : TickReply W) (next : TickNext W) → ends Seeking reply ≡ false → ticks.IsAsked next → KeepsCourse Seeking reply next → Stepped runner step here next → IsRowFrom (AskTick asked) here (of_row (keeps runner true None k) (row_of asked step next)) (decided.working runner next)
   work_row runner k asked step here reply (Act machine (Run taken)) goes is kept led =
-      elim (cases_Bool (nat_lt (runner.found + 1) fair)) [ inl early ↦ rw early (refl, refl, refl, led) | inr due ↦ rw due (refl, refl, refl, led) ]
+      elim (cases_Bool (goes_on runner.found)) [ inl early ↦ rw early (refl, refl, refl, led) | inr due ↦ rw due (refl, refl, refl, led) ]
   work_row runner k asked step here reply (Act machine (Search again)) goes is kept led = (refl, refl, refl, led)
   work_row runner k asked step here reply (Act machine Insert) goes is kept led = (refl, refl, refl, led)
   work_row runner k asked step here reply (Act machine (Update number)) goes is kept led = (refl, refl, refl, led)
@@ -132,7 +132,7 @@ module _ {W : Type 0} where
   turn_row runner machine (Rest rest Return) is kept =
       let asked : AskTick (ticks.asked machine) ≡ AskTick AskRun = ap (λ s. AskTick (ticks.asked_in s)) is in
       let here : ((notified : Bool) → run_at runner phase.Rest 0 ≡ ticks_seen.ticker_of (runner_in runner) notified machine) = (λ notified. sym (ap (ticks_seen.ticker_in (runner_in runner) notified) is)) in
-      elim (cases_Bool (nat_lt (runner.count + 1) turn)) [ inl more ↦ rw more (asked, refl, refl, λ notified. ap polled (here notified)) | inr full ↦ rw full (asked, refl, refl, here) ]
+      elim (cases_Bool (goes_on runner.count)) [ inl more ↦ rw more (asked, refl, refl, λ notified. ap polled (here notified)) | inr full ↦ rw full (asked, refl, refl, here) ]
   turn_row runner machine (Rest rest end) is kept = absurd (cc)
 
   ran_row : (runner : Runner) (aim : Aim) (machine : TickMachine) (next : TickNext W) → is_fit aim (course machine) ≡ true → machine.state ≡ Leaving Running → KeepsCourse (course machine) Ran next → RanRow runner aim machine next

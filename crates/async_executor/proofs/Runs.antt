@@ -1,7 +1,7 @@
 -- What a run makes of the decisions of its ticks.
 use Rattle.std.proofs.Common.{◌≡◌, ℕ, ◌+◌, ◌<◌, Bool, true, false, cond, inl, inr, Option, None, refl, sym, ap, subst, ◌∙◌, arith}
 use Rattle.std.proofs.lemmas.Bool.{cases_Bool, eqb-true, eq-eqb, ltb-true, lt-ltb, cond-true, cond-false, cond_both, ne_eqb, false≢true}
-use Rattle.std.specs.Prelude.{nat_lt, ◌==◌}
+use Rattle.std.specs.Prelude.{suc, ◌%◌, ◌≢◌, ◌==◌}
 use Rattle.executor_core.specs.declared.interleave.ticker.Phase.TheVariants as phase
 use Rattle.executor_core.specs.declared.interleave.ticker.Ticker.{Ticker}
 use Rattle.executor_core.specs.World.Tickers as seen
@@ -12,7 +12,8 @@ use Rattle.async_executor.specs.Ticks.Courses.{Course, Waiting, Seeking, Departi
 use Rattle.async_executor.specs.Ticks.Steps as ticks_steps
 use Rattle.async_executor.specs.Ticks.Tickers as ticks_seen
 use Rattle.async_executor.specs.Runs.{AskTick, AskFair, AskNothing, is_fit, asked, asked_in, answers, store_asked, IsAsked, IsFitNext}
-use Rattle.async_executor.specs.Runs.Decisions.{turn, ask, run_rest, run_ended, searching, dropping, after_task, found, working, passing_on, leaving, resumed}
+use Rattle.async_executor.specs.Runs.Counts.{Counted, goes_on, more, anew}
+use Rattle.async_executor.specs.Runs.Decisions.{ask, run_rest, run_ended, searching, dropping, after_task, found, working, passing_on, leaving, resumed}
 use Rattle.async_executor.specs.Runs.Steps.{left_awake, ran, worked, passed_on, ticked, leads, may_tick, may_lead}
 use Rattle.async_executor.specs.Runs.Tickers.{runner_in, run_at, ticker_in, ticker_of, ticker_after}
 use Rattle.async_executor.specs.Runs.Turns.{under_way, runs_in, TurnFrom}
@@ -82,8 +83,8 @@ by_both true f first second = first
 by_both false f first second = second
 
 -- a turn in which no task is under way is kept as it is
-resting_count : (count here : ℕ) → count < turn → here ≡ 0 → count ≡ cond (count + here == turn) 0 (count + here)
-resting_count count here within none =
+resting_count : (turn count here : ℕ) → count < turn → here ≡ 0 → count ≡ cond (count + here == turn) 0 (count + here)
+resting_count turn count here within none =
     let same : count ≡ count + here = omega arith in
     let short : count + here ≡ turn → ⊥ = (λ full. omega arith) in
     same ∙ sym (cond-false (count + here == turn) _ _ (ne_eqb _ _ short))
@@ -95,13 +96,13 @@ module _ {W : Type 0} where
   gate false asked reply answered = absurd (cc)
 
   -- what holds of each of the answers of a decision holds of it
-  found_both : (P : RunNext W → Type 0) (runner : Runner) (machine : TickMachine) (taken : Taken (Unit {0})) → P (ask (record runner { found = runner.found + 1 }) (Ticking Work machine) (asks.Tick (Run taken))) → P (ask (record runner { found = 0 }) (run.TheVariants.Sharing machine taken) asks.Fair) → P (found runner machine taken)
-  found_both P runner machine taken runs shared = cond_both _ _ _ P (λ _. runs) (λ _. shared)
+  pub found_both : (P : RunNext W → Type 0) (runner : Runner) (machine : TickMachine) (taken : Taken (Unit {0})) → (goes_on runner.found ≡ true → P (ask (record runner { found = more runner.found }) (Ticking Work machine) (asks.Tick (Run taken)))) → (goes_on runner.found ≡ false → P (ask (record runner { found = anew runner.found }) (run.TheVariants.Sharing machine taken) asks.Fair)) → P (found runner machine taken)
+  found_both P runner machine taken runs shared = cond_both _ _ _ P runs shared
 
-  after_both : (P : RunNext W → Type 0) (runner : Runner) → (nat_lt (runner.count + 1) turn ≡ true → P (searching (record runner { count = runner.count + 1 }) 0)) → (nat_lt (runner.count + 1) turn ≡ false → P (run_rest (record runner { count = 0 }) (stage.Joined 0) Yield)) → P (after_task runner)
+  pub after_both : (P : RunNext W → Type 0) (runner : Runner) → (goes_on runner.count ≡ true → P (searching (record runner { count = more runner.count }) 0)) → (goes_on runner.count ≡ false → P (run_rest (record runner { count = anew runner.count }) (stage.Joined 0) Yield)) → P (after_task runner)
   after_both P runner more full = cond_both _ _ _ P more full
 
-  dropping_both : (P : RunNext W → Type 0) (runner : Runner) (number : ℕ) → (number == 0 ≡ true → P (run_ended runner)) → (number == 0 ≡ false → P (ask runner (Ticking Leave (record { state = Leaving (Removing number None) })) (asks.Tick (Remove number)))) → P (dropping runner number)
+  pub dropping_both : (P : RunNext W → Type 0) (runner : Runner) (number : ℕ) → (number == 0 ≡ true → P (run_ended runner)) → (number == 0 ≡ false → P (ask runner (Ticking Leave (record { state = Leaving (Removing number None) })) (asks.Tick (Remove number)))) → P (dropping runner number)
   dropping_both P runner number awake asleep = cond_both _ _ _ P awake asleep
 
   pub ticking_gate : (s : run.RunState) (aim : Aim) (machine : TickMachine) (given : RunReply W) (reply : TickReply W) → s ≡ Ticking aim machine → given ≡ Tick reply → answers (asked_in s) given ≡ true → (is_fit aim (course machine) ≡ true) × (ticks.answers (ticks.asked machine) reply ≡ true)
@@ -113,8 +114,8 @@ module _ {W : Type 0} where
   pub working_asked : (runner : Runner) (next : TickNext W) → ticks.IsAsked next → IsFitNext Work next → IsAsked (working runner next)
   working_asked runner (Act machine (Run taken)) is fit =
       found_both IsAsked runner machine taken
-      (ticking_asked Work machine _ fit is)
-      (cond-true (is_fit Work (course machine)) _ _ fit ∙ ap AskFair is)
+      (λ _. ticking_asked Work machine _ fit is)
+      (λ _. cond-true (is_fit Work (course machine)) _ _ fit ∙ ap AskFair is)
   working_asked runner (Act machine (Search again)) is fit = ticking_asked Work machine _ fit is
   working_asked runner (Act machine Insert) is fit = ticking_asked Work machine _ fit is
   working_asked runner (Act machine (Update number)) is fit = ticking_asked Work machine _ fit is
@@ -129,7 +130,7 @@ module _ {W : Type 0} where
   working_asked runner (Rest rest Yield) is fit = refl
 
   pub working_store : (runner : Runner) (next : TickNext W) → store_asked (working runner next) ≡ ticks.store_asked next
-  working_store runner (Act machine (Run taken)) = found_both (λ n. store_asked n ≡ None) runner machine taken refl refl
+  working_store runner (Act machine (Run taken)) = found_both (λ n. store_asked n ≡ None) runner machine taken (λ _. refl) (λ _. refl)
   working_store runner (Act machine (Search again)) = refl
   working_store runner (Act machine Insert) = refl
   working_store runner (Act machine (Update number)) = refl
@@ -243,7 +244,7 @@ module _ {W : Type 0} where
 
   -- an action that a run asks for is seen as that of its tick
   pub working_seen : (runner : Runner) (machine : TickMachine) (action : TickAction W) → ticker_after (working runner (Act machine action)) ≡ ticks_seen.ticker_after (runner_in runner) (Act machine action)
-  working_seen runner machine (Run taken) = found_both (λ n. ticker_after n ≡ ticks_seen.ticker_of (runner_in runner) false machine) runner machine taken refl refl
+  working_seen runner machine (Run taken) = found_both (λ n. ticker_after n ≡ ticks_seen.ticker_of (runner_in runner) false machine) runner machine taken (λ _. refl) (λ _. refl)
   working_seen runner machine (Search again) = refl
   working_seen runner machine Insert = refl
   working_seen runner machine (Update number) = refl
@@ -263,7 +264,7 @@ module _ {W : Type 0} where
       working_seen runner machine action ∙ led ∙ sym (cond-false (ends Seeking reply) _ _ goes)
 
 pub after_task_seen : (W : Type 0) (runner : Runner) → ticker_after {W = W} (after_task runner) ≡ ran runner.count (run_at runner phase.Rest 0)
-after_task_seen W runner = by_both (nat_lt (runner.count + 1) turn) (ticker_after {W = W}) refl refl
+after_task_seen W runner = by_both (goes_on runner.count) (ticker_after {W = W}) refl refl
 
 -- the run of a tick that passes a notice on
 pub dropping_seen : (W : Type 0) (runner : Runner) (number : ℕ) → ticker_after {W = W} (dropping runner number) ≡ left_awake (run_at runner phase.Leaving number)
@@ -273,27 +274,27 @@ dropping_seen W runner number = elim (cases_Bool (number == 0)) [
 ]
 
 -- the turn of a run that is not in the middle of a task
-pub rests_in_turn : (W : Type 0) (runner : Runner) (here : ℕ) (stage : Stage) (end : TickEnd) → runner.count < turn → here ≡ 0 → TurnFrom {W = W} (runner.count + here) (run_rest runner stage end)
+pub rests_in_turn : (W : Type 0) (runner : Runner) (here : ℕ) (stage : Stage) (end : TickEnd) → runner.count.counted < runner.count.limit → here ≡ 0 → TurnFrom {W = W} runner.count.limit (runner.count.counted + here) (run_rest runner stage end)
 rests_in_turn W runner here stage end within none =
-    (within, resting_count runner.count here within none)
+    (refl, within, resting_count runner.count.limit runner.count.counted here within none)
 
-pub drops_in_turn : (W : Type 0) (runner : Runner) (here : ℕ) (number : ℕ) → runner.count < turn → here ≡ 0 → TurnFrom {W = W} (runner.count + here) (dropping runner number)
+pub drops_in_turn : (W : Type 0) (runner : Runner) (here : ℕ) (number : ℕ) → runner.count.counted < runner.count.limit → here ≡ 0 → TurnFrom {W = W} runner.count.limit (runner.count.counted + here) (dropping runner number)
 drops_in_turn W runner here number within none =
-    dropping_both (TurnFrom (runner.count + here)) runner number (λ _. rests_in_turn W runner here stage.Ended Return within none) (λ _. (within, omega arith))
+    dropping_both (TurnFrom runner.count.limit (runner.count.counted + here)) runner number (λ _. rests_in_turn W runner here stage.Ended Return within none) (λ _. (refl, within, omega arith))
 
-pub found_in_turn : (W : Type 0) (runner : Runner) (here : ℕ) (machine : TickMachine) (taken : Taken (Unit {0})) → runner.count < turn → here ≡ 0 → ticks.asked machine ≡ AskRun → TurnFrom {W = W} (runner.count + here) (found runner machine taken)
+pub found_in_turn : (W : Type 0) (runner : Runner) (here : ℕ) (machine : TickMachine) (taken : Taken (Unit {0})) → runner.count.counted < runner.count.limit → here ≡ 0 → ticks.asked machine ≡ AskRun → TurnFrom {W = W} runner.count.limit (runner.count.counted + here) (found runner machine taken)
 found_in_turn W runner here machine taken within none is =
     let runs : under_way (ticks.asked machine) ≡ 1 = ap under_way is in
-    found_both (TurnFrom (runner.count + here)) runner machine taken (within, omega arith) (within, omega arith)
+    found_both (TurnFrom runner.count.limit (runner.count.counted + here)) runner machine taken (λ _. (refl, within, omega arith)) (λ _. (refl, within, omega arith))
 
-last_of_turn : (runner : Runner) (here : ℕ) → runner.count < turn → here ≡ 1 → nat_lt (runner.count + 1) turn ≡ false → runner.count + here ≡ turn
-last_of_turn runner here within one full = let bound : (runner.count + 1 < turn → ⊥) = (λ more. false≢true (sym full ∙ lt-ltb _ _ more)) in omega arith
+last_of_turn : (runner : Runner) (here : ℕ) → runner.count.counted < runner.count.limit → here ≡ 1 → goes_on runner.count ≡ false → runner.count.counted + here ≡ runner.count.limit
+last_of_turn runner here within one full = let bound : (runner.count.counted + 1 < runner.count.limit → ⊥) = (λ on. false≢true (sym full ∙ lt-ltb _ _ on)) in omega arith
 
-pub ran_in_turn : (W : Type 0) (runner : Runner) (here : ℕ) → runner.count < turn → here ≡ 1 → TurnFrom {W = W} (runner.count + here) (after_task runner)
+pub ran_in_turn : (W : Type 0) (runner : Runner) (here : ℕ) → runner.count.counted < runner.count.limit → here ≡ 1 → TurnFrom {W = W} runner.count.limit (runner.count.counted + here) (after_task runner)
 ran_in_turn W runner here within one =
-    after_both (TurnFrom (runner.count + here)) runner
-    (λ more. (ltb-true _ _ more, omega arith))
-    (λ full. (omega arith, sym (cond-true (runner.count + here == turn) _ _ (eq-eqb _ _ (last_of_turn runner here within one full)))))
+    after_both (TurnFrom runner.count.limit (runner.count.counted + here)) runner
+    (λ on. (refl, ltb-true _ _ on, omega arith))
+    (λ full. (refl, omega arith, sym (cond-true (runner.count.counted + here == runner.count.limit) _ _ (eq-eqb _ _ (last_of_turn runner here within one full)))))
 
 module _ {W : Type 0} where
   pub working_ran : (runner : Runner) (s : TickState) (reply : TickReply W) (rest : TickRest) → ends Seeking reply ≡ true → s ≡ Leaving Running → (notified : Bool) → Working runner s reply notified (Rest rest Return)
@@ -333,12 +334,12 @@ module _ {W : Type 0} where
   resumed_seen runner Leave machine reply next fit answered is kept led notified =
       left_on runner machine.state reply next (subst (λ c. KeepsCourse c reply next) (leaves _ fit) kept) notified (led (runner_in runner) notified)
 
-  pub asks_in_turn : (runner : Runner) (here : ℕ) (aim : Aim) (machine : TickMachine) (action : TickAction W) → runner.count < turn → here ≡ 0 → ticks.asked machine ≡ ticks.asked_by action → TurnFrom (runner.count + here) (ask runner (Ticking aim machine) (asks.Tick action))
+  pub asks_in_turn : (runner : Runner) (here : ℕ) (aim : Aim) (machine : TickMachine) (action : TickAction W) → runner.count.counted < runner.count.limit → here ≡ 0 → ticks.asked machine ≡ ticks.asked_by action → TurnFrom runner.count.limit (runner.count.counted + here) (ask runner (Ticking aim machine) (asks.Tick action))
   asks_in_turn runner here aim machine action within none is =
       let runs : under_way (ticks.asked machine) ≡ runs_in (asks.Tick action) = ap under_way is ∙ runs_asked action in
-      (within, omega arith)
+      (refl, within, omega arith)
 
-  pub worked_in_turn : (runner : Runner) (s : TickState) (reply : TickReply W) (next : TickNext W) → runner.count < turn → ticks.answers (ticks.asked_in s) reply ≡ true → ticks.IsAsked next → KeepsCourse Seeking reply next → TurnFrom (runner.count + under_way (ticks.asked_in s)) (working runner next)
+  pub worked_in_turn : (runner : Runner) (s : TickState) (reply : TickReply W) (next : TickNext W) → runner.count.counted < runner.count.limit → ticks.answers (ticks.asked_in s) reply ≡ true → ticks.IsAsked next → KeepsCourse Seeking reply next → TurnFrom runner.count.limit (runner.count.counted + under_way (ticks.asked_in s)) (working runner next)
   worked_in_turn runner s reply (Act machine (Run taken)) within answered is kept = found_in_turn W runner _ machine taken within (runs_none s reply kept.1 answered) is
   worked_in_turn runner s reply (Act machine (Search again)) within answered is kept = asks_in_turn runner _ Work machine (Search again) within (runs_none s reply kept.1 answered) is
   worked_in_turn runner s reply (Act machine Insert) within answered is kept = asks_in_turn runner _ Work machine Insert within (runs_none s reply kept.1 answered) is
@@ -353,7 +354,7 @@ module _ {W : Type 0} where
   worked_in_turn runner s reply (Rest rest Park) within answered is kept = rests_in_turn W runner _ (stage.Joined rest.number) Park within (runs_none s reply (sym kept) answered)
   worked_in_turn runner s reply (Rest rest Yield) within answered is kept = rests_in_turn W runner _ (stage.Joined rest.number) Yield within (runs_none s reply (sym kept) answered)
 
-  pub resumed_in_turn : (runner : Runner) (aim : Aim) (machine : TickMachine) (reply : TickReply W) (next : TickNext W) → is_fit aim (course machine) ≡ true → ticks.answers (ticks.asked machine) reply ≡ true → ticks.IsAsked next → KeepsCourse (course machine) reply next → runner.count < turn → TurnFrom (runner.count + under_way (ticks.asked machine)) (resumed runner aim next)
+  pub resumed_in_turn : (runner : Runner) (aim : Aim) (machine : TickMachine) (reply : TickReply W) (next : TickNext W) → is_fit aim (course machine) ≡ true → ticks.answers (ticks.asked machine) reply ≡ true → ticks.IsAsked next → KeepsCourse (course machine) reply next → runner.count.counted < runner.count.limit → TurnFrom runner.count.limit (runner.count.counted + under_way (ticks.asked machine)) (resumed runner aim next)
   resumed_in_turn runner Work machine reply next fit answered is kept within =
       worked_in_turn runner machine.state reply next within answered is (subst (λ c. KeepsCourse c reply next) (works _ fit) kept)
   resumed_in_turn runner (PassOn number) machine reply (Act m action) fit answered is kept within =

@@ -1,5 +1,7 @@
 -- What a run asks for, and what answers it.
+pub mod Counts
 pub mod Decisions
+pub mod Fairs
 pub mod Rows
 pub mod Steps
 pub mod Table
@@ -7,7 +9,10 @@ pub mod Tickers
 pub mod Turns
 use Rattle.std.specs.Prelude.{◌≡◌, ℕ, Bool, true, false, cond, List, [], Option, Some, None}
 use Rattle.executor_core.specs.Ring.{IdRing}
+use Rattle.executor_core.specs.declared.limits.Limits.{Limits}
+use Rattle.executor_core.specs.declared.queue.runner.RunnerKey.{RunnerKey}
 use Rattle.executor_core.specs.declared.task.id.TaskId.{TaskId}
+use Rattle.async_executor.specs.Runs.Counts.{up_to}
 use Rattle.async_executor.specs.Ticks.{Asked, is_return}
 use Rattle.async_executor.specs.Ticks as ticks
 use Rattle.async_executor.specs.Ticks.Courses.{Course, Waiting, Seeking, Departing, course}
@@ -70,6 +75,10 @@ is_end _ = false
 abbrev pub has_ended : RunRest → Bool
 has_ended rest = is_end rest.stage
 
+-- a run that was never polled, with these limits
+abbrev pub new_rest : RunnerKey → Limits → RunRest
+new_rest key limits = record { runner = record { key = key; count = up_to limits.turn; found = up_to limits.fair }; stage = stage.New }
+
 -- it is asked of a tick
 abbrev pub is_tick : RunAsked → Bool
 is_tick (AskTick asked) = true
@@ -129,6 +138,10 @@ IsAsked (Rest rest end) = has_ended rest ≡ is_return end
 abbrev pub IsFitNext : {W : Type 0} → Aim → TickNext W → Type 0
 IsFitNext aim (tick.Act machine action) = is_fit aim (course machine) ≡ true
 IsFitNext aim (tick.Rest rest end) = Unit {0}
+
+-- a run that was never polled, of an executor with these limits, and its ring
+abbrev pub IsNewRun : Limits → RunRest → Option IdRing → Type 0
+IsNewRun limits rest ring = (rest ≡ new_rest rest.runner.key limits) × (ring ≡ Some (record { ids = []; capacity = limits.local }))
 
 -- what stands in the queue of a runner that is not registered
 abbrev pub ids_in : Option IdRing → List TaskId

@@ -2,11 +2,13 @@
 //!
 //! Each of them has what is written once for every home, at the shared one. It is a type of its own,
 //! so that a caller meets the bounds of its future, its waker and its right to wait, and no home.
-ghost use Rattle.std.specs.Prelude.{◌≡◌, false, IfOk, IfErr, IfNone, vec_len, vec_capacity};
+ghost use Rattle.std.specs.Prelude.{◌≡◌, ◌↔◌, false, IfOk, IfErr, IsErr, IfNone, vec_len, vec_capacity};
 ghost use Rattle.std.specs.Iterator.{IsFinite};
+ghost use Rattle.executor_core.specs.Limits.{is_lawful, default_limits};
 ghost use Rattle.executor_core.specs.SpawnError.{refused_future};
 ghost use Rattle.async_executor.specs.RunError.{run_future};
-ghost use Rattle.async_executor.specs.Runs.{has_ended};
+ghost use Rattle.async_executor.specs.Runs.{has_ended, IsNewRun};
+ghost use Rattle.executor_core.specs.declared.limits.NewError.TheVariants as NewError;
 ghost use Rattle.async_executor.specs.SpawnMany.{spawned, SpawnsInTurn, AddsHandles};
 
 mod handles;
@@ -19,6 +21,7 @@ pub use crate::scheduler::SpawnMany;
 use crate::static_executors::StaticExecutor;
 pub use crate::task::Cancelled;
 pub use crate::waker::TaskWaker;
+pub use executor_core::limits::{Limits, NewError};
 pub use executor_core::queue::RunnerError;
 use executor_core::task::{Future, OutOfMemory, SpawnError, Wake};
 pub use handles::{Cancel, FallibleTask, Task};
@@ -60,9 +63,31 @@ where
     /// `OutOfMemory` where memory for what the executor shares is refused.
     ///
     /// Example: `uses::runs`.
-    pub fn new(rt: R, alloc: Global) -> Result<Self, OutOfMemory> {
+    pub fn new(rt: R, alloc: Global) -> Result<Self, OutOfMemory>
+        ensures { IfOk result (λ executor. executor.inner.limits ≡ default_limits) }
+    {
         let inner = ExecutorIn::new(rt, alloc)?;
         Ok(Executor { inner })
+    }
+
+    /// As `new`, with these limits: how much room the queues of its runs have, how long their turns
+    /// are, and how often they take a fair part. Runs keep them as they are made.
+    ///
+    /// # Errors
+    ///
+    /// `BadLimits` exactly if a limit is not in its range, before memory is asked for. Else
+    /// `OutOfMemory`, if memory for what the executor shares is refused.
+    ///
+    /// Example: `uses::keeps_turns`.
+    pub fn new_with(rt: R, alloc: Global, limits: Limits) -> Result<Self, NewError>
+        ensures ok { IfOk result (λ executor. executor.inner.limits ≡ limits) }
+        ensures cause { IfErr result (λ error. (error ≡ NewError.BadLimits) ↔ (is_lawful limits ≡ false)) }
+        ensures bad { is_lawful limits ≡ false → IsErr result }
+    {
+        match ExecutorIn::new_with(rt, alloc, limits) {
+            Ok(inner) => Ok(Executor { inner }),
+            Err(error) => Err(error),
+        }
     }
 
     /// Schedules the future as a new task, behind all that are scheduled.
@@ -127,12 +152,26 @@ where
     }
 
     /// Runs the task that was scheduled first, and says whether there was one: its future is polled
-    /// once, or dropped where the task was cancelled.
+    /// once, or dropped where the task was cancelled. It looks at the queue that all share alone:
+    /// what a run has in a queue of its own is left to it, or to `try_tick_any`.
     ///
     /// Example: `uses::runs`.
     #[inline(always)]
     pub fn try_tick(&self) -> bool {
         self.inner.try_tick()
+    }
+
+    /// As `try_tick`, and if no task stands in the queue that all share, it runs the first one of the
+    /// first run's queue that has one, in order of registration. So it answers false exactly if no
+    /// task stood in any queue, and it runs also what a run that nobody polls has in its own. It
+    /// takes no memory, and moves nothing from one queue to another.
+    ///
+    /// The Rust crate has no such call.
+    ///
+    /// Example: `uses::empties`.
+    #[inline(always)]
+    pub fn try_tick_any(&self) -> bool {
+        self.inner.try_tick_any()
     }
 
     /// A future that runs one task, and sleeps while none is scheduled. The place in which it
@@ -152,8 +191,8 @@ where
     }
 
     /// A future that runs tasks of the executor beside this one, and ends with its output. In each
-    /// poll this future is polled first, and then tasks are run until none is left or a turn of 200
-    /// tasks, which goes on over polls, is over.
+    /// poll this future is polled first, and then tasks are run until none is left or a turn, which
+    /// goes on over polls, is over.
     /// Its places among the sleepers and the runners and its queue are reserved here, and given back
     /// once it has ended or was dropped.
     ///
@@ -165,6 +204,7 @@ where
     /// Example: `uses::pools`.
     pub fn run<G: Future<W>>(&self, future: G) -> Result<Run<'_, F, W, R, G>, RunError<G>>
         ensures ok { IfOk result (λ run. has_ended run.inner.rest ≡ false) }
+        ensures limits { IfOk result (λ run. IsNewRun self.now.inner.limits run.inner.rest run.inner.own.ring) }
         ensures refused { IfErr result (λ e. run_future e ≡ future) }
     {
         match self.inner.run(future) {

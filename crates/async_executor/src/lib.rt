@@ -19,7 +19,6 @@ pub(crate) mod dropper;
 pub mod executor;
 pub(crate) mod home;
 pub(crate) mod left_over;
-pub(crate) mod limits;
 pub mod local_executor;
 pub(crate) mod lock;
 pub(crate) mod machine;
@@ -34,8 +33,8 @@ pub mod ticker;
 pub(crate) mod waker;
 
 pub use executor::{
-    Cancel, Cancelled, Executor, FallibleTask, Run, RunError, RunnerError, SpawnMany, Task,
-    TaskWaker, Tick,
+    Cancel, Cancelled, Executor, FallibleTask, Limits, NewError, Run, RunError, RunnerError,
+    SpawnMany, Task, TaskWaker, Tick,
 };
 pub use executor_core::task::{Future, OutOfMemory, Poll, SpawnError, Wake};
 pub use local_executor::{

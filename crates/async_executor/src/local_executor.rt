@@ -2,11 +2,13 @@
 //!
 //! Each of them has what is written once for every home, at the local one. It is a type of its own,
 //! for the reason that the shared ones are.
-ghost use Rattle.std.specs.Prelude.{◌≡◌, false, IfOk, IfErr, IfNone, vec_len, vec_capacity};
+ghost use Rattle.std.specs.Prelude.{◌≡◌, ◌↔◌, false, IfOk, IfErr, IsErr, IfNone, vec_len, vec_capacity};
 ghost use Rattle.std.specs.Iterator.{IsFinite};
+ghost use Rattle.executor_core.specs.Limits.{is_lawful, default_limits};
 ghost use Rattle.executor_core.specs.SpawnError.{refused_future};
 ghost use Rattle.async_executor.specs.RunError.{run_future};
-ghost use Rattle.async_executor.specs.Runs.{has_ended};
+ghost use Rattle.async_executor.specs.Runs.{has_ended, IsNewRun};
+ghost use Rattle.executor_core.specs.declared.limits.NewError.TheVariants as NewError;
 ghost use Rattle.async_executor.specs.SpawnMany.{spawned, SpawnsInTurn, AddsHandles};
 
 mod handles;
@@ -16,6 +18,7 @@ use crate::executor::{RunError, SpawnMany, TaskWaker};
 use crate::home::LocalHome;
 use crate::scheduler::ExecutorIn;
 use crate::static_executors::StaticLocalExecutor;
+use executor_core::limits::{Limits, NewError};
 use executor_core::task::{Future, OutOfMemory, SpawnError, Wake};
 pub use handles::{LocalCancel, LocalFallibleTask, LocalTask};
 use std::alloc::Global;
@@ -53,9 +56,30 @@ where
     /// `OutOfMemory` if memory for what the executor shares is refused.
     ///
     /// Example: `uses::stays`.
-    pub fn new(rt: R, alloc: Global) -> Result<Self, OutOfMemory> {
+    pub fn new(rt: R, alloc: Global) -> Result<Self, OutOfMemory>
+        ensures { IfOk result (λ executor. executor.inner.limits ≡ default_limits) }
+    {
         let inner = ExecutorIn::new(rt, alloc)?;
         Ok(LocalExecutor { inner })
+    }
+
+    /// As `Executor::new_with`.
+    ///
+    /// # Errors
+    ///
+    /// `BadLimits` exactly if a limit is not in its range, before memory is asked for. Else
+    /// `OutOfMemory`, if memory for what the executor shares is refused.
+    ///
+    /// Example: `uses::keeps_turns`.
+    pub fn new_with(rt: R, alloc: Global, limits: Limits) -> Result<Self, NewError>
+        ensures ok { IfOk result (λ executor. executor.inner.limits ≡ limits) }
+        ensures cause { IfErr result (λ error. (error ≡ NewError.BadLimits) ↔ (is_lawful limits ≡ false)) }
+        ensures bad { is_lawful limits ≡ false → IsErr result }
+    {
+        match ExecutorIn::new_with(rt, alloc, limits) {
+            Ok(inner) => Ok(LocalExecutor { inner }),
+            Err(error) => Err(error),
+        }
     }
 
     /// As `Executor::spawn`.
@@ -116,6 +140,14 @@ where
         self.inner.try_tick()
     }
 
+    /// As `Executor::try_tick_any`.
+    ///
+    /// Example: `uses::clears`.
+    #[inline(always)]
+    pub fn try_tick_any(&self) -> bool {
+        self.inner.try_tick_any()
+    }
+
     /// As `Executor::tick`.
     ///
     /// # Errors
@@ -141,6 +173,7 @@ where
     /// Example: `uses::stays`.
     pub fn run<G: Future<W>>(&self, future: G) -> Result<LocalRun<'_, F, W, R, G>, RunError<G>>
         ensures ok { IfOk result (λ run. has_ended run.inner.rest ≡ false) }
+        ensures limits { IfOk result (λ run. IsNewRun self.now.inner.limits run.inner.rest run.inner.own.ring) }
         ensures refused { IfErr result (λ e. run_future e ≡ future) }
     {
         match self.inner.run(future) {

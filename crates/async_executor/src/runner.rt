@@ -5,7 +5,7 @@
 //! share the work.
 //!
 //! ```text
-//!              ┌───────────── yield, after 200 tasks ─────────────┐
+//!              ┌────────────── yield, after a turn ───────────────┐
 //!              ▼                                                  │
 //! register ── poll the own future ── search ── found ── run the task
 //!              │        ▲              │  ▲                │
@@ -16,9 +16,10 @@
 //! ```
 //!
 //! What it does next is decided in `machine`. Between two polls of its own future a run goes the
-//! steps of one tick after another, but that its searches are those of a runner. Once in 64 tasks it
-//! takes its part of the shared queue before it runs the task, so that tasks there are not left
-//! behind its own. After 200 tasks it lets others of its thread go on.
+//! steps of one tick after another, but that its searches are those of a runner. With each so
+//! many-th task it takes its part of the shared queue before it runs the task, so that tasks there
+//! are not left behind its own. After a turn of so many tasks it lets others of its thread go on. The
+//! limits of its executor say how many that are.
 
 mod run;
 mod words;

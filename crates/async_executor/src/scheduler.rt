@@ -5,10 +5,12 @@
 //! the store, and then its task is ended in the table. A task with an output is ended in the table
 //! first, and the output goes into the store where a handle wants it. What neither keeps is dropped
 //! after that.
-ghost use Rattle.std.specs.Prelude.{◌≡◌, true, false, IfOk, IfErr};
+ghost use Rattle.std.specs.Prelude.{◌≡◌, ◌↔◌, true, false, IfOk, IfErr, IsErr};
+ghost use Rattle.executor_core.specs.Limits.{is_lawful, default_limits};
 ghost use Rattle.executor_core.specs.SpawnError.{refused_future};
 ghost use Rattle.async_executor.specs.RunError.{run_future};
-ghost use Rattle.async_executor.specs.Runs.{has_ended};
+ghost use Rattle.async_executor.specs.Runs.{has_ended, IsNewRun};
+ghost use Rattle.executor_core.specs.declared.limits.NewError.TheVariants as NewError;
 ghost use Rattle.async_executor.specs.LeftOver.{IsHeldRight, IsLeftRight};
 
 mod closing;
@@ -17,15 +19,15 @@ mod many;
 use crate::changes;
 use crate::home::{Home, OutIn, OutputIn};
 use crate::left_over::LeftOver;
-use crate::limits::LOCAL_PLACES;
 use crate::poller::TaskPoller;
 use crate::runner::{RunError, RunIn};
 use crate::state::{ExecutorState, announce, cells};
 use crate::task::TaskIn;
 use crate::ticker::TickIn;
+use executor_core::limits::{Limits, NewError};
 use executor_core::queue::Ring;
 use executor_core::task::{
-    EndPending, Future, Held, OutOfMemory, Ran, SpawnError, Taken, TaskId, run_taken,
+    EndPending, Future, Held, Notice, OutOfMemory, Ran, SpawnError, Taken, TaskId, run_taken,
 };
 pub(crate) use many::Handle;
 pub use many::SpawnMany;
@@ -35,13 +37,39 @@ use std::alloc::Global;
 #[derive(Drop)]
 pub struct ExecutorIn<H: Home> {
     home: H,
+    limits: Limits,
+    ghost lawful: { is_lawful limits ≡ true },
 }
 
 impl<H: Home> ExecutorIn<H> {
-    /// An executor without tasks.
-    pub(crate) fn new(rt: H::Runtime, alloc: Global) -> Result<ExecutorIn<H>, OutOfMemory> {
-        let home = H::new(rt, alloc)?;
-        Ok(ExecutorIn { home })
+    /// An executor without tasks, with the limits of one to which none are handed in.
+    pub(crate) fn new(rt: H::Runtime, alloc: Global) -> Result<ExecutorIn<H>, OutOfMemory>
+        ensures { IfOk result (λ executor. executor.limits ≡ default_limits) }
+    {
+        match ExecutorIn::new_with(rt, alloc, Limits::default()) {
+            Ok(executor) => Ok(executor),
+            Err(NewError::OutOfMemory) => Err(OutOfMemory),
+            Err(NewError::BadLimits) => unreachable!(),
+        }
+    }
+
+    /// The same with these limits, if they are lawful.
+    pub(crate) fn new_with(
+        rt: H::Runtime,
+        alloc: Global,
+        limits: Limits,
+    ) -> Result<ExecutorIn<H>, NewError>
+        ensures ok { IfOk result (λ executor. executor.limits ≡ limits) }
+        ensures cause { IfErr result (λ error. (error ≡ NewError.BadLimits) ↔ (is_lawful limits ≡ false)) }
+        ensures bad { is_lawful limits ≡ false → IsErr result }
+    {
+        if !limits.is_lawful() {
+            return Err(NewError::BadLimits);
+        }
+        match H::new(rt, alloc) {
+            Ok(home) => Ok(ExecutorIn { home, limits }),
+            Err(OutOfMemory) => Err(NewError::OutOfMemory),
+        }
     }
 
     /// Whether the future of every task was dropped.
@@ -73,12 +101,24 @@ impl<H: Home> ExecutorIn<H> {
 
     /// Runs the task that was scheduled first, and says whether there was one.
     pub(crate) fn try_tick(&self) -> bool {
-        let state = self.home.state();
-        let mut cells = cells!(state);
-        let Some((taken, notice)) = cells.take_global(None) else {
+        let found = cells!(self.home.state()).take_global(None);
+        self.run_found(found)
+    }
+
+    /// Runs the first task of the global queue, else that of the first run's queue that has one, and
+    /// says whether there was one.
+    pub(crate) fn try_tick_any(&self) -> bool {
+        let found = cells!(self.home.state()).take_any(None);
+        self.run_found(found)
+    }
+
+    // Runs the task that was found, and says whether there was one. No lock may be held.
+    #[inline(always)]
+    fn run_found(&self, found: Option<(Taken<()>, Notice)>) -> bool {
+        let Some((taken, notice)) = found else {
             return false;
         };
-        drop(cells);
+        let state = self.home.state();
         // Before the task is run, which may take long: somebody else may go on with the queue.
         announce!(state, notice);
         self.run_task(taken);
@@ -97,10 +137,11 @@ impl<H: Home> ExecutorIn<H> {
     /// sleeper's and a runner's place are reserved. What was made before a refusal is given back.
     pub(crate) fn run<G: Future<H::Waker>>(&self, future: G) -> Result<RunIn<'_, H, G>, RunError<G>>
         ensures ok { IfOk result (λ run. has_ended run.rest ≡ false) }
+        ensures limits { IfOk result (λ run. IsNewRun self.now.limits run.rest run.own.ring) }
         ensures refused { IfErr result (λ e. run_future e ≡ future) }
     {
         let state = self.state();
-        let Ok(ring) = Ring::new(state.alloc(), LOCAL_PLACES) else {
+        let Ok(ring) = Ring::new(state.alloc(), self.limits.local) else {
             return Err(RunError::OutOfMemory(future));
         };
         // Before the runner's place: no number is given twice, so one that is refused later is lost.
@@ -109,7 +150,7 @@ impl<H: Home> ExecutorIn<H> {
         }
         let reserved = state.cells().reserve_runner();
         match reserved {
-            Ok(key) => Ok(RunIn::new(self, key, ring, future)),
+            Ok(key) => Ok(RunIn::new(self, key, self.limits, ring, future)),
             Err(error) => {
                 state.release_sleeper();
                 Err(RunError::of(error, future))

@@ -2,15 +2,18 @@
 //!
 //! Each of them has what is written once for every home, as the executor of which it is made by
 //! `leak`, and the handles, ticks and runs of that executor.
-ghost use Rattle.std.specs.Prelude.{◌≡◌, false, IfOk, IfErr};
+ghost use Rattle.std.specs.Prelude.{◌≡◌, ◌↔◌, false, IfOk, IfErr, IsErr};
+ghost use Rattle.executor_core.specs.Limits.{is_lawful, default_limits};
 ghost use Rattle.executor_core.specs.SpawnError.{refused_future};
 ghost use Rattle.async_executor.specs.RunError.{run_future};
-ghost use Rattle.async_executor.specs.Runs.{has_ended};
+ghost use Rattle.async_executor.specs.Runs.{has_ended, IsNewRun};
+ghost use Rattle.executor_core.specs.declared.limits.NewError.TheVariants as NewError;
 
 use crate::executor::{Run, RunError, Task, TaskWaker, Tick};
 use crate::home::{LocalHome, SharedHome};
 use crate::local_executor::{LocalRun, LocalTask, LocalTick};
 use crate::scheduler::ExecutorIn;
+use executor_core::limits::{Limits, NewError};
 use executor_core::task::{Future, OutOfMemory, SpawnError, Wake};
 use std::alloc::Global;
 use std::sync::Wait;
@@ -46,9 +49,30 @@ where
     /// `OutOfMemory` if memory for what the executor shares is refused.
     ///
     /// Example: `uses::prints`.
-    pub fn new(rt: R, alloc: Global) -> Result<Self, OutOfMemory> {
+    pub fn new(rt: R, alloc: Global) -> Result<Self, OutOfMemory>
+        ensures { IfOk result (λ executor. executor.inner.limits ≡ default_limits) }
+    {
         let inner = ExecutorIn::new(rt, alloc)?;
         Ok(StaticExecutor { inner })
+    }
+
+    /// As `Executor::new_with`.
+    ///
+    /// # Errors
+    ///
+    /// `BadLimits` exactly if a limit is not in its range, before memory is asked for. Else
+    /// `OutOfMemory`, if memory for what the executor shares is refused.
+    ///
+    /// Example: `uses::keeps_turns`.
+    pub fn new_with(rt: R, alloc: Global, limits: Limits) -> Result<Self, NewError>
+        ensures ok { IfOk result (λ executor. executor.inner.limits ≡ limits) }
+        ensures cause { IfErr result (λ error. (error ≡ NewError.BadLimits) ↔ (is_lawful limits ≡ false)) }
+        ensures bad { is_lawful limits ≡ false → IsErr result }
+    {
+        match ExecutorIn::new_with(rt, alloc, limits) {
+            Ok(inner) => Ok(StaticExecutor { inner }),
+            Err(error) => Err(error),
+        }
     }
 
     /// As `Executor::spawn`.
@@ -85,6 +109,14 @@ where
         self.inner.try_tick()
     }
 
+    /// As `Executor::try_tick_any`.
+    ///
+    /// Example: `uses::prints`.
+    #[inline(always)]
+    pub fn try_tick_any(&self) -> bool {
+        self.inner.try_tick_any()
+    }
+
     /// As `Executor::tick`.
     ///
     /// # Errors
@@ -110,6 +142,7 @@ where
     /// Example: `uses::serves`.
     pub fn run<G: Future<W>>(&self, future: G) -> Result<Run<'_, F, W, R, G>, RunError<G>>
         ensures ok { IfOk result (λ run. has_ended run.inner.rest ≡ false) }
+        ensures limits { IfOk result (λ run. IsNewRun self.now.inner.limits run.inner.rest run.inner.own.ring) }
         ensures refused { IfErr result (λ e. run_future e ≡ future) }
     {
         match self.inner.run(future) {
@@ -146,9 +179,30 @@ where
     /// `OutOfMemory` if memory for what the executor shares is refused.
     ///
     /// Example: `uses::keeps`.
-    pub fn new(rt: R, alloc: Global) -> Result<Self, OutOfMemory> {
+    pub fn new(rt: R, alloc: Global) -> Result<Self, OutOfMemory>
+        ensures { IfOk result (λ executor. executor.inner.limits ≡ default_limits) }
+    {
         let inner = ExecutorIn::new(rt, alloc)?;
         Ok(StaticLocalExecutor { inner })
+    }
+
+    /// As `Executor::new_with`.
+    ///
+    /// # Errors
+    ///
+    /// `BadLimits` exactly if a limit is not in its range, before memory is asked for. Else
+    /// `OutOfMemory`, if memory for what the executor shares is refused.
+    ///
+    /// Example: `uses::keeps_turns`.
+    pub fn new_with(rt: R, alloc: Global, limits: Limits) -> Result<Self, NewError>
+        ensures ok { IfOk result (λ executor. executor.inner.limits ≡ limits) }
+        ensures cause { IfErr result (λ error. (error ≡ NewError.BadLimits) ↔ (is_lawful limits ≡ false)) }
+        ensures bad { is_lawful limits ≡ false → IsErr result }
+    {
+        match ExecutorIn::new_with(rt, alloc, limits) {
+            Ok(inner) => Ok(StaticLocalExecutor { inner }),
+            Err(error) => Err(error),
+        }
     }
 
     /// As `Executor::spawn`.
@@ -178,6 +232,14 @@ where
         self.inner.try_tick()
     }
 
+    /// As `Executor::try_tick_any`.
+    ///
+    /// Example: `uses::keeps`.
+    #[inline(always)]
+    pub fn try_tick_any(&self) -> bool {
+        self.inner.try_tick_any()
+    }
+
     /// As `Executor::tick`.
     ///
     /// # Errors
@@ -203,6 +265,7 @@ where
     /// Example: `uses::keeps`.
     pub fn run<G: Future<W>>(&self, future: G) -> Result<LocalRun<'_, F, W, R, G>, RunError<G>>
         ensures ok { IfOk result (λ run. has_ended run.inner.rest ≡ false) }
+        ensures limits { IfOk result (λ run. IsNewRun self.now.inner.limits run.inner.rest run.inner.own.ring) }
         ensures refused { IfErr result (λ e. run_future e ≡ future) }
     {
         match self.inner.run(future) {

@@ -7,6 +7,7 @@ pub mod EndPendingLemmas
 pub mod EndReadyLemmas
 pub mod FindLemmas
 pub mod GatherLemmas
+pub mod LimitLemmas
 pub mod LinkLemmas
 pub mod ListLemmas
 pub mod OrderLemmas

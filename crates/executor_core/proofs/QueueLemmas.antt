@@ -1,13 +1,15 @@
 -- The queues as lists: what a call makes of the same queues with other entries, and that nothing queued is lost.
-use Rattle.std.proofs.Common.{◌≡◌, ◌≢◌, ◌<◌, inl, inr, true, ℕ, zero, suc, ◌+◌, ◌-◌, Bool, not, cond, List, [], ◌∷◌, ◌++◌, map, length, take, drop, set, min, Option, Some, None, refl, sym, ap, ◌∙◌, subst, append_assoc, arith}
-use Rattle.std.proofs.lemmas.Bool.{cases_Bool, ltb-true}
-use Rattle.std.proofs.lemmas.List.{map-append, length-map, take-map, drop-map, map-set, take-append-drop, append-nil, length-append, length-take}
+use Rattle.std.proofs.Common.{◌≡◌, ◌≢◌, ◌<◌, inl, inr, true, ℕ, zero, suc, ◌+◌, ◌-◌, Bool, not, cond, List, [], ◌∷◌, ◌++◌, map, length, get_or, take, drop, set, min, Option, Some, None, refl, sym, ap, ◌∙◌, subst, append_assoc, arith}
+use Rattle.std.proofs.lemmas.Bool.{cases_Bool, ltb-true, eqb-true, eq-eqb, true≢false}
+use Rattle.std.proofs.lemmas.List.{map-append, length-map, take-map, drop-map, map-set, take-append-drop, append-nil, length-append, length-take, nil_from_length}
 use Rattle.std.proofs.lemmas.List.Concat.{flat_map-append}
 use Rattle.std.proofs.lemmas.List.Sorted.{IsPermutation-refl, IsPermutation-trans, IsPermutation-cons, IsPermutation-append_left, IsPermutation-append_comm, IsPermutation-middle}
-use Rattle.std.proofs.lemmas.Option.{slice_get-map}
-use Rattle.std.specs.Prelude.{IsPermutation, nat_lt, option_map, is_some, slice_get}
-use Rattle.std.specs.List.{position, prefix_len, find, flat_map, remove}
-use Rattle.executor_core.specs.Queues.{QueueLists, RunnerQueue, steal_count, stolen, is_runner, position_of, entries_or, capacity_or, entries_at, capacity_at, set_entries, with_entries, local_entries_at, all_entries, global_front, global_stolen, visits, can_steal, victim, stolen_between, local_front, steal_from, search_shared, search_own, search_at, search, search_global, fair_at, fair_count_at, unregistered_at, map_local, map_queues, fair, fair_count, registered, unregistered, entries_of, is_registered}
+use Rattle.std.proofs.lemmas.Option.{slice_get-map, slice_get-get_or}
+use Rattle.std.proofs.lemmas.List.Quantifiers.{position-Some}
+use Rattle.std.proofs.lemmas.Iterator.Adapters.{position_from-zero}
+use Rattle.std.specs.Prelude.{◌==◌, IsPermutation, nat_lt, option_map, is_some, slice_get}
+use Rattle.std.specs.List.{position, position_from, prefix_len, find, flat_map, remove}
+use Rattle.executor_core.specs.Queues.{QueueLists, RunnerQueue, steal_count, stolen, is_runner, position_of, entries_or, capacity_or, entries_at, capacity_at, set_entries, with_entries, local_entries_at, all_entries, global_front, global_stolen, visits, can_steal, victim, stolen_between, local_front, steal_from, search_shared, search_own, search_at, search, search_global, first_occupied, front_at, any_front, search_any, fair_at, fair_count_at, unregistered_at, map_local, map_queues, fair, fair_count, registered, unregistered, entries_of, is_registered}
 use Rattle.executor_core.specs.Queues.State.{pushed}
 use Rattle.executor_core.specs.declared.task.id.TaskId.{TaskId}
 use Rattle.executor_core.proofs.ListLemmas.{get-set_same, get-set_other}
@@ -167,6 +169,27 @@ module _ {X Y : Type 0} (f : X → Y) where
 
   search_found-map : (k word : ℕ) (q : QueueLists X) → search k word (map_queues f q) ≡ map_found (search k word q)
   search_found-map k word q = ap (λ o. search_at o word (map_queues f q)) (position_of-map f k q.locals) ∙ search_at-map (position_of k q.locals) word q
+
+  first_occupied-map : (locals : List (RunnerQueue X)) → first_occupied (map (map_local f) locals) ≡ first_occupied locals
+  first_occupied-map locals = position-map (map_local f) (λ q. not (length q.entries == 0)) locals ∙ ap (λ p. position p locals) (λ i q. not (length-map q.entries f i == 0))
+
+  front_at-map : (o : Option ℕ) (q : QueueLists X) → front_at o (map_queues f q) ≡ map_found (front_at o q)
+  unfolding map_found
+  front_at-map None q = refl
+  front_at-map (Some r) q = ap (λ es. local_front r es (map_queues f q)) (entries_at-map f r q.locals) ∙ local_front-map r (entries_at r q.locals) q
+
+  any_front-map : (es : List X) (q : QueueLists X) → any_front (map f es) (map_queues f q) ≡ map_found (any_front es q)
+  unfolding map_found
+  any_front-map [] q = ap (λ o. front_at o (map_queues f q)) (first_occupied-map q.locals) ∙ front_at-map (first_occupied q.locals) q
+  any_front-map (x ∷ rest) q = refl
+
+  pub search_any-map_found : (q : QueueLists X) → (search_any (map_queues f q)).0 ≡ option_map f (search_any q).0
+  unfolding map_found
+  search_any-map_found q = ap (λ r. r.0) (any_front-map q.global q)
+
+  pub search_any-map_lists : (q : QueueLists X) → (search_any (map_queues f q)).1 ≡ map_queues f (search_any q).1
+  unfolding map_found
+  search_any-map_lists q = ap (λ r. r.1) (any_front-map q.global q)
 
   pub search_global-map_found : (q : QueueLists X) → (search_global (map_queues f q)).0 ≡ option_map f (search_global q).0
   unfolding map_found
@@ -450,6 +473,48 @@ module _ {X : Type 0} where
 
   pub search-none : (k word : ℕ) (q : QueueLists X) → (search k word q).0 ≡ None → (search k word q).1 ≡ q
   search-none k word q none = search_at-none (position_of k q.locals) word q none
+
+  front_at-permutes : (o : Option ℕ) (q : QueueLists X) (x : X) → (front_at o q).0 ≡ Some x → IsPermutation (all_entries q) (x ∷ all_entries (front_at o q).1)
+  front_at-permutes None q x found = absurd (cc)
+  front_at-permutes (Some r) q x found = local_front-permutes r (entries_at r q.locals) q x refl found
+
+  any_front-permutes : (es : List X) (q : QueueLists X) (x : X) → q.global ≡ es → (any_front es q).0 ≡ Some x → IsPermutation (all_entries q) (x ∷ all_entries (any_front es q).1)
+  any_front-permutes [] q x is found = front_at-permutes (first_occupied q.locals) q x found
+  any_front-permutes (y ∷ rest) q x is found = global_front-permutes (y ∷ rest) q x is found
+
+  pub search_any-permutes : (q : QueueLists X) (x : X) → (search_any q).0 ≡ Some x → IsPermutation (all_entries q) (x ∷ all_entries (search_any q).1)
+  search_any-permutes q x found = any_front-permutes q.global q x refl found
+
+  none_occupied : (locals : List (RunnerQueue X)) (i : ℕ) → position_from (λ q. not (length q.entries == 0)) i locals ≡ None → local_entries locals ≡ []
+  unfolding local_entries
+  none_occupied [] i none = refl
+  none_occupied (l ∷ rest) i none =
+      elim (cases_Bool (length l.entries == 0)) [
+        | inl empty ↦
+            let later = sym (ap (λ b. cond (not b) (Some i) (position_from (λ (q : RunnerQueue X). not (length q.entries == 0)) (i + 1) rest)) empty) ∙ none in
+            ap (λ es. es ++ local_entries rest) (nil_from_length l.entries (eqb-true (length l.entries) 0 empty)) ∙ none_occupied rest (i + 1) later
+        | inr some ↦ let here : Some i ≡ None = sym (ap (λ b. cond (not b) (Some i) (position_from (λ (q : RunnerQueue X). not (length q.entries == 0)) (i + 1) rest)) some) ∙ none in absurd (cc)
+      ]
+
+  some_occupied : (r : ℕ) (locals : List (RunnerQueue X)) → first_occupied locals ≡ Some r → entries_at r locals ≢ []
+  some_occupied r locals found empty =
+      let other : RunnerQueue X = record { runner = 0; entries = []; capacity = 0 } in
+      let parts = position-Some (λ (q : RunnerQueue X). not (length q.entries == 0)) locals r other found in
+      let at : entries_at r locals ≡ (get_or locals r other).entries = ap entries_or (slice_get-get_or locals r other parts.0) in
+      absurd (true≢false (sym parts.1 ∙ ap not (eq-eqb (length (get_or locals r other).entries) 0 (ap length (sym at ∙ empty)))))
+
+  -- where it finds none, all queues are empty
+  pub search_any-none : (q : QueueLists X) → (search_any q).0 ≡ None → (all_entries q ≡ []) × ((search_any q).1 ≡ q)
+  unfolding local_entries
+  search_any-none q none = by_global q.global refl none
+    where
+      by_locals : (o : Option ℕ) → first_occupied q.locals ≡ o → q.global ≡ [] → (front_at o q).0 ≡ None → (all_entries q ≡ []) × ((front_at o q).1 ≡ q)
+      by_locals None is empty none = (ap (λ es. es ++ q.global) (none_occupied q.locals 0 (sym (position_from-zero (λ (l : RunnerQueue X). not (length l.entries == 0)) q.locals) ∙ is)) ∙ empty, refl)
+      by_locals (Some r) is empty none = absurd (some_occupied r q.locals is (local_front-none r (entries_at r q.locals) q none))
+
+      by_global : (es : List X) → q.global ≡ es → (any_front es q).0 ≡ None → (all_entries q ≡ []) × ((any_front es q).1 ≡ q)
+      by_global [] is none = by_locals (first_occupied q.locals) refl is none
+      by_global (x ∷ rest) is none = absurd (cc)
 
   fair_at-permutes : (o : Option ℕ) (q : QueueLists X) → IsPermutation (all_entries q) (all_entries (fair_at o q))
   fair_at-permutes None q = IsPermutation-refl (all_entries q)

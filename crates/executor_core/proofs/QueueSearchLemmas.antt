@@ -3,7 +3,7 @@ use Rattle.std.proofs.Common.{◌≡◌, ◌≢◌, ℕ, zero, suc, ◌+◌, ◌
 use Rattle.std.proofs.lemmas.Bool.{cases_Bool, cases_eq, ne_eqb, lt-ltb, le-ltb}
 use Rattle.std.specs.Prelude.{◌==◌, nat_lt, slice_get}
 use Rattle.std.specs.List.{find, filter, range_with_len}
-use Rattle.executor_core.specs.Queues.{QueueLists, RunnerQueue, steal_count, entries_or, entries_at, capacity_at, set_entries, with_entries, visits, gives, can_steal, victim, position_of, global_front, global_stolen, stolen_between, local_front, steal_from, search_shared, search_own, search_at, search_global, search}
+use Rattle.executor_core.specs.Queues.{QueueLists, RunnerQueue, steal_count, entries_or, entries_at, capacity_at, set_entries, with_entries, visits, gives, can_steal, victim, position_of, global_front, global_stolen, stolen_between, local_front, steal_from, search_shared, search_own, search_at, search_global, search, first_occupied, front_at, any_front, search_any}
 use Rattle.executor_core.specs.Queues.State.{QueueState, with_lists}
 use Rattle.executor_core.specs.declared.task.id.TaskId.{TaskId}
 use Rattle.executor_core.proofs.ListLemmas.{set-here}
@@ -233,3 +233,17 @@ stolen_left s after left last k word r v done chosen stolen_here rest =
     rest ∙ ap (λ (t : QueueState). with_lists (record t.lists { locals = with_entries r (drop 1 (entries_at r t.lists.locals)) t.lists.locals }) t) here
     ∙ ap (λ (l : QueueLists TaskId). with_lists l s) (sym (local_left r (entries_at r q.locals) q refl))
     ∙ ap (λ (p : Option TaskId × QueueLists TaskId). with_lists p.1 s) (sym (from_others s after k word r (Some v) done chosen))
+
+-- a search of any queue past the global one, which is empty
+any_idle : {X : Type 0} (es : List X) (q : QueueLists X) → None ≡ (global_front es q).0 → any_front es q ≡ front_at (first_occupied q.locals) q
+any_idle [] q none = refl
+any_idle (x ∷ es) q none = absurd (cc)
+
+pub any_left : (s after last : QueueState) (r : ℕ) → None ≡ (search_global s.lists).0 → after ≡ with_lists (search_global s.lists).1 s → Some r ≡ first_occupied after.lists.locals → last ≡ with_lists (record after.lists { locals = with_entries r (drop 1 (entries_at r after.lists.locals)) after.lists.locals }) after → last ≡ with_lists (search_any s.lists).1 s
+any_left s after last r none rest found left =
+    let kept : after ≡ s = rest ∙ ap (λ q. with_lists q s) (search_global-none s.lists (sym none)) in
+    let at : search_any s.lists ≡ local_front r (entries_at r s.lists.locals) s.lists = any_idle s.lists.global s.lists none ∙ ap (λ o. front_at o s.lists) (sym (found ∙ ap (λ (t : QueueState). first_occupied t.lists.locals) kept)) in
+    left
+    ∙ ap (λ (t : QueueState). with_lists (record t.lists { locals = with_entries r (drop 1 (entries_at r t.lists.locals)) t.lists.locals }) t) kept
+    ∙ ap (λ q. with_lists q s) (sym (local_left r (entries_at r s.lists.locals) s.lists refl))
+    ∙ ap (λ (p : Option TaskId × QueueLists TaskId). with_lists p.1 s) (sym at)

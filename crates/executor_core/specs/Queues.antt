@@ -155,6 +155,23 @@ module _ {X : Type 0} where
   abbrev pub search : ℕ → ℕ → QueueLists X → Option X × QueueLists X
   search k word q = search_at (position_of k q.locals) word q
 
+  -- at which position the first of the runners' queues stands in which something is queued
+  abbrev pub first_occupied : List (RunnerQueue X) → Option ℕ
+  first_occupied locals = position (λ q. not (length q.entries == 0)) locals
+
+  -- the front of the queue at this position, where there is one
+  abbrev pub front_at : Option ℕ → QueueLists X → Option X × QueueLists X
+  front_at None q = (None, q)
+  front_at (Some r) q = local_front r (entries_at r q.locals) q
+
+  abbrev pub any_front : List X → QueueLists X → Option X × QueueLists X
+  any_front (x ∷ rest) q = (Some x, record q { global = rest })
+  any_front [] q = front_at (first_occupied q.locals) q
+
+  -- a search of any queue: the global front, else the front of the first of the runners' queues that has one
+  abbrev pub search_any : QueueLists X → Option X × QueueLists X
+  search_any q = any_front q.global q
+
 -- the other calls of a runner
 module _ {X : Type 0} where
   abbrev pub fair_at : Option ℕ → QueueLists X → QueueLists X

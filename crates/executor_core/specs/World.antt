@@ -25,13 +25,15 @@ use Rattle.executor_core.specs.declared.interleave.ticker.Ticker.{Ticker}
 use Rattle.executor_core.specs.declared.interleave.event.Event.{Event}
 use Rattle.executor_core.specs.declared.interleave.event.Event.TheVariants.{Spawned, Woken, Cancelled, Took, Returned, Finished, Dropped, Got}
 
--- the log, how many steps were accepted and may be, the global queue, those of the registered runners in order of
--- registration, how many notices and picks float, the flag and the sleepers, by number what the log does not say of a task
--- and of a ticker, the ticker that holds the sleepers' lock, and whether the executor was closed, and whether it was leaked
+-- the log, how many steps were accepted and may be, for how many tasks a run's own queue has room, the global queue,
+-- those of the registered runners in order of registration, how many notices and picks float, the flag and the sleepers,
+-- by number what the log does not say of a task and of a ticker, the ticker that holds the sleepers' lock, and whether
+-- the executor was closed, and whether it was leaked
 pub record Execution (T : Type 0) : Type 0 where
   pub log : List (Event T)
   pub accepted : ℕ
   pub limit : ℕ
+  pub local : ℕ
   pub global : List ℕ
   pub locals : List (RunnerQueue ℕ)
   pub notices : ℕ
@@ -159,8 +161,8 @@ module _ {T : Type 0} (t : Coded T) where
   abbrev pub execution_code : Coded (Execution T)
   execution_code =
       code_by
-      (List (Event T) × (ℕ × (ℕ × (List ℕ × (List (RunnerQueue ℕ) × (ℕ × (ℕ × (Bool × (SleeperList (Unit {0}) × (List TaskInfo × (List Ticker × (Option ℕ × (Bool × Bool)))))))))))))
-      (coded× (coded_list event_code) (coded× coded_ℕ (coded× coded_ℕ (coded× (coded_list coded_ℕ) (coded× (coded_list (runner_queue_code coded_ℕ)) (coded× coded_ℕ (coded× coded_ℕ (coded× coded_bool (coded× (sleeper_list_code unit_code) (coded× (coded_list info_code) (coded× (coded_list ticker_code) (coded× (coded_option coded_ℕ) (coded× coded_bool coded_bool)))))))))))))
-      (λ s. (s.log, (s.accepted, (s.limit, (s.global, (s.locals, (s.notices, (s.picks, (s.flag, (s.sleepers, (s.tasks, (s.tickers, (s.holder, (s.closed, s.leaked))))))))))))))
-      (λ q. record { log = q.0; accepted = q.1.0; limit = q.1.1.0; global = q.1.1.1.0; locals = q.1.1.1.1.0; notices = q.1.1.1.1.1.0; picks = q.1.1.1.1.1.1.0; flag = q.1.1.1.1.1.1.1.0; sleepers = q.1.1.1.1.1.1.1.1.0; tasks = q.1.1.1.1.1.1.1.1.1.0; tickers = q.1.1.1.1.1.1.1.1.1.1.0; holder = q.1.1.1.1.1.1.1.1.1.1.1.0; closed = q.1.1.1.1.1.1.1.1.1.1.1.1.0; leaked = q.1.1.1.1.1.1.1.1.1.1.1.1.1 })
+      (List (Event T) × (ℕ × (ℕ × (ℕ × (List ℕ × (List (RunnerQueue ℕ) × (ℕ × (ℕ × (Bool × (SleeperList (Unit {0}) × (List TaskInfo × (List Ticker × (Option ℕ × (Bool × Bool))))))))))))))
+      (coded× (coded_list event_code) (coded× coded_ℕ (coded× coded_ℕ (coded× coded_ℕ (coded× (coded_list coded_ℕ) (coded× (coded_list (runner_queue_code coded_ℕ)) (coded× coded_ℕ (coded× coded_ℕ (coded× coded_bool (coded× (sleeper_list_code unit_code) (coded× (coded_list info_code) (coded× (coded_list ticker_code) (coded× (coded_option coded_ℕ) (coded× coded_bool coded_bool))))))))))))))
+      (λ s. (s.log, (s.accepted, (s.limit, (s.local, (s.global, (s.locals, (s.notices, (s.picks, (s.flag, (s.sleepers, (s.tasks, (s.tickers, (s.holder, (s.closed, s.leaked)))))))))))))))
+      (λ q. record { log = q.0; accepted = q.1.0; limit = q.1.1.0; local = q.1.1.1.0; global = q.1.1.1.1.0; locals = q.1.1.1.1.1.0; notices = q.1.1.1.1.1.1.0; picks = q.1.1.1.1.1.1.1.0; flag = q.1.1.1.1.1.1.1.1.0; sleepers = q.1.1.1.1.1.1.1.1.1.0; tasks = q.1.1.1.1.1.1.1.1.1.1.0; tickers = q.1.1.1.1.1.1.1.1.1.1.1.0; holder = q.1.1.1.1.1.1.1.1.1.1.1.1.0; closed = q.1.1.1.1.1.1.1.1.1.1.1.1.1.0; leaked = q.1.1.1.1.1.1.1.1.1.1.1.1.1.1 })
       (λ _. refl)

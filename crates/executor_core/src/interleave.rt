@@ -25,14 +25,16 @@
 //! or a notice or a pick is out, or a ticker has still to search. Where every ticker is a run, this
 //! holds of all queues. They do not say that anybody ever runs. The contract of `World::run` says
 //! besides that a runner which is alone takes tasks in the order in which they were queued.
-ghost use Rattle.std.specs.Prelude.{◌≡◌, ◌≢◌, ◌≤◌, ◌||◌, ◌↔◌, length, slice_get, option_map, IfOk, OnErr};
+ghost use Rattle.std.specs.Prelude.{◌≡◌, ◌≢◌, ◌≤◌, ◌||◌, ◌↔◌, false, length, slice_get, option_map, IfOk, IfErr, IsErr, OnErr};
 ghost use Rattle.executor_core.specs.World.Agreement.{CellsAgree, HandlesAgree};
 ghost use Rattle.executor_core.specs.Cells.Calls.{AllDropped};
+ghost use Rattle.executor_core.specs.Limits.{is_lawful, default_limits};
 ghost use Rattle.executor_core.specs.World.Log.{held, owed, idle, EachDropped};
 ghost use Rattle.executor_core.specs.World.Order.{LoneOrder};
 ghost use Rattle.executor_core.specs.World.AllPromises.{KeepsPromises};
 ghost use Rattle.executor_core.specs.World.Promises.{notices_out};
 ghost use Rattle.executor_core.specs.World.Steps.{StepTo, RunTo, opening};
+ghost use Rattle.executor_core.specs.declared.limits.NewError.TheVariants as NewError;
 
 pub(crate) mod entry;
 pub(crate) mod event;
@@ -42,6 +44,7 @@ pub(crate) mod script;
 pub(crate) mod steps;
 pub(crate) mod ticker;
 
+use crate::limits::{Limits, NewError};
 use crate::plain_core::Core;
 use crate::queue::Ring;
 use crate::task::{Cells, OutOfMemory};
@@ -65,6 +68,8 @@ pub use ticker::{ListChange, Phase};
 pub struct World<P, T> {
     alloc: Global,
     limit: u32,
+    // For how many tasks a run's own queue has room.
+    local: usize,
     accepted: u32,
     core: Core<P, T, ()>,
     log: Vec<Event<T>>,
@@ -95,20 +100,45 @@ impl<P, T> Model for World<P, T> {
 }
 
 impl<P: Drop, T: Copy> World<P, T> {
-    /// A world without tasks, which takes at most this many steps.
+    /// A world without tasks, which takes at most this many steps, with the limits of an executor to
+    /// which none are handed in.
     ///
     /// # Errors
     ///
     /// `OutOfMemory` where the place of all events to come was refused.
     pub fn new(alloc: Global, limit: u32) -> Result<Self, OutOfMemory>
         requires { limit ≤ 1000000 }
-        ensures { IfOk result (λ world. world ≡ opening limit) }
+        ensures { IfOk result (λ world. world ≡ opening limit default_limits.local) }
     {
+        match World::new_with(alloc, limit, Limits::default()) {
+            Ok(world) => Ok(world),
+            Err(NewError::OutOfMemory) => Err(OutOfMemory),
+            Err(NewError::BadLimits) => unreachable!(),
+        }
+    }
+
+    /// The same with these limits: the queue of each run has room for so many tasks. Turns, and how
+    /// often a fair part is taken, are none of its business, since its steps may come in any order.
+    ///
+    /// # Errors
+    ///
+    /// `BadLimits` exactly where a limit is not in its range, before memory is asked for. Else
+    /// `OutOfMemory` where the place of all events to come was refused.
+    pub fn new_with(alloc: Global, limit: u32, limits: Limits) -> Result<Self, NewError>
+        requires { limit ≤ 1000000 }
+        ensures ok { IfOk result (λ world. world ≡ opening limit limits.local) }
+        ensures cause { IfErr result (λ error. (error ≡ NewError.BadLimits) ↔ (is_lawful limits ≡ false)) }
+        ensures bad { is_lawful limits ≡ false → IsErr result }
+    {
+        if !limits.is_lawful() {
+            return Err(NewError::BadLimits);
+        }
         let core = Core::new(alloc)?;
         let log = Vec::with_capacity(alloc, 3 * limit as usize)?;
         Ok(World {
             alloc,
             limit,
+            local: limits.local,
             accepted: 0,
             core,
             log,
@@ -142,6 +172,7 @@ impl<P: Drop, T: Copy> World<P, T> {
             Step::Spawn(future) => self.spawn(future),
             Step::Wake(n) => self.wake(n),
             Step::TryTick => self.try_tick(),
+            Step::TryAny => self.try_any(),
             Step::Pend(n) => self.pend(n),
             Step::Ready(n, output) => self.ready(n, output),
             Step::PollHandle(n) => self.poll_handle(n),

@@ -3,6 +3,7 @@
 #![tactic(auto)]
 
 pub mod interleave;
+pub mod limits;
 pub mod plain_core;
 pub mod queue;
 pub mod sleepers;

@@ -7,8 +7,8 @@
 //! in between, any other party may take its own. Each contract is one equation: the state with the
 //! part that the step is about changed.
 ghost use Rattle.std.specs.Prelude.{◌≡◌, ◌↔◌, [], None, true, false, not, is_some, IsErr, IsOk, IfOk, IfErr, OnOk, OnErr, IfNone, IfSome};
-ghost use Rattle.executor_core.specs.Cells.Calls.{empty_table, after_spawn, IsFree, wakes, after_wake, after_cancel, cancel_queues, after_detach, detach_answer, after_poll_handle, poll_answer, after_end_pending, EndsPending, after_end_ready, ready_answer, after_end_dropped, dropped_answer, after_take, TakesFront, cell_at, after_search, search_in, TakesFound, after_fair, after_reserve_runner, after_release_runner, may_register, after_register, after_unregister, unregister_queues, SlotsDiffer, after_wake_all, wake_all_queues, after_close, close_queues, after_drain_next, draining};
-ghost use Rattle.executor_core.specs.Cells.Law.{queues_of};
+ghost use Rattle.executor_core.specs.Cells.Calls.{empty_table, after_spawn, IsFree, wakes, after_wake, after_cancel, cancel_queues, after_detach, detach_answer, after_poll_handle, poll_answer, after_end_pending, EndsPending, after_end_ready, ready_answer, after_end_dropped, dropped_answer, after_take, TakesFront, after_take_any, TakesAny, cell_at, after_search, search_in, TakesFound, after_fair, after_reserve_runner, after_release_runner, may_register, after_register, after_unregister, unregister_queues, SlotsDiffer, after_wake_all, wake_all_queues, after_close, close_queues, after_drain_next, draining};
+ghost use Rattle.executor_core.specs.Cells.Law.{queues_of, queued_of};
 ghost use Rattle.executor_core.specs.Queues.{fair_count};
 ghost use Rattle.executor_core.specs.SpawnError.{last_number, Refuses};
 ghost use Rattle.executor_core.specs.Sleepers.Calls.{no_sleepers, closed, after_reserve, after_release, after_insert, insert_answer, after_update, update_answer, after_remove, remove_answer, after_notify, notify_answer};
@@ -180,6 +180,15 @@ impl<P, T, W> Core<P, T, W> {
         ensures some { IfSome result (λ r. TakesFront self.old.cells self.new.cells.global r.0) }
     {
         self.cells.take_global(again)
+    }
+
+    /// `Cells::take_any`, with its answer.
+    pub fn take_any(&mut self, again: Option<Again>) -> Option<(Taken<P>, Notice)>
+        ensures state { self.new ≡ record self.old { cells = after_take_any self.old.cells } }
+        ensures none { IfNone result (queued_of self.old.cells ≡ []) }
+        ensures some { IfSome result (λ r. TakesAny self.old.cells r.0) }
+    {
+        self.cells.take_any(again)
     }
 
     /// `Cells::drain_next`, with its answer.

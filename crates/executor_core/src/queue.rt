@@ -8,10 +8,10 @@
 ghost use Rattle.std.specs.Prelude.{◌≡◌, ◌↔◌, is_some, option_map, [], true, IfOk, IfErr, IsErr, IsOk, OnOk, OnErr, IfSome, IfNone, None, length, slice_get, slice_index_or};
 ghost use Rattle.executor_core.specs.SpawnError.{last_number};
 ghost use Rattle.executor_core.specs.Queues.{entries_at, fair_count, is_registered};
-ghost use Rattle.executor_core.specs.Cells.Law.{queues_of};
+ghost use Rattle.executor_core.specs.Cells.Law.{queues_of, queued_of};
 ghost use Rattle.executor_core.specs.Cells.View.{scheduled_slot, TakesOut};
 ghost use Rattle.executor_core.specs.Slots.{HasCell};
-ghost use Rattle.executor_core.specs.Cells.Calls.{after_take, TakesFront, after_search, search_in, TakesFound, after_drain_next, draining, after_fair, after_reserve_runner, after_release_runner, may_register, after_register, after_unregister, unregister_queues};
+ghost use Rattle.executor_core.specs.Cells.Calls.{after_take, TakesFront, after_take_any, TakesAny, after_search, search_in, TakesFound, after_drain_next, draining, after_fair, after_reserve_runner, after_release_runner, may_register, after_register, after_unregister, unregister_queues};
 
 pub(crate) mod queues;
 pub(crate) mod ring;
@@ -36,6 +36,26 @@ impl<P, T, W> Cells<P, T, W> {
             again.spend();
         }
         let Some(id) = self.queues.take_front() else {
+            return None;
+        };
+        let taken = take_out(&mut self.queues, id);
+        Some((taken, Notice { unspent: () }))
+    }
+
+    /// Takes the task at the global front, else the one at the front of the first runner's queue that
+    /// has one, in order of registration. None exactly where all queues are empty. It takes no memory,
+    /// and steals nothing.
+    ///
+    /// The notice says that there may be more to take.
+    pub fn take_any(&mut self, again: Option<Again>) -> Option<(Taken<P>, Notice)>
+        ensures table { self.new ≡ after_take_any self.old }
+        ensures none { IfNone result (queued_of self.old ≡ []) }
+        ensures some { IfSome result (λ r. TakesAny self.old r.0) }
+    {
+        if let Some(again) = again {
+            again.spend();
+        }
+        let Some(id) = self.queues.take_any() else {
             return None;
         };
         let taken = take_out(&mut self.queues, id);

@@ -16,7 +16,7 @@ use Rattle.std.proofs.lemmas.Bool.Decides.{nat_tests}
 use Rattle.executor_core.specs.declared.interleave.request.Step.TheVariants as step
 use Rattle.simulation.specs.declared.command.Command.{Command}
 use Rattle.simulation.specs.declared.command.Command.TheVariants.{Step, Show}
-use Rattle.simulation.specs.Grammar.{word_of, numbers_of, spaced, listed, AreInRange, IsWord}
+use Rattle.simulation.specs.Grammar.{word_of, numbers_of, local_word, spaced, listed, AreInRange, IsWord}
 use Rattle.simulation.specs.declared.command.Arguments.{Arguments}
 use Rattle.simulation.specs.declared.command.Arguments.TheVariants as arguments
 use Rattle.simulation.proofs.Numbers.{unspaced}
@@ -100,6 +100,7 @@ is_word Show = word_by_letters (word_of Show) refl
 is_word (Step (step.Spawn p)) = word_by_letters _ refl
 is_word (Step (step.Wake n)) = word_by_letters _ refl
 is_word (Step step.TryTick) = word_by_letters _ refl
+is_word (Step step.TryAny) = word_by_letters _ refl
 is_word (Step (step.Pend n)) = word_by_letters _ refl
 is_word (Step (step.Ready n output)) = word_by_letters _ refl
 is_word (Step (step.PollHandle n)) = word_by_letters _ refl
@@ -125,12 +126,18 @@ is_word (Step step.Close) = word_by_letters _ refl
 is_word (Step step.Drain) = word_by_letters _ refl
 is_word (Step step.Leak) = word_by_letters _ refl
 
+-- and that of a line of limits
+pub is_local : IsWord local_word
+unfolding is_letter
+is_local = word_by_letters _ refl
+
 -- the numbers of each command are arguments
 pub arguments_for : (command : Command) → (a : Arguments) × (listed a ≡ numbers_of command)
 arguments_for Show = (arguments.None, refl)
 arguments_for (Step (step.Spawn p)) = (arguments.None, refl)
 arguments_for (Step (step.Wake n)) = (arguments.One n, refl)
 arguments_for (Step step.TryTick) = (arguments.None, refl)
+arguments_for (Step step.TryAny) = (arguments.None, refl)
 arguments_for (Step (step.Pend n)) = (arguments.One n, refl)
 arguments_for (Step (step.Ready n output)) = (arguments.Two n output, refl)
 arguments_for (Step (step.PollHandle n)) = (arguments.One n, refl)

@@ -16,6 +16,7 @@ word_of Show = codes "show"
 word_of (Step (step.Spawn _)) = codes "spawn"
 word_of (Step (step.Wake _)) = codes "wake"
 word_of (Step step.TryTick) = codes "trytick"
+word_of (Step step.TryAny) = codes "tryany"
 word_of (Step (step.Pend _)) = codes "pend"
 word_of (Step (step.Ready _ _)) = codes "ready"
 word_of (Step (step.PollHandle _)) = codes "pollhandle"
@@ -47,6 +48,7 @@ numbers_of Show = []
 numbers_of (Step (step.Spawn _)) = []
 numbers_of (Step (step.Wake n)) = n ∷ []
 numbers_of (Step step.TryTick) = []
+numbers_of (Step step.TryAny) = []
 numbers_of (Step (step.Pend n)) = n ∷ []
 numbers_of (Step (step.Ready n output)) = n ∷ output ∷ []
 numbers_of (Step (step.PollHandle n)) = n ∷ []
@@ -96,6 +98,13 @@ spaced numbers = flat_map (λ n. 32 ∷ decimal n) numbers
 -- a command is written as its word, and its numbers behind it
 abbrev pub line_of : Command → List ℕ
 line_of command = word_of command ++ spaced (numbers_of command)
+
+-- a line of limits: for how many tasks the queue of a run has room
+abbrev pub local_word : List ℕ
+local_word = codes "local"
+
+abbrev pub local_line : ℕ → List ℕ
+local_line places = local_word ++ spaced (places ∷ [])
 
 -- the numbers have 64 bits
 abbrev pub AreInRange : List ℕ → Type 0

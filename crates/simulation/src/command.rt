@@ -5,7 +5,7 @@
 ghost use Rattle.std.specs.Prelude.{◌≡◌, ◌<◌, ◌^◌, ◌++◌, ◌∷◌, ◌↔◌, ℕ, List, [], IfSome, IsSomeAnd, IsTrue, Some, true};
 ghost use Rattle.std.specs.Fmt.{decimal};
 ghost use Rattle.executor_core.specs.declared.interleave.request.Step.{Step};
-ghost use Rattle.simulation.specs.Grammar.{numbers_of, line_of, is_of_ticker, spaced, listed, AreInRange, IsWord, IsWritten, IsPlain};
+ghost use Rattle.simulation.specs.Grammar.{numbers_of, line_of, local_word, local_line, is_of_ticker, spaced, listed, AreInRange, IsWord, IsWritten, IsPlain};
 ghost use Rattle.simulation.specs.declared.command.Arguments.{Arguments};
 ghost use Rattle.simulation.specs.declared.command.Arguments.TheVariants.{Two};
 ghost use Rattle.simulation.specs.declared.command.Command.TheVariants.{Step as AsStep};
@@ -37,6 +37,29 @@ pub fn command_of(line: &[u8]) -> Option<Command>
     command_from(word, arguments)
 }
 
+/// The number of places for which a line of limits asks. `None` where the line is no such one.
+pub fn local_of(line: &[u8]) -> Option<u64>
+    ensures found { IfSome result (λ places. line.now ≡ local_line places) }
+    ensures read { (places : ℕ) → places < 2 ^ 64 → line.now ≡ local_line places → result ≡ Some places }
+{
+    let (word, arguments) = split_line(line)?;
+    places_of(word, arguments)
+}
+
+// The number behind the word of such a line.
+fn places_of(word: &str, arguments: Arguments) -> Option<u64>
+    ensures found { IfSome result (λ places. (word.now ≡ local_word) × (listed arguments ≡ places ∷ [])) }
+    ensures read { (places : ℕ) → word.now ≡ local_word → listed arguments ≡ places ∷ [] → result ≡ Some places }
+{
+    match arguments {
+        Arguments::One(places) => match word {
+            "local" => Some(places),
+            _ => None,
+        },
+        Arguments::None | Arguments::Two(_, _) => None,
+    }
+}
+
 // The command of a word and its arguments.
 fn command_from(word: &str, arguments: Arguments) -> Option<Command>
     ensures found { IfSome result (IsWritten word.now (listed arguments)) }
@@ -59,6 +82,7 @@ fn command_alone(word: &str) -> Option<Command>
         "show" => return Some(Command::Show),
         "spawn" => Step::Spawn(()),
         "trytick" => Step::TryTick,
+        "tryany" => Step::TryAny,
         "exchange" => Step::Exchange,
         "notify" => Step::Notify,
         "tick" => Step::Tick,

@@ -1,14 +1,16 @@
 //! A run over all lines of an input.
 //!
-//! The reader's buffer, the world and the writer's buffer are made before the first line is read.
-//! Replies wait in the writer's buffer, which is written out at the end, however the run ends. Once
-//! a write failed, nothing more is written.
+//! The reader's buffer and the writer's buffer are made before the first line is read, and the world
+//! once that was read and found right, since it may say for how many tasks the queue of a run has
+//! room. Replies wait in the writer's buffer, which is written out at the end, however the run ends.
+//! Once a write failed, nothing more is written.
 ghost use Rattle.std.specs.Prelude.{◌<◌};
 
-use crate::command::{Command, command_of};
+use crate::command::{Command, command_of, local_of};
 use crate::lines::{LINE_LIMIT, Lines};
 use crate::reply::{ReplyText, StateText};
 use executor_core::interleave::World;
+use executor_core::limits::{Limits, NewError};
 use executor_core::task::OutOfMemory;
 use std::alloc::Global;
 use std::io::{self, BufWriter, Read, Write};
@@ -24,22 +26,25 @@ enum Ending {
     OutOfMemory = 2,
     ReadFailed = 3,
     WriteFailed = 4,
+    BadLimits = 5,
 }
 
 #[derive(Drop)]
 struct Simulation<R, W: Write + Drop> {
+    alloc: Global,
     lines: Lines<R>,
-    world: World<(), u64>,
     replies: BufWriter<W>,
 }
 
 /// Runs each line of the reader as a step of a new world, and writes a line of reply to each. The
+/// first line may be `local l` in place of a step, for runs whose queues have room for l tasks. The
 /// answer is the exit status: 0 at the end of the input; 1 after `bad line k` for the first line
 /// that is no step, k counted from 1, and nothing after it is read; 2 after `out of memory`, where
 /// no world, reader or writer could be made; 3 after `read failed`; 4 where a write failed, and
-/// nothing more was written.
+/// nothing more was written; 5 after `bad limits`, where a queue cannot have room for l tasks, and
+/// nothing after that line is read.
 pub fn run_lines<R: Read + Drop, W: Write + Drop>(alloc: Global, reader: R, mut writer: W) -> u8
-    ensures { result < 5 }
+    ensures { result < 6 }
 {
     let Ok(simulation) = Simulation::new(alloc, reader, &mut writer) else {
         return refuse(&mut writer) as u8;
@@ -58,14 +63,10 @@ fn refuse<W: Write>(writer: &mut W) -> Ending {
 
 impl<R: Read + Drop, W: Write + Drop> Simulation<R, W> {
     fn new(alloc: Global, reader: R, writer: W) -> Result<Self, OutOfMemory> {
-        match (
-            Lines::new(alloc, reader),
-            World::new(alloc, STEP_LIMIT),
-            BufWriter::new(alloc, writer),
-        ) {
-            (Ok(lines), Ok(world), Ok(replies)) => Ok(Simulation {
+        match (Lines::new(alloc, reader), BufWriter::new(alloc, writer)) {
+            (Ok(lines), Ok(replies)) => Ok(Simulation {
+                alloc,
                 lines,
-                world,
                 replies,
             }),
             _ => Err(OutOfMemory),
@@ -74,11 +75,7 @@ impl<R: Read + Drop, W: Write + Drop> Simulation<R, W> {
 
     fn run(mut self) -> Ending {
         let ending = self.answer_and_flush();
-        let Simulation {
-            lines: _,
-            world: _,
-            replies,
-        } = self;
+        let Simulation { replies, .. } = self;
         // What a failed write left in the buffer isn't tried again.
         let (_, _) = replies.into_parts();
         ending
@@ -93,7 +90,35 @@ impl<R: Read + Drop, W: Write + Drop> Simulation<R, W> {
 
     // Answers the lines in order, up to the first that is bad. An error is that of a write.
     fn answer_lines(&mut self) -> io::Result<Ending> {
-        for number in 1..u64::MAX {
+        let line = match self.lines.next_line() {
+            Ok(Some(line)) => line,
+            Ok(None) => return Ok(Ending::EndOfInput),
+            Err(_) => return end_at_failure(&mut self.replies),
+        };
+        let places = local_of(line);
+        let first = command_within(line);
+        let limits = match (places, &first) {
+            (Some(places), _) => limits_of(places),
+            (None, Some(_)) => Limits::default(),
+            (None, None) => return end_at_bad_line(&mut self.replies, 1),
+        };
+        match World::new_with(self.alloc, STEP_LIMIT, limits) {
+            Ok(world) => self.answer_in(world, first),
+            Err(error) => end_without_world(&mut self.replies, error),
+        }
+    }
+
+    // Answers the first line, and then the others. It is no command where it said the limits.
+    fn answer_in(
+        &mut self,
+        mut world: World<(), u64>,
+        first: Option<Command>,
+    ) -> io::Result<Ending> {
+        match first {
+            Some(command) => answer(&mut world, &mut self.replies, command)?,
+            None => self.replies.write_all(b"done\n")?,
+        }
+        for number in 2..u64::MAX {
             let line = match self.lines.next_line() {
                 Ok(Some(line)) => line,
                 Ok(None) => return Ok(Ending::EndOfInput),
@@ -101,12 +126,11 @@ impl<R: Read + Drop, W: Write + Drop> Simulation<R, W> {
                 Err(_) => break,
             };
             match command_within(line) {
-                Some(command) => answer(&mut self.world, &mut self.replies, command)?,
+                Some(command) => answer(&mut world, &mut self.replies, command)?,
                 None => return end_at_bad_line(&mut self.replies, number),
             }
         }
-        self.replies.write_all(b"read failed\n")?;
-        Ok(Ending::ReadFailed)
+        end_at_failure(&mut self.replies)
     }
 }
 
@@ -116,6 +140,14 @@ fn command_within(line: &[u8]) -> Option<Command> {
         None
     } else {
         command_of(line)
+    }
+}
+
+// Those of runs whose queues have room for so many tasks.
+fn limits_of(places: u64) -> Limits {
+    Limits {
+        local: places as usize,
+        ..Limits::default()
     }
 }
 
@@ -134,4 +166,26 @@ fn answer<W: Write + Drop>(
 fn end_at_bad_line<W: Write + Drop>(replies: &mut BufWriter<W>, number: u64) -> io::Result<Ending> {
     writeln!(replies, "bad line {number}")?;
     Ok(Ending::BadLine)
+}
+
+fn end_at_failure<W: Write + Drop>(replies: &mut BufWriter<W>) -> io::Result<Ending> {
+    replies.write_all(b"read failed\n")?;
+    Ok(Ending::ReadFailed)
+}
+
+// Says why there is no world.
+fn end_without_world<W: Write + Drop>(
+    replies: &mut BufWriter<W>,
+    error: NewError,
+) -> io::Result<Ending> {
+    match error {
+        NewError::BadLimits => {
+            replies.write_all(b"bad limits\n")?;
+            Ok(Ending::BadLimits)
+        }
+        NewError::OutOfMemory => {
+            replies.write_all(b"out of memory\n")?;
+            Ok(Ending::OutOfMemory)
+        }
+    }
 }

@@ -1,6 +1,7 @@
 -- The table of decisions of a run: by what its machine waits for and the reply, what it asks for next and keeps.
-use Rattle.std.specs.Prelude.{◌≡◌, ℕ, ◌+◌, ◌==◌, nat_lt, Some, None, cond}
+use Rattle.std.specs.Prelude.{◌≡◌, ℕ, ◌==◌, Some, None, cond}
 use Rattle.executor_core.specs.declared.task.values.Taken.{Taken}
+use Rattle.async_executor.specs.Runs.Counts.{goes_on, more, anew}
 use Rattle.async_executor.specs.Ticks.Decisions as ticks
 use Rattle.async_executor.specs.declared.machine.run.Aim.{Aim}
 use Rattle.async_executor.specs.declared.machine.run.Aim.TheVariants.{Work, PassOn, Leave}
@@ -24,13 +25,6 @@ use Rattle.async_executor.specs.declared.machine.tick.TickEnd.TheVariants.{Yield
 use Rattle.async_executor.specs.declared.machine.tick.TickMachine.{TickMachine}
 use Rattle.async_executor.specs.declared.machine.tick.TickNext.{TickNext}
 use Rattle.async_executor.specs.declared.machine.tick.TickNext.TheVariants as decided
-
--- the tasks of a turn, and those from one fair part to the next
-abbrev pub turn : ℕ
-turn = 200
-
-abbrev pub fair : ℕ
-fair = 64
 
 module _ {W : Type 0} where
   abbrev pub ask : Runner → RunState → RunAction W → RunNext W
@@ -59,12 +53,12 @@ module _ {W : Type 0} where
   -- one task more was run: after the last of a turn it yields
   abbrev pub after_task : Runner → RunNext W
   after_task runner =
-      cond (nat_lt (runner.count + 1) turn) (searching (record runner { count = runner.count + 1 }) 0) (run_rest (record runner { count = 0 }) (stage.Joined 0) Yield)
+      cond (goes_on runner.count) (searching (record runner { count = more runner.count }) 0) (run_rest (record runner { count = anew runner.count }) (stage.Joined 0) Yield)
 
   -- one task more was found: with the last one of so many it takes its fair part first, and counts anew
   abbrev pub found : Runner → TickMachine → Taken (Unit {0}) → RunNext W
   found runner machine taken =
-      cond (nat_lt (runner.found + 1) fair) (ask (record runner { found = runner.found + 1 }) (Ticking Work machine) (asks.Tick (Run taken))) (ask (record runner { found = 0 }) (Sharing machine taken) asks.Fair)
+      cond (goes_on runner.found) (ask (record runner { found = more runner.found }) (Ticking Work machine) (asks.Tick (Run taken))) (ask (record runner { found = anew runner.found }) (Sharing machine taken) asks.Fair)
 
   -- what comes of the decision of a tick that acts for the run
   abbrev pub working : Runner → TickNext W → RunNext W

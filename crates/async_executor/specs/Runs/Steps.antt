@@ -1,8 +1,8 @@
 -- Which steps of a run a reply stands for.
-use Rattle.std.specs.Prelude.{ℕ, ◌+◌, nat_lt, Bool, true, cond, Some, None}
+use Rattle.std.specs.Prelude.{ℕ, Bool, true, cond, Some, None}
 use Rattle.executor_core.specs.World.Tickers.{at_rest, in_leaving, is_awake, polled, ended, left}
 use Rattle.executor_core.specs.declared.interleave.ticker.Ticker.{Ticker}
-use Rattle.async_executor.specs.Runs.Decisions.{turn}
+use Rattle.async_executor.specs.Runs.Counts.{Counted, goes_on}
 use Rattle.async_executor.specs.Ticks.Courses.{Seeking, Departing, ends}
 use Rattle.async_executor.specs.Ticks.Steps as ticks
 use Rattle.async_executor.specs.declared.machine.run.Aim.TheVariants.{Work, PassOn, Leave}
@@ -19,19 +19,19 @@ abbrev pub left_awake : Ticker → Ticker
 left_awake t = cond (is_awake t) (ended t) t
 
 -- a task was run: the run is polled again, and searches, but after the last task of a turn
-abbrev pub ran : ℕ → Ticker → Ticker
-ran count t = cond (nat_lt (count + 1) turn) (polled t) t
+abbrev pub ran : Counted → Ticker → Ticker
+ran count t = cond (goes_on count) (polled t) t
 
 module _ {W : Type 0} where
   -- the steps of the tick that acts for it
-  abbrev pub worked : ℕ → tick.TickState → TickReply W → Ticker → Ticker
+  abbrev pub worked : Counted → tick.TickState → TickReply W → Ticker → Ticker
   worked count state reply t = cond (ends Seeking reply) (ran count t) (ticks.leads state reply t)
 
   -- its notice is spent, and then it is dropped
   abbrev pub passed_on : TickReply W → Ticker → Ticker
   passed_on reply t = cond (ends Departing reply) (left_awake t) t
 
-  abbrev pub ticked : ℕ → RunState → TickReply W → Ticker → Ticker
+  abbrev pub ticked : Counted → RunState → TickReply W → Ticker → Ticker
   ticked count (Ticking Work machine) reply t = worked count machine.state reply t
   ticked count (Ticking (PassOn number) machine) reply t = passed_on reply t
   ticked count (Ticking Leave machine) reply t = ticks.leads machine.state reply t

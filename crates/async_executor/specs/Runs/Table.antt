@@ -1,13 +1,13 @@
 -- The table of a run, keyed by the reply, over that of a tick: what the reply answers, what is asked
 -- next or how the poll ends, what is kept then, and what the steps of a world make of the ticker.
-use Rattle.std.specs.Prelude.{ℕ, ◌+◌, ◌==◌, nat_lt, Bool, true, false, Option, Some, None, cond, is_some, unwrap_or}
+use Rattle.std.specs.Prelude.{ℕ, ◌==◌, Bool, true, false, Option, Some, None, cond, is_some, unwrap_or}
 use Rattle.executor_core.specs.World.Tickers.{polled, ended, left}
 use Rattle.executor_core.specs.declared.interleave.ticker.Ticker.{Ticker}
 use Rattle.executor_core.specs.declared.task.values.Taken.{Taken}
 use Rattle.async_executor.specs.Ticks.{Asked, AskStart, AskRun}
 use Rattle.async_executor.specs.Ticks.Table as tick
 use Rattle.async_executor.specs.Runs.{RunAsked, AskFirst, AskRegister, AskOwn, AskTick, AskFair, AskUnregister, AskRelease}
-use Rattle.async_executor.specs.Runs.Decisions.{turn, fair}
+use Rattle.async_executor.specs.Runs.Counts.{Counted, goes_on, more, anew}
 use Rattle.async_executor.specs.declared.machine.run.RunAction.{RunAction}
 use Rattle.async_executor.specs.declared.machine.run.RunAction.TheVariants as asks
 use Rattle.async_executor.specs.declared.machine.run.RunReply.{RunReply}
@@ -17,12 +17,12 @@ use Rattle.async_executor.specs.declared.machine.tick.TickEnd.{TickEnd}
 use Rattle.async_executor.specs.declared.machine.tick.TickEnd.TheVariants.{Yield, Return}
 use Rattle.async_executor.specs.declared.machine.tick.TickReply.TheVariants.{Ran}
 
--- what a machine keeps: what its tick keeps, or its number; how many tasks it ran in this turn, and how many it found since its last fair part; whether
+-- what a machine keeps: what its tick keeps, or its number; how many tasks it ran in this turn, and how many it found since its last fair part, each with its limit; whether
 -- its runner is registered; and, while the notice of its ended queue is spent, the number that it removes after that
 pub record Kept : Type 0 where
   pub tick : tick.Kept
-  pub count : ℕ
-  pub found : ℕ
+  pub count : Counted
+  pub found : Counted
   pub registered : Bool
   pub later : Option ℕ
 
@@ -59,9 +59,9 @@ module _ {W : Type 0} where
   -- a task that was found is run, and with the last one of so many a fair part is taken before
   abbrev pub find : RunAsked → Kept → Taken (Unit {0}) → (Ticker → Ticker) → Row W
   find asked k taken step =
-      cond (nat_lt (k.found + 1) fair)
-      (row asked (Ask (asks.Tick (Run taken))) (record k { found = k.found + 1 }) step)
-      (row asked (Ask asks.Fair) (record k { tick = record k.tick { task = Some taken }; found = 0 }) step)
+      cond (goes_on k.found)
+      (row asked (Ask (asks.Tick (Run taken))) (record k { found = more k.found }) step)
+      (row asked (Ask asks.Fair) (record k { tick = record k.tick { task = Some taken }; found = anew k.found }) step)
 
   abbrev pub run_shared : Kept → Option (Taken (Unit {0})) → Row W
   run_shared k (Some taken) = row (AskFair AskRun) (Ask (asks.Tick (Run taken))) (record k { tick = tick.nothing }) (λ t. t)
@@ -87,9 +87,9 @@ module _ {W : Type 0} where
   table asked k OwnPending = row AskOwn (Ask (asks.Tick (Search None))) k polled
   table asked k OwnReady = row AskOwn (Ask asks.Unregister) k (λ t. t)
   table asked k (Tick Ran) =
-      cond (nat_lt (k.count + 1) turn)
-      (row (AskTick AskRun) (Ask (asks.Tick (Search None))) (record k { tick = tick.nothing; count = k.count + 1 }) polled)
-      (row (AskTick AskRun) (End Yield) (record k { tick = tick.nothing; count = 0 }) (λ t. t))
+      cond (goes_on k.count)
+      (row (AskTick AskRun) (Ask (asks.Tick (Search None))) (record k { tick = tick.nothing; count = more k.count }) polled)
+      (row (AskTick AskRun) (End Yield) (record k { tick = tick.nothing; count = anew k.count }) (λ t. t))
   table asked k (Tick reply) = of_row k (tick.table (of_tick asked) k.tick reply)
   table asked k Moved = run_shared k k.tick.task
   table asked k (Unregistered (Some notice)) = row AskUnregister (Ask (asks.Tick (Exchange notice))) (record (left_with k 0) { later = Some k.tick.number }) left

@@ -1,6 +1,5 @@
 -- The turn of a run: how many tasks it runs before it yields.
 use Rattle.std.specs.Prelude.{◌≡◌, ◌<◌, ℕ, ◌+◌, ◌==◌, cond}
-use Rattle.async_executor.specs.Runs.Decisions.{turn}
 use Rattle.async_executor.specs.Ticks.{Asked, AskRun}
 use Rattle.async_executor.specs.Ticks as ticks
 use Rattle.async_executor.specs.declared.machine.run.RunState.{RunState}
@@ -23,7 +22,7 @@ under_way_in _ = 0
 
 -- how many tasks of its turn were run, with the one that is being run
 abbrev pub begun : RunMachine → ℕ
-begun machine = machine.runner.count + under_way_in machine.state
+begun machine = machine.runner.count.counted + under_way_in machine.state
 
 module _ {W : Type 0} where
   -- how many tasks an action runs
@@ -31,10 +30,12 @@ module _ {W : Type 0} where
   runs_in (asks.Tick (Run taken)) = 1
   runs_in _ = 0
 
-  -- from so many that were begun: each task that is run counts once, and a turn that is full ends with a rest
-  abbrev pub TurnFrom : ℕ → RunNext W → Type 0
-  TurnFrom before (Act machine action) = (machine.runner.count < turn) × (begun machine ≡ before + runs_in action)
-  TurnFrom before (Rest rest end) = (rest.runner.count < turn) × (rest.runner.count ≡ cond (before == turn) 0 before)
+  -- from so many that were begun in a turn of so many: each task that is run counts once, and a turn that is full ends with a rest
+  abbrev pub TurnFrom : ℕ → ℕ → RunNext W → Type 0
+  TurnFrom turn before (Act machine action) =
+      (machine.runner.count.limit ≡ turn) × (machine.runner.count.counted < turn) × (begun machine ≡ before + runs_in action)
+  TurnFrom turn before (Rest rest end) =
+      (rest.runner.count.limit ≡ turn) × (rest.runner.count.counted < turn) × (rest.runner.count.counted ≡ cond (before == turn) 0 before)
 
   abbrev pub TurnGoesOn : RunMachine → RunNext W → Type 0
-  TurnGoesOn machine next = TurnFrom (begun machine) next
+  TurnGoesOn machine next = TurnFrom machine.runner.count.limit (begun machine) next

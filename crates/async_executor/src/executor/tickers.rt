@@ -88,8 +88,8 @@ where
     type Output = G::Output;
 
     /// Polls the own future, and is ready with its output where that is. Else runs tasks until none
-    /// is left, or 200 were run since it yielded last. Where none is left, a copy of the waker is
-    /// kept, in place of an earlier one, and is woken once there may be a task. After 200 tasks, or
+    /// is left, or a whole turn was run since it yielded last. Where none is left, a copy of the waker
+    /// is kept, in place of an earlier one, and is woken once there may be a task. After a turn, or
     /// where the copy is refused, the waker itself is woken. A run that was ready wakes it and is
     /// pending, and does nothing more.
     ///

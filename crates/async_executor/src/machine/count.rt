@@ -1,56 +1,52 @@
-//! How many tasks a run ran in its turn.
-ghost use Rattle.std.specs.Prelude.{◌≡◌, ◌+◌, ◌<◌, nat_lt, cond, Some, None};
-ghost use Rattle.async_executor.specs.Runs.Decisions.{turn};
+//! How many tasks a run ran in its turn, or found since its last fair part.
+ghost use Rattle.std.specs.Prelude.{◌≡◌, ◌<◌, true, false, cond};
+ghost use Rattle.async_executor.specs.Runs.Counts.{up_to, goes_on, more, anew, CountsEach};
 
-use crate::limits::TURN;
 use std::marker::Model;
 
-/// One more than so many, or none if that is the limit: then it is counted anew.
-#[inline(always)]
-pub(in crate::machine) fn count_up(count: u32, limit: u32) -> Option<u32>
-    requires { 0 < limit }
-    ensures { result ≡ cond (nat_lt (count + 1) limit) (Some (count + 1)) None }
-{
-    if count >= limit - 1 {
-        return None;
-    }
-    Some(count + 1)
-}
-
-/// The count of the tasks that were run in a turn. The last one ends the turn, so it is below those
-/// of a whole turn.
+/// A count up to a limit. The last one of so many begins it anew, so it is below that limit.
 #[derive(Debug, Clone, Copy, PartialEq, Eq)]
 pub(crate) struct Count {
-    tasks: u32,
+    counted: u32,
+    limit: u32,
 }
 
 impl Model for Count {
-    ghost use Rattle.std.specs.Prelude.{ℕ, ◌<◌};
+    ghost use Rattle.std.specs.Prelude.{◌<◌};
+    ghost use Rattle.async_executor.specs.Runs.Counts.{Counted, counted_code};
 
-    ghost Value = { ℕ };
+    ghost Value = { Counted };
 
-    ghost view = { λ c. c.tasks };
+    ghost coded = { counted_code };
 
-    ghost invariant = { λ c. c.tasks < 200 };
+    ghost view = { λ c. record { counted = c.counted; limit = c.limit } };
 
-    ghost inverse = { λ n. record { tasks = n } };
+    ghost invariant = { λ c. c.counted < c.limit };
+
+    ghost inverse = { λ d. record { counted = d.counted; limit = d.limit } };
 }
 
 impl Count {
-    /// That of a turn that begins.
+    /// One that begins.
     #[inline(always)]
-    pub(in crate::machine) fn zero() -> Count
-        ensures { result ≡ 0 }
+    pub(in crate::machine) fn up_to(limit: u32) -> Count
+        requires { 0 < limit }
+        ensures { result ≡ up_to limit }
     {
-        Count { tasks: 0 }
+        Count { counted: 0, limit }
     }
 
-    /// The same after one task more was run, or none if that was the last of its turn.
+    /// The same after one more, and whether that was the last of so many.
     #[inline(always)]
-    pub(in crate::machine) fn more(self) -> Option<Count>
-        ensures { result ≡ cond (nat_lt (self + 1) turn) (Some (self + 1)) None }
+    pub(in crate::machine) fn one_more(self) -> (Count, bool)
+        ensures counted { result ≡ cond (goes_on self) (more self, false) (anew self, true) }
+        ensures each { CountsEach self result.0 result.1 }
     {
-        let tasks = count_up(self.tasks, TURN)?;
-        Some(Count { tasks })
+        let Count { counted, limit } = self;
+        let counted = counted + 1;
+        if counted < limit {
+            return (Count { counted, limit }, false);
+        }
+        (Count { counted: 0, limit }, true)
     }
 }

@@ -12,9 +12,12 @@
 //!
 //! The table of decisions is `specs/Runs/Table.antt`, keyed by the reply. `specs/Runs/Decisions.antt`
 //! has it keyed by what the machine waits for.
-ghost use Rattle.std.specs.Prelude.{◌≡◌, ◌+◌, ◌<◌, nat_lt, cond, Bool, true, false, Ok, Err, Some, None};
-ghost use Rattle.async_executor.specs.Runs.{answers, asked, asked_in, has_ended, store_asked, store_after, AskFirst, IsAsked, IsFitNext};
-ghost use Rattle.async_executor.specs.Runs.Decisions.{turn, fair, ask, run_rest, run_ended, searching, dropping, after_task, found, working, passing_on, leaving, resumed, Decides};
+ghost use Rattle.std.specs.Prelude.{◌≡◌, cond, Bool, true, false, Ok, Err, Some, None};
+ghost use Rattle.executor_core.specs.Limits.{is_lawful, default_limits};
+ghost use Rattle.async_executor.specs.Runs.{answers, asked, asked_in, has_ended, new_rest, store_asked, store_after, AskFirst, IsAsked, IsFitNext};
+ghost use Rattle.async_executor.specs.Runs.Counts.{goes_on, more, anew};
+ghost use Rattle.async_executor.specs.Runs.Decisions.{ask, run_rest, run_ended, searching, dropping, after_task, found, working, passing_on, leaving, resumed, Decides};
+ghost use Rattle.async_executor.specs.Runs.Fairs.{HasFound, FairGoesOn};
 ghost use Rattle.async_executor.specs.Runs.Rows.{IsRow};
 ghost use Rattle.async_executor.specs.Runs.Steps.{leads, may_lead};
 ghost use Rattle.async_executor.specs.Runs.Tickers.{ticker_of, ticker_after, rest_ticker};
@@ -22,8 +25,7 @@ ghost use Rattle.async_executor.specs.Runs.Turns.{TurnGoesOn};
 ghost use Rattle.async_executor.specs.Ticks as ticks;
 ghost use Rattle.async_executor.specs.declared.machine.tick.LeavingState.TheVariants as LeavingState;
 
-use crate::limits::FAIR;
-use crate::machine::count::{Count, count_up};
+use crate::machine::count::Count;
 use crate::machine::run_steps;
 use crate::machine::run_steps::{Begun, Dropped};
 use crate::machine::tick::{TickAction, TickEnd, TickMachine, TickNext, TickReply, TickRest};
@@ -33,6 +35,7 @@ use RunState::{
     PollingOwn, Registering, Releasing, Resting, Sharing, Starting, Ticking, Unregistering,
 };
 use Stage::{Ended, Joined, New};
+use executor_core::limits::Limits;
 use executor_core::queue::RunnerKey;
 use executor_core::task::{Notice, Taken};
 
@@ -49,7 +52,7 @@ pub struct RunRest {
 pub(crate) struct Runner {
     key: RunnerKey,
     count: Count,
-    found: u32,
+    found: Count,
 }
 
 impl Runner {
@@ -65,36 +68,22 @@ impl Runner {
     /// the next one.
     #[inline(always)]
     pub(in crate::machine) fn ran(self) -> Result<Runner, Runner>
-        ensures { result ≡ cond (nat_lt (self.count + 1) turn) (Ok (record self { count = self.count + 1 })) (Err (record self { count = 0 })) }
+        ensures { result ≡ cond (goes_on self.count) (Ok (record self { count = more self.count })) (Err (record self { count = anew self.count })) }
     {
         let Runner { key, count, found } = self;
-        match count.more() {
-            Some(count) => Ok(Runner { key, count, found }),
-            None => Err(Runner {
-                key,
-                count: Count::zero(),
-                found,
-            }),
-        }
+        let (count, is_last) = count.one_more();
+        let runner = Runner { key, count, found };
+        if is_last { Err(runner) } else { Ok(runner) }
     }
 
     /// The same after one task more was found, and whether it takes its fair part before that runs.
     #[inline(always)]
     pub(in crate::machine) fn found(self) -> (Runner, bool)
-        ensures { result ≡ cond (nat_lt (self.found + 1) fair) (record self { found = self.found + 1 }, false) (record self { found = 0 }, true) }
+        ensures { result ≡ cond (goes_on self.found) (record self { found = more self.found }, false) (record self { found = anew self.found }, true) }
     {
         let Runner { key, count, found } = self;
-        match count_up(found, FAIR) {
-            Some(found) => (Runner { key, count, found }, false),
-            None => (
-                Runner {
-                    key,
-                    count,
-                    found: 0,
-                },
-                true,
-            ),
-        }
+        let (found, is_fair) = found.one_more();
+        (Runner { key, count, found }, is_fair)
     }
 }
 
@@ -351,14 +340,25 @@ pub struct RunMachine {
 }
 
 impl RunMachine {
-    /// The rest of a run that was never polled.
+    /// The rest of a run that was never polled, with the limits of an executor to which none were
+    /// handed in.
     pub fn new(key: RunnerKey) -> RunRest
-        ensures { result ≡ record { runner = record { key = key; count = 0; found = 0 }; stage = Stage.New } }
+        ensures { result ≡ new_rest key default_limits }
+    {
+        RunMachine::new_with(key, Limits::default())
+    }
+
+    /// The same with these limits. Its turns are of so many tasks, and it takes a fair part with each
+    /// so many-th task that it finds. The places of its queue are none of its business.
+    pub fn new_with(key: RunnerKey, limits: Limits) -> RunRest
+        requires { is_lawful limits ≡ true }
+        ensures rest { result ≡ new_rest key limits }
+        ensures found { HasFound limits.fair 0 result.runner }
     {
         let runner = Runner {
             key,
-            count: Count::zero(),
-            found: 0,
+            count: Count::up_to(limits.turn),
+            found: Count::up_to(limits.fair),
         };
         RunRest::of_new(runner)
     }
@@ -390,6 +390,7 @@ impl RunMachine {
         ensures enabled { (notified : Bool) → may_lead self reply (ticker_of notified self) ≡ true }
         ensures table { IsRow self reply result }
         ensures turn { TurnGoesOn self result }
+        ensures fair { FairGoesOn self result }
     {
         let RunMachine { runner, state } = self;
         match state {

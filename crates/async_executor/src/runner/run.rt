@@ -5,10 +5,10 @@
 //! in one change. Where the end leaves something to drop or to wake, that is done first, and the
 //! search is a change of its own.
 ghost use Rattle.std.specs.Prelude.{◌≡◌, [], true, false, Some, None, IsTrue, IfErr};
-ghost use Rattle.async_executor.specs.declared.machine.run.Stage.TheVariants as Stage;
+ghost use Rattle.executor_core.specs.Limits.{is_lawful};
 ghost use Rattle.async_executor.specs.RunError.{run_cause, run_future};
 ghost use Rattle.async_executor.specs.Answers.{is_ready};
-ghost use Rattle.async_executor.specs.Runs.{has_ended, ids_in};
+ghost use Rattle.async_executor.specs.Runs.{has_ended, ids_in, new_rest};
 ghost use Rattle.async_executor.specs.LeftOver.{IsHeldRight};
 
 use crate::changes;
@@ -22,6 +22,7 @@ use crate::runner::words::Words;
 use crate::scheduler::{ExecutorIn, poll_taken};
 use crate::state::{announce, cells};
 use crate::ticker::{Slept, announce_found, leave, sleep};
+use executor_core::limits::Limits;
 use executor_core::queue::{Ring, RunnerError, RunnerKey};
 use executor_core::task::{Again, Future, Notice, Poll, Ran, Taken, TaskId, Wake};
 use std::sync::Wait;
@@ -78,16 +79,19 @@ struct Own<G> {
 }
 
 impl<'a, H: Home, G: Future<H::Waker>> RunIn<'a, H, G> {
-    /// A run that was never polled. It has reserved places among the sleepers and the runners, and
-    /// the empty queue of its runner.
+    /// A run that was never polled, with these limits. It has reserved places among the sleepers and
+    /// the runners, and the empty queue of its runner.
     pub(crate) fn new(
         executor: &'a ExecutorIn<H>,
         key: RunnerKey,
+        limits: Limits,
         ring: Ring,
         future: G,
     ) -> RunIn<'a, H, G>
-        requires { ring.ids ≡ [] }
-        ensures { result.rest ≡ record { runner = record { key = key; count = 0; found = 0 }; stage = Stage.New } }
+        requires empty { ring.ids ≡ [] }
+        requires lawful { is_lawful limits ≡ true }
+        ensures rest { result.rest ≡ new_rest key limits }
+        ensures ring { result.own.ring ≡ Some ring }
     {
         let own = Own {
             future: Some(future),
@@ -96,7 +100,7 @@ impl<'a, H: Home, G: Future<H::Waker>> RunIn<'a, H, G> {
         };
         RunIn {
             executor,
-            rest: RunMachine::new(key),
+            rest: RunMachine::new_with(key, limits),
             own,
         }
     }
@@ -299,8 +303,8 @@ impl<H: Home, G: Future<H::Waker>> Future<H::Waker> for RunIn<'_, H, G> {
     type Output = G::Output;
 
     /// Polls the own future, and is ready with its output where that is. Else runs tasks until none
-    /// is left, or 200 were run since it yielded last. Where none is left, a copy of the waker is
-    /// kept, in place of an earlier one, and is woken once there may be a task. After 200 tasks, or
+    /// is left, or a whole turn was run since it yielded last. Where none is left, a copy of the waker
+    /// is kept, in place of an earlier one, and is woken once there may be a task. After a turn, or
     /// where the copy is refused, the waker itself is woken. A run that was ready wakes it and is
     /// pending, and does nothing more.
     fn poll(&mut self, w: &H::Waker) -> Poll<G::Output>

@@ -1,6 +1,7 @@
 //! Whole runs over readers and writers in memory, which may fail.
 mod closing;
 mod leaking;
+mod limits;
 mod runs;
 mod tickers;
 
@@ -244,7 +245,7 @@ fn runs_print_their_replies_however_the_input_is_cut(rt: HostRuntime) {
     }
 }
 
-const NO_STEPS: [&[u8]; 44] = [
+const NO_STEPS: [&[u8]; 49] = [
     b"",
     b"\r",
     b"spwan",
@@ -256,6 +257,7 @@ const NO_STEPS: [&[u8]; 44] = [
     b"spawn 0",
     b"spawnspawn",
     b"trytick 0",
+    b"tryany 0",
     b"show ",
     b"show 0",
     b"\xef\xbb\xbfspawn",
@@ -289,6 +291,10 @@ const NO_STEPS: [&[u8]; 44] = [
     b"tick 0",
     b"close 0",
     b"leak 0",
+    b"local",
+    b"local ",
+    b"local 01",
+    b"local 1 1",
 ];
 
 // What is written where such a line comes third.
@@ -387,14 +393,15 @@ const NEW: &[u8] =
     b"global [] locals [] flag true numbers 0 notified 0 notices 0 picks 0 undropped 0\n";
 
 // The status of a run of a hundred thousand steps and one more, and whether each has its reply. What
-// is not enabled counts as no step.
+// is not enabled counts as no step, and neither does the line of limits.
 fn run_past_the_limit(alloc: Global) -> Result<(u8, bool), Fail> {
     let steps: [(&[u8], usize); 3] = [
-        (b"show\npend 0\n", 1),
+        (b"local 1\nshow\npend 0\n", 1),
         (b"trytick\n", 100_000),
         (b"pend 0\nshow\n", 1),
     ];
-    let replies: [(&[u8], usize); 5] = [
+    let replies: [(&[u8], usize); 6] = [
+        (b"done\n", 1),
         (NEW, 1),
         (b"not now\n", 1),
         (b"none\n", 100_000),

@@ -1,5 +1,6 @@
 //! The order of a lone runner.
 use executor_core::interleave::{Reply, Step, World};
+use executor_core::limits::Limits;
 use std::alloc::Global;
 use std::process::Abort;
 use std::test::Fail;
@@ -13,9 +14,9 @@ struct Stretch {
 }
 
 impl Stretch {
-    fn new(alloc: Global) -> Result<Stretch, Fail> {
+    fn new(alloc: Global, limits: Limits) -> Result<Stretch, Fail> {
         Ok(Stretch {
-            world: World::new(alloc, 50)?,
+            world: World::new_with(alloc, 50, limits)?,
             queued: Vec::new(alloc),
             taken: Vec::new(alloc),
         })
@@ -58,27 +59,36 @@ impl Stretch {
     }
 }
 
+// A run of a world with these limits takes ten tasks, and its fair part is so large.
+fn take_ten(rt: &impl Abort, alloc: Global, limits: Limits, part: usize) -> Result<(), Fail> {
+    let mut stretch = Stretch::new(alloc, limits)?;
+    stretch.take(rt, Step::Run, Reply::Ticker(0));
+    stretch.take(rt, Step::Register(0), Reply::Done);
+    stretch.spawn_seven(rt);
+    // Task 0 is taken, and of the other six three go to the run's own queue, if it has room for them.
+    stretch.search(rt, 1);
+    stretch.take(rt, Step::Pend(0), Reply::Idle(0));
+    stretch.queue(rt, 0, Step::Wake(0), Reply::Notice);
+    stretch.search(rt, 1);
+    stretch.take(rt, Step::Wake(1), Reply::Nothing);
+    stretch.queue(rt, 1, Step::Pend(1), Reply::Queued(1));
+    // These go behind those that stand there.
+    stretch.take(rt, Step::Fair(0), Reply::Moved(part));
+    stretch.search(rt, 5);
+    stretch.take(rt, Step::Pend(2), Reply::Idle(2));
+    stretch.queue(rt, 2, Step::DropHandle(2), Reply::Notice);
+    stretch.search(rt, 3);
+    stretch.end(rt);
+    Ok(())
+}
+
 #[test]
 fn a_lone_run_takes_tasks_in_the_order_in_which_they_were_queued(
     rt: HostRuntime,
 ) -> Result<(), Fail> {
-    let mut stretch = Stretch::new(rt.alloc())?;
-    stretch.take(&rt, Step::Run, Reply::Ticker(0));
-    stretch.take(&rt, Step::Register(0), Reply::Done);
-    stretch.spawn_seven(&rt);
-    // Task 0 is taken, and three of the other six go to the run's own queue.
-    stretch.search(&rt, 1);
-    stretch.take(&rt, Step::Pend(0), Reply::Idle(0));
-    stretch.queue(&rt, 0, Step::Wake(0), Reply::Notice);
-    stretch.search(&rt, 1);
-    stretch.take(&rt, Step::Wake(1), Reply::Nothing);
-    stretch.queue(&rt, 1, Step::Pend(1), Reply::Queued(1));
-    // Three of the five go behind the two that stand there.
-    stretch.take(&rt, Step::Fair(0), Reply::Moved(3));
-    stretch.search(&rt, 5);
-    stretch.take(&rt, Step::Pend(2), Reply::Idle(2));
-    stretch.queue(&rt, 2, Step::DropHandle(2), Reply::Notice);
-    stretch.search(&rt, 3);
-    stretch.end(&rt);
-    Ok(())
+    let limits = Limits::default();
+    // Three of the five that stand in the global queue.
+    take_ten(&rt, rt.alloc(), limits, 3)?;
+    // One of the six, beside one that stands in its own.
+    take_ten(&rt, rt.alloc(), Limits { local: 2, ..limits }, 1)
 }

@@ -5,8 +5,8 @@ use crate::tests::rings::Line::{Fill, Pop, Push, Source, Stand, Steal, Target};
 use crate::tests::rings::Rings;
 use crate::tests::tasks::{Tasks, run, spawn};
 use Line::{
-    Close, Fair, Find, GlobalAt, Law, Leave, Lengths, LocalAt, Refuse, Register, Release, Reserve,
-    Runners,
+    Any, Close, Fair, Find, GlobalAt, Law, Leave, Lengths, LocalAt, Refuse, Register, Release,
+    Reserve, Runners,
 };
 use executor_core::queue::{Ring, RunnerKey};
 use std::alloc::Global;
@@ -26,6 +26,8 @@ pub enum Line {
     Refuse(usize, usize),
     // This runner's search, with this word, finds this task, which is idle then, or none.
     Find(usize, u64, Option<u64>),
+    // A take of any queue finds this task, which is idle then, or none.
+    Any(Option<u64>),
     // So many tasks of the global queue go to this runner's.
     Fair(usize, usize),
     // This runner leaves, and there is a notice or not.
@@ -100,6 +102,13 @@ impl Table {
         Some(run(&mut self.cells, taken, None).number)
     }
 
+    // The number of the task at the front of the first queue that has one, which is idle then.
+    fn take_any(&mut self) -> Option<u64> {
+        let (taken, notice) = self.cells.take_any(None)?;
+        spend(notice);
+        Some(run(&mut self.cells, taken, None).number)
+    }
+
     fn lengths(&self) -> (usize, Option<usize>, Option<usize>) {
         let cells = &self.cells;
         (cells.global_len(), cells.local_len(0), cells.local_len(1))
@@ -135,6 +144,7 @@ impl Player<Line> for Table {
                 let key = self.key(runner)?;
                 self.runner_holds(key, line)?
             }
+            Any(task) => self.take_any() == task,
             Close(has_notice) => is_spent(self.cells.close()) == has_notice,
             Runners(count) => self.cells.runners() == count,
             Lengths(global, first, second) => self.lengths() == (global, first, second),
@@ -185,6 +195,37 @@ fn a_search_moves_no_more_than_its_own_queue_has_room_for(rt: HostRuntime) -> Re
             Find(1, 0, Some(4)),
             Find(1, 0, None),
             Find(0, 0, Some(1)),
+        ],
+    )
+}
+
+#[test]
+fn a_take_of_any_queue_takes_the_first_front_and_steals_nothing(
+    rt: HostRuntime,
+) -> Result<(), Fail> {
+    play(
+        Table::new(rt.alloc(), 6)?,
+        &[
+            Reserve,
+            Register(0, 8),
+            Reserve,
+            Register(1, 2),
+            Reserve,
+            Register(2, 2),
+            Fair(1, 2),
+            Fair(2, 2),
+            Any(Some(4)),
+            Lengths(1, Some(0), Some(2)),
+            Any(Some(5)),
+            Any(Some(0)),
+            Lengths(0, Some(0), Some(1)),
+            LocalAt(1, 0, Some(1)),
+            LocalAt(2, 1, Some(3)),
+            Any(Some(1)),
+            Any(Some(2)),
+            Any(Some(3)),
+            Any(None),
+            Law,
         ],
     )
 }

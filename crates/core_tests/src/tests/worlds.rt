@@ -1,5 +1,6 @@
 //! Steps of a world.
-use executor_core::interleave::{Event, ListChange, Phase, Reply, Step, World};
+use executor_core::interleave::{Event, ListChange, Phase, Purpose, Reply, Step, World};
+use executor_core::limits::{Limits, NewError};
 use std::alloc::Global;
 use std::test::Fail;
 
@@ -156,6 +157,39 @@ fn a_world_takes_no_more_steps_than_its_limit(rt: HostRuntime) -> Result<(), Fai
     trial.end()
 }
 
+// Whether no world is made with these limits.
+fn is_refused(alloc: Global, limits: Limits) -> bool {
+    matches!(
+        World::<u8, u64>::new_with(alloc, 10, limits),
+        Err(NewError::BadLimits)
+    )
+}
+
+#[test]
+fn limits_out_of_their_range_make_no_world(rt: HostRuntime) {
+    let limits = Limits::default();
+    let refused = [
+        is_refused(rt.alloc(), Limits { local: 0, ..limits }),
+        is_refused(
+            rt.alloc(),
+            Limits {
+                local: 65_537,
+                ..limits
+            },
+        ),
+        is_refused(rt.alloc(), Limits { turn: 0, ..limits }),
+        is_refused(rt.alloc(), Limits { fair: 0, ..limits }),
+        is_refused(
+            rt.alloc(),
+            Limits {
+                local: 65_536,
+                ..limits
+            },
+        ),
+    ];
+    assert_eq!(rt; refused, [true, true, true, true, false]);
+}
+
 #[test]
 fn a_run_is_the_list_of_its_steps(rt: HostRuntime) -> Result<(), Fail> {
     let mut trial = Trial::new(World::new(rt.alloc(), 10)?);
@@ -289,6 +323,41 @@ fn a_new_run_is_dropped_before_it_registers(rt: HostRuntime) -> Result<(), Fail>
     trial.take(Step::Register(2), Reply::Done);
     let runners = trial.world.cells().runners();
     trial.see(runners == 1);
+    trial.end()
+}
+
+// Two runs are registered, the second one has task 0 in its queue, and task 1 stands in the global one.
+fn queue_apart(trial: &mut Trial) {
+    for k in 0..2 {
+        trial.take(Step::Run, Reply::Ticker(k));
+        trial.take(Step::Register(k), Reply::Done);
+    }
+    for n in 0..2 {
+        trial.take(Step::Spawn(10), Reply::Task(n));
+    }
+    trial.take(Step::Fair(1), Reply::Moved(1));
+}
+
+#[test]
+fn a_take_of_any_queue_looks_at_each_in_order(rt: HostRuntime) -> Result<(), Fail> {
+    let mut trial = Trial::new(World::new(rt.alloc(), 30)?);
+    trial.take(Step::TryAny, Reply::NoTask);
+    queue_apart(&mut trial);
+    trial.take(Step::Cancel(0), Reply::Nothing);
+    trial.take(Step::TryAny, Reply::Poll(1));
+    trial.take(Step::TryAny, Reply::Drop(0));
+    let taken = [
+        Event::Took(1, Purpose::ToPoll),
+        Event::Took(0, Purpose::ToDrop),
+    ];
+    let holds = trial.world.log().ends_with(&taken);
+    trial.see(holds);
+    trial.take(Step::TryAny, Reply::NoTask);
+    trial.expect_counts(4, 0, 2);
+    trial.take(Step::Dropped(0), Reply::Gone { awaiter: false });
+    trial.take(Step::Pend(1), Reply::Idle(1));
+    trial.take(Step::Close, Reply::Notice);
+    trial.refuse(Step::TryAny);
     trial.end()
 }
 

@@ -66,9 +66,10 @@ emptied_shapes [] = refl
 emptied_shapes (q ∷ qs) = ap (λ l. (q.runner, q.capacity) ∷ l) (emptied_shapes qs)
 
 -- the runs stay tied once they are forgotten
-runners_forgotten : {P T : Type 0} {tickers : List Ticker} {table : Table P T (Unit {0})} {rings : List (Option IdRing)} → RunnersTied tickers table rings → RunnersTied (map forgotten tickers) table rings
+runners_forgotten : {P T : Type 0} {local : ℕ} {tickers : List Ticker} {table : Table P T (Unit {0})} {rings : List (Option IdRing)} → RunnersTied local tickers table rings → RunnersTied local (map forgotten tickers) table rings
 runners_forgotten {tickers = tickers} {table = table} {rings = rings} tied =
     record {
+      roomy = tied.roomy;
       runners = tied.runners ∙ sym (count_by-forgotten is_run (λ t. refl) tickers);
       kept = tied.kept;
       runs = λ k t r at is.

@@ -3,19 +3,19 @@ use Rattle.std.proofs.Common.{◌≡◌, ◌≢◌, ℕ, Bool, true, false, not,
 use Rattle.std.proofs.lemmas.Bool.{cases_eq, cases_Bool, and_parts, not-true, true≢false}
 use Rattle.std.proofs.lemmas.List.{append-nil}
 use Rattle.std.specs.List.{filter_map}
-use Rattle.executor_core.specs.Queues.{QueueLists, entries_of, search, global_front}
+use Rattle.executor_core.specs.Queues.{QueueLists, entries_of, search, search_any, global_front}
 use Rattle.executor_core.specs.Sleepers.{is_notified_number}
 use Rattle.executor_core.specs.World.{Execution}
 use Rattle.executor_core.specs.World.Log.{cancelled, idle, woken, dropped, outputs}
 use Rattle.executor_core.specs.World.Promises.{queues}
 use Rattle.executor_core.specs.World.Tickers.{is_awake, is_run, has_ended, stored, runner_of}
-use Rattle.executor_core.specs.World.Steps.{row, local_places, Spawns, spawn_row, wake_row, cancel_row, drop_handle_row, ready_row, detach_row, dropped_row, exchange_row, notify_row, handle_row, tick_row, run_row, poll_row, sleep_row, yield_row, remove_row, store_row, drop_row, fair_row, unregister_row, Makes, enabled, Does, StepTo, FoldTo, logged, informed, noticed, queued_where, notice_reply, end_reply, return_reply, take_reply, take_row, give_row, placed_where, taking, drain_row, with_queues, found_row, found_by, search_to_row, some_held, some_busy, idle_ones, ticker}
+use Rattle.executor_core.specs.World.Steps.{row, Spawns, spawn_row, wake_row, cancel_row, drop_handle_row, ready_row, detach_row, dropped_row, exchange_row, notify_row, handle_row, tick_row, run_row, poll_row, sleep_row, yield_row, remove_row, store_row, drop_row, fair_row, unregister_row, Makes, enabled, Does, StepTo, FoldTo, logged, informed, noticed, queued_where, notice_reply, end_reply, return_reply, take_reply, take_row, take_any_row, give_row, placed_where, taking, drain_row, with_queues, found_row, found_by, search_to_row, some_held, some_busy, idle_ones, ticker}
 use Rattle.executor_core.specs.World.Order.{new_task, noticed_task, requeued_task, taken_task, woken_task, woken_idle, queued_by, taken_by, queued, taken, searcher, IsAlone, line, LoneStep, LoneOrder}
 use Rattle.executor_core.specs.declared.interleave.entry.TaskInfo.{TaskInfo}
 use Rattle.executor_core.specs.declared.interleave.event.Event.{Event}
 use Rattle.executor_core.specs.declared.interleave.event.Event.TheVariants.{Returned, Woken}
 use Rattle.executor_core.specs.declared.interleave.request.Step.{Step}
-use Rattle.executor_core.specs.declared.interleave.request.Step.TheVariants.{Spawn, Wake, TryTick, Pend, Ready, PollHandle, Cancel, Detach, DropHandle, Dropped as DropDone, Exchange, Notify, Tick, Run, Register, Poll, Search, Sleep, Yield, Remove, Store, Fair, Unregister, Drop, Close, Drain, Leak}
+use Rattle.executor_core.specs.declared.interleave.request.Step.TheVariants.{Spawn, Wake, TryTick, TryAny, Pend, Ready, PollHandle, Cancel, Detach, DropHandle, Dropped as DropDone, Exchange, Notify, Tick, Run, Register, Poll, Search, Sleep, Yield, Remove, Store, Fair, Unregister, Drop, Close, Drain, Leak}
 use Rattle.executor_core.specs.declared.interleave.reply.Reply.{Reply}
 use Rattle.executor_core.specs.declared.interleave.reply.Reply.TheVariants as reply
 use Rattle.executor_core.proofs.World.OrderQueues.{FindsFront, search_front, search-other, line-fair, alone_registered, line-unregistered}
@@ -66,6 +66,7 @@ module _ {P T : Type 0} where
 
   refused_taken : (step : Step P T) (answer : Reply T) → taken_task answer ≡ [] → taken_by step answer ≡ []
   refused_taken TryTick answer takes = takes
+  refused_taken TryAny answer takes = takes
   refused_taken (Search k word) answer takes = takes
   refused_taken Drain answer takes = takes
   refused_taken _ answer takes = refl
@@ -129,7 +130,7 @@ module _ {T : Type 0} (r : ℕ) (old new : Execution T) (answer : Reply T) (befo
   pending true woke n i does = queueing_if false n requeued_task (reply.Drop n, informed n i old) does refl refl
   pending false woke n i does = queueing_if woke n requeued_task (return_reply n woke, queued_where woke n (logged (Returned n) old)) does refl (requeued-return T n woke)
 
-  -- one who looks at the global queue alone takes nothing, where this runner takes what is taken
+  -- another one takes nothing, where this runner takes what is taken
   takes_none : (n : ℕ) (cancel : Bool) → answer ≡ take_reply n cancel → (taken_task answer ≢ [] → ⊥) → ⊥
   takes_none n cancel is never = never (λ none. let one : n ∷ [] ≡ [] = sym (ap taken_task is ∙ taken-take T n cancel) ∙ none in cc)
 
@@ -139,6 +140,10 @@ module _ {T : Type 0} (r : ℕ) (old new : Execution T) (answer : Reply T) (befo
   ticking : (global : List ℕ) → Leads (take_row global old) → (taken_task answer ≢ [] → ⊥) → Moves [] (taken_task answer)
   ticking [] does never = no_take (reply.NoTask, old) does refl refl
   ticking (n ∷ rest) does never = absurd (takes_none n (cancelled n old.log) does.0 never)
+
+  ticking_any : (found : Option ℕ × QueueLists ℕ) → Leads (take_any_row found old) → (taken_task answer ≢ [] → ⊥) → Moves [] (taken_task answer)
+  ticking_any (None, q) does never = no_take (reply.NoTask, old) does refl refl
+  ticking_any (Some n, q) does never = absurd (takes_none n (cancelled n old.log) does.0 never)
 
   draining : (global : List ℕ) → Leads (drain_row global old) → (taken_task answer ≢ [] → ⊥) → Moves [] (taken_task answer)
   draining [] does never = no_take (reply.NoTask, old) does refl refl
@@ -177,9 +182,10 @@ module _ {T : Type 0} (r : ℕ) (old new : Execution T) (answer : Reply T) (befo
   done (DropHandle n) on goes_on does taker = queueing_if (idle n old.log) n (noticed_task n) (drop_handle_row n old) does refl (noticed-end T n (idle n old.log) _)
   done (Pend n) on goes_on does taker = pending (cancelled n old.log) (woken n old.log) n _ does
   done TryTick on goes_on does taker = ticking old.global does (λ some. let h = taker some in cc)
+  done TryAny on goes_on does taker = ticking_any (search_any (queues old)) does (λ some. let h = taker some in cc)
   done (Search k word) on goes_on does taker = searching (ticker k old).runner k word does taker
   done (Fair k) on goes_on does taker = same_line (lines-row (fair_row k old) does ∙ line-fair r (runner_of (ticker k old)) (queues old) before)
-  done (Register k) on goes_on does taker = absurd (alone_registered r (runner_of (ticker k old)) local_places (queues old) before (subst (λ w. IsAlone r w.locals) does.1 after))
+  done (Register k) on goes_on does taker = absurd (alone_registered r (runner_of (ticker k old)) old.local (queues old) before (subst (λ w. IsAlone r w.locals) does.1 after))
   done (Unregister k) on goes_on does taker = same_line (lines-row (unregister_row k old) does ∙ line-unregistered r (runner_of (ticker k old)) (queues old) before (subst (λ w. IsAlone r w.locals) does.1 after))
   done (PollHandle n) on goes_on does taker = quiet (handle_row n old) does (queues-cond (dropped n old.log) _ _ (queues old) (queues-give n (outputs n old.log) old) refl)
   done (Ready n t) on goes_on does taker = quiet (ready_row n t old) does refl

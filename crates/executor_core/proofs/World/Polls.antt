@@ -1,30 +1,33 @@
 -- A task is taken, and its poll ends.
 use Rattle.std.proofs.Common.{◌≡◌, ◌≢◌, ℕ, ◌+◌, ◌<◌, ◌≤◌, ◌||◌, ◌&&◌, not, Bool, true, false, List, [], ◌∷◌, ◌++◌, length, Option, Some, None, is_some, cond, refl, sym, ap, subst, ◌∙◌, inl, inr, arith}
-use Rattle.std.proofs.lemmas.Bool.{cases_Bool, and_parts, or_left, or_right, not-true, cond-true, cond-false}
+use Rattle.std.proofs.lemmas.Bool.{cases_Bool, and_parts, or_left, or_right, not-true, true≢false, cond-true, cond-false}
 use Rattle.std.specs.Prelude.{slice_get, slice_set}
 use Rattle.std.specs.List.{list_any}
 use Rattle.std.specs.FinMap as map
 use Rattle.std.specs.Vec.{vec_capacity}
 use Rattle.executor_core.specs.Cells.{Slotted, Table}
 use Rattle.executor_core.specs.Cell.{is_held}
-use Rattle.executor_core.specs.Cells.Calls.{cell_at, cancelled_in, woken_in, takes_back_in, with_cell, without_cell, queued_if, IsTaken, TakesFront, after_take, take_first, with_taken, with_taken_at, with_queues, after_end_pending, end_pending_at, after_end_ready, end_ready_at, ready_answer, after_end_dropped, end_dropped_at, dropped_answer}
+use Rattle.executor_core.specs.Cells.Calls.{cell_at, cancelled_in, woken_in, takes_back_in, with_cell, without_cell, queued_if, IsTaken, TakesFront, after_take, take_first, TakesAny, any_in, after_take_any, search_to, with_taken, with_taken_at, with_queues, after_end_pending, end_pending_at, after_end_ready, end_ready_at, ready_answer, after_end_dropped, end_dropped_at, dropped_answer}
+use Rattle.executor_core.specs.Cells.Law.{queues_of, queued_of}
 use Rattle.executor_core.specs.Cell.Changes.{taken, takes_back, pended, wakeup_of}
-use Rattle.executor_core.specs.Queues.{QueueLists}
+use Rattle.executor_core.specs.Queues.{QueueLists, search_any}
 use Rattle.executor_core.specs.Ring.{IdRing}
 use Rattle.executor_core.specs.World.{Execution}
 use Rattle.executor_core.specs.World.Closing.{AllMarked}
 use Rattle.executor_core.specs.World.Entries.{infos, is_out, is_unpolled, is_unpolled_future, PolledAgrees, out_entry}
 use Rattle.executor_core.specs.World.Log.{unfollowed, is_cancel, is_take, cancelled, held, woken}
-use Rattle.executor_core.specs.World.Promises.{MayFollow, InOrder}
-use Rattle.executor_core.specs.World.Steps.{info, info_or, purpose_of, row, counted, noticed, taking, take_reply, take_row, return_reply, pend_row, ready_reply, ready_row, dropped_row}
+use Rattle.executor_core.specs.World.Promises.{MayFollow, InOrder, queues}
+use Rattle.executor_core.specs.World.Steps.{info, info_or, purpose_of, row, counted, noticed, taking, take_reply, take_row, with_queues as with_queues_row, take_any_row, return_reply, pend_row, ready_reply, ready_row, dropped_row}
 use Rattle.executor_core.specs.World.View.{execution_of, IsWorld}
 use Rattle.executor_core.specs.World.Agreement.{Status, status, FewPollsFor, IsUndropped, StateAgrees, NumberAgrees, Agree}
 use Rattle.executor_core.proofs.BoolLemmas.{not-not, or-without_last}
 use Rattle.executor_core.proofs.ListLemmas.{within_get, get_within, length-push, length-slice_set, set-here, set_again}
 use Rattle.executor_core.proofs.World.Closing.{marked_push, marked_push_if}
-use Rattle.executor_core.proofs.World.Entries.{infos-set, entry_of, info_at}
-use Rattle.executor_core.proofs.World.Room.{length-push_if}
-use Rattle.executor_core.proofs.World.Runners.{fixed_part, same_locals, same_closed}
+use Rattle.executor_core.proofs.World.Entries.{infos-set, entry_of, info_at, length-infos}
+use Rattle.executor_core.proofs.World.Room.{length-push_if, room_again}
+use Rattle.executor_core.proofs.World.Notices.{notices_again}
+use Rattle.executor_core.proofs.World.Searches.{any_shapes, any_vain}
+use Rattle.executor_core.proofs.World.Runners.{shapes, fixed_part, same_locals, same_closed, runners_shaped}
 use Rattle.executor_core.proofs.World.Steps.{stepped, Done, stepped_sound}
 use Rattle.executor_core.proofs.World.Log.{on_poll, on_take, on_return, on_drop, on_finish, order-push, status_other}
 use Rattle.executor_core.proofs.World.Agreement.{id_of, out_is, held_by_state, state_agrees, CellAt, held_cell, agreed_at, LogChange, log_same, log_pushed, entry_set, cell_put, cell_removed, cell_same, agree_again}
@@ -349,6 +352,56 @@ module _ {P T : Type 0} (a : Inside P T) (sound : IsWorld (execution_of a) a.cor
       by_row : (queue : List ℕ) → queue ≡ task.id.number ∷ core.cells.global → cancelled task.id.number a.log.items ≡ task.cancelled → record (execution_of a) { log = log; tasks = infos entries } ≡ taking task.id.number a.core.cells.global (execution_of a) → core.cells.locals ≡ a.core.cells.locals → core.cells.closed ≡ a.core.cells.closed
           → row (take_row queue (execution_of a)) (take_reply task.id.number task.cancelled) (record (execution_of a) { log = log; accepted = a.accepted + 1; global = core.cells.global; locals = core.cells.locals; notices = a.notices + 1; tasks = infos entries; closed = core.cells.closed })
       by_row queue front cancel world locals closed = rw (front, locals, closed) (ap (take_reply task.id.number) (sym cancel), ap (λ (x : Execution T). counted (noticed (record x { global = core.cells.global }))) world)
+
+  -- no queue had a task
+  pub any_none : {core : Core P T (Unit {0})} → queued_of a.core.cells ≡ [] → core ≡ record a.core { cells = after_take_any a.core.cells } → Done (stepped a (a.accepted + 1) core a.log.items a.entries.items a.notices a.picks) core.cells a.entries.items a.rings.items (vec_capacity a.log) (take_any_row (search_any (queues w)) w) NoTask
+  any_none {core} nothing core_is =
+      let vain = any_vain (queues_of a.core.cells) nothing in
+      let same : core ≡ a.core = core_is ∙ ap (λ (f : Option ℕ × QueueLists ℕ). let c : Core P T (Unit {0}) = record a.core { cells = search_to f a.core.cells } in c) vain in
+      let far = rw (← view) at far in
+      rw (← view, same) (record {
+        sound = stepped_sound a sound refl far false _ _ _ (λ _. refl) refl (omega arith) (omega arith) sound.agree (λ _ marked. marked);
+        does = subst (λ f. row (take_any_row f (execution_of a)) NoTask (record (execution_of a) { accepted = a.accepted + 1 })) (sym vain) (refl, refl);
+      })
+
+  -- tryany took the front of a queue
+  pub any_done : not w.closed ≡ true → {task : Taken P} {core : Core P T (Unit {0})} → TakesAny a.core.cells task → core ≡ record a.core { cells = after_take_any a.core.cells }
+      → {entries : List (TaskEntry P)} → ((e : TaskEntry P) → slice_get a.entries.items task.id.number ≡ Some e → entries ≡ slice_set a.entries.items task.id.number (out_entry e task))
+      → {log : List (Event T)} → log ≡ a.log.items ++ Took task.id.number (purpose_of task.cancelled) ∷ []
+      → {notices : ℕ} → notices ≡ a.notices + 1 → {room : ℕ} → room ≡ vec_capacity a.log → {answer : Reply T} → answer ≡ take_reply task.id.number task.cancelled
+      → Done (stepped a (a.accepted + 1) core log entries notices a.picks) core.cells entries a.rings.items room (take_any_row (search_any (queues w)) w) answer
+  any_done enabled {task} {core} takes core_is {entries} entries_are {log} log_is more capacity answers =
+      let n = task.id.number in
+      let q : QueueLists ℕ = (any_in a.core.cells).1 in
+      let found : any_in a.core.cells ≡ (Some n, q) = ap (λ (o : Option ℕ). (o, q)) takes.found in
+      let cells_are : core.cells ≡ with_queues q (with_taken a.core.cells n) = ap (λ c. c.cells) core_is ∙ ap (λ f. search_to f a.core.cells) found in
+      let part = taken_runners a.core.cells n in
+      let unclosed : a.core.cells.closed ≡ false = ap (λ (w : Execution T). w.closed) view ∙ not-true w.closed enabled in
+      let closed : core.cells.closed ≡ a.core.cells.closed = ap (λ c. c.closed) cells_are ∙ same_closed part in
+      let far = rw (← view) at far in
+      let took = took_task q takes.taken cells_are entries_are log_is in
+      let tasks = took.tasks in
+      let events = took.events in
+      let same = cells_alone a.core core (after_take_any a.core.cells) core_is in
+      rw (← view, same, more, capacity, answers) (record {
+        sound =
+            record {
+              agree = took.agree;
+              notices = notices_again sound.notices refl refl refl refl refl (inl (omega arith));
+              tickers = sound.tickers;
+              runners = runners_shaped sound.runners (ap (λ c. shapes c.locals) cells_are ∙ any_shapes (queues_of a.core.cells)) (ap (λ c. c.next_runner) cells_are ∙ ap (λ p. p.1.0) part) (ap (λ c. c.free_places) cells_are ∙ ap (λ p. p.1.1.0) part);
+              closing = λ on. absurd (true≢false (sym on ∙ closed ∙ unclosed));
+              room = room_again sound.room refl far _ refl refl (omega arith) (let before = length-infos a.entries.items in let after = length-infos entries in omega arith) (omega arith) (omega arith) closed refl;
+            };
+        does = by_row cells_are closed took.cancelled took.world found;
+      })
+    where
+      by_row : core.cells ≡ with_queues (any_in a.core.cells).1 (with_taken a.core.cells task.id.number) → core.cells.closed ≡ a.core.cells.closed → cancelled task.id.number a.log.items ≡ task.cancelled
+          → record (execution_of a) { log = log; tasks = infos entries } ≡ taking task.id.number a.core.cells.global (execution_of a) → any_in a.core.cells ≡ (Some task.id.number, (any_in a.core.cells).1)
+          → row (take_any_row (search_any (queues (execution_of a))) (execution_of a)) (take_reply task.id.number task.cancelled) (record (execution_of a) { log = log; accepted = a.accepted + 1; global = core.cells.global; locals = core.cells.locals; notices = a.notices + 1; tasks = infos entries; closed = core.cells.closed })
+      by_row cells_are closed cancel world found =
+          subst (λ f. row (take_any_row f (execution_of a)) (take_reply task.id.number task.cancelled) (record (execution_of a) { log = log; accepted = a.accepted + 1; global = core.cells.global; locals = core.cells.locals; notices = a.notices + 1; tasks = infos entries; closed = core.cells.closed })) (sym found)
+          (rw (closed, ap (λ c. c.global) cells_are, ap (λ c. c.locals) cells_are) (ap (take_reply task.id.number) (sym cancel), ap (λ (x : Execution T). counted (noticed (with_queues_row (any_in a.core.cells).1 x))) world))
 
 module _ {P T : Type 0} (a : Inside P T) (sound : IsWorld (execution_of a) a.core.cells a.entries.items a.rings.items (vec_capacity a.log)) {w : Execution T} (view : execution_of a ≡ w) (far : w.accepted ≢ w.limit) (n : ℕ) {i : TaskInfo} (found : slice_get (infos a.entries.items) n ≡ Some i) where
   module _ (b : Bool) (enabled : held n w.log && b ≡ true) where

@@ -13,7 +13,7 @@ use Rattle.executor_core.specs.Queues.{QueueLists, position_of, is_registered, e
 use Rattle.executor_core.specs.Ring.{IdRing}
 use Rattle.executor_core.specs.World.{Execution}
 use Rattle.executor_core.specs.World.Runners.{new_ring, RunnersTied}
-use Rattle.executor_core.specs.World.Steps.{local_places, ticker, notice_reply, register_row, fair_row, unregister_row}
+use Rattle.executor_core.specs.World.Steps.{ticker, notice_reply, register_row, fair_row, unregister_row}
 use Rattle.executor_core.specs.World.Tickers.{at_rest, waits, in_store, has_ended, has_to_search, notices_in, is_run, runner_or, runner_of, has_queue, is_new_run, is_over, may_register as may_register_run, ticker_or, left}
 use Rattle.executor_core.specs.World.View.{execution_of, IsWorld}
 use Rattle.executor_core.proofs.ListLemmas.{length-slice_set}
@@ -70,7 +70,7 @@ module _ {P T : Type 0} (a : Inside P T) (sound : IsWorld (execution_of a) a.cor
   before = ticker_or (slice_get a.tickers.items k)
 
   -- the world after the queues changed
-  queued_sound : (cells : Table P T (Unit {0})) (rings : List (Option IdRing)) → cells.next ≡ a.core.cells.next → cells.cells ≡ a.core.cells.cells → (a.core.cells.global ≡ [] → cells.global ≡ []) → (queued_of a.core.cells ≡ [] → queued_of cells ≡ []) → RunnersTied a.tickers.items cells rings → a.core.cells.closed ≡ false → cells.closed ≡ a.core.cells.closed
+  queued_sound : (cells : Table P T (Unit {0})) (rings : List (Option IdRing)) → cells.next ≡ a.core.cells.next → cells.cells ≡ a.core.cells.cells → (a.core.cells.global ≡ [] → cells.global ≡ []) → (queued_of a.core.cells ≡ [] → queued_of cells ≡ []) → RunnersTied a.local a.tickers.items cells rings → a.core.cells.closed ≡ false → cells.closed ≡ a.core.cells.closed
       → IsWorld (stepped a (a.accepted + 1) (record a.core { cells = cells }) a.log.items a.entries.items a.notices a.picks) cells a.entries.items rings (vec_capacity a.log)
   queued_sound cells rings next same empty nothing runners unclosed as_before =
       record {
@@ -104,13 +104,13 @@ module _ {P T : Type 0} (a : Inside P T) (sound : IsWorld (execution_of a) a.cor
       runner_is = ap (λ (t : Ticker). t.runner) (sym t_is) ∙ runner
 
       -- its ring waits
-      pub ring_there : slice_index_or a.rings.items r None ≡ Some new_ring
-      ring_there = get_at a.rings.items r None (Some new_ring) ((sound.runners.runs k before r found_new runner_is).ring is_new)
+      pub ring_there : slice_index_or a.rings.items r None ≡ Some (new_ring a.local)
+      ring_there = get_at a.rings.items r None (Some (new_ring a.local)) ((sound.runners.runs k before r found_new runner_is).ring is_new)
 
       pub no_ring : None ≡ slice_index_or a.rings.items r None → ⊥
       no_ring none = let both = none ∙ ring_there in absurd (cc)
 
-      pub ring_waits : {ring : IdRing} → Some ring ≡ slice_index_or a.rings.items r None → ring ≡ new_ring
+      pub ring_waits : {ring : IdRing} → Some ring ≡ slice_index_or a.rings.items r None → ring ≡ new_ring a.local
       ring_waits is = let both = is ∙ ring_there in cc
 
       pub ring_empty : {ring : IdRing} → Some ring ≡ slice_index_or a.rings.items r None → ring.ids ≡ []
@@ -125,14 +125,14 @@ module _ {P T : Type 0} (a : Inside P T) (sound : IsWorld (execution_of a) a.cor
       pub registers : (false ≡ true) ↔ (may_register a.core.cells r ≡ true) → ⊥
       registers variant = false≢true (variant.1 may_now)
 
-      pub register_done : {ring : IdRing} → ring ≡ new_ring → {core : Core P T (Unit {0})} → core ≡ record a.core { cells = after_register a.core.cells r ring.capacity } → {rings : List (Option IdRing)} → rings ≡ slice_set a.rings.items r None
+      pub register_done : {ring : IdRing} → ring ≡ new_ring a.local → {core : Core P T (Unit {0})} → core ≡ record a.core { cells = after_register a.core.cells r ring.capacity } → {rings : List (Option IdRing)} → rings ≡ slice_set a.rings.items r None
           → Done (stepped a (a.accepted + 1) core a.log.items a.entries.items a.notices a.picks) core.cells a.entries.items rings (vec_capacity a.log) (register_row k w) reply.Done
       register_done {ring} ring_is {core} core_is rings_are =
-          let core_now : core ≡ record a.core { cells = after_register a.core.cells r local_places } = core_is ∙ ap (λ (i : IdRing). let c : Core P T (Unit {0}) = record a.core { cells = after_register a.core.cells r i.capacity } in c) ring_is in
-          let cells : Table P T (Unit {0}) = after_register a.core.cells r local_places in
+          let core_now : core ≡ record a.core { cells = after_register a.core.cells r a.local } = core_is ∙ ap (λ (i : IdRing). let c : Core P T (Unit {0}) = record a.core { cells = after_register a.core.cells r i.capacity } in c) ring_is in
+          let cells : Table P T (Unit {0}) = after_register a.core.cells r a.local in
           let named : runner_of before ≡ r = ap runner_or runner_is in
           rw (← view, core_now, rings_are) (record {
-            sound = queued_sound cells (slice_set a.rings.items r None) refl refl (λ none. none) (λ none. registered-entries r local_places (queues_of a.core.cells) ∙ none) (runners_registered sound.runners k before r found_new runner_is is_new) open_new refl;
+            sound = queued_sound cells (slice_set a.rings.items r None) refl refl (λ none. none) (λ none. registered-entries r a.local (queues_of a.core.cells) ∙ none) (runners_registered sound.runners k before r found_new runner_is is_new) open_new refl;
             does = rw named (refl, refl);
           })
 

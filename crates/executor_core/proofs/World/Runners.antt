@@ -10,7 +10,6 @@ use Rattle.executor_core.specs.Cells.Law.{queues_of}
 use Rattle.executor_core.specs.Queues.{RunnerQueue, is_runner, is_registered, entries_at, set_entries, with_entries, unregistered_at}
 use Rattle.executor_core.specs.Ring.{IdRing}
 use Rattle.executor_core.specs.World.Runners.{new_ring, RunTied, QueueTied, RunnersTied}
-use Rattle.executor_core.specs.World.Steps.{local_places}
 use Rattle.executor_core.specs.World.Tickers.{waits, is_run, runner_of, is_new_run, needs_queue, new_ticker}
 use Rattle.executor_core.proofs.ListLemmas.{set-here, length-slice_set, get-set_same, get-set_other, get-push_last, get-push_other, length-push, any-push, sum_by-set, sum_by-at}
 use Rattle.executor_core.specs.declared.interleave.ticker.Ticker.{Ticker}
@@ -188,7 +187,7 @@ queued_not_new locals t queued = by_runner t.runner refl
     by_runner (Some r) is = run_is t r is locals ∙ ap (λ b. waits t.phase && not b) (queued r is) ∙ fails (waits t.phase)
 
 -- what a step of the ticker at k makes of the tie
-module _ {P T W : Type 0} {tickers : List Ticker} {table : Table P T W} {rings : List (Option IdRing)} (tied : RunnersTied tickers table rings) where
+module _ {P T W : Type 0} {local : ℕ} {tickers : List Ticker} {table : Table P T W} {rings : List (Option IdRing)} (tied : RunnersTied local tickers table rings) where
   -- a place is free for a new run
   pub new_places : (k : ℕ) (t : Ticker) → slice_get tickers k ≡ Some t → is_new_run table.locals t ≡ true → 0 < table.free_places
   new_places k t found new =
@@ -212,8 +211,8 @@ module _ {P T W : Type 0} {tickers : List Ticker} {table : Table P T W} {rings :
       pub next : later.next_runner ≡ table.next_runner
       pub long : length anew ≡ length rings
       pub others : (r : ℕ) → t.runner ≢ Some r → (is_registered r later.locals ≡ is_registered r table.locals) × (slice_get anew r ≡ slice_get rings r)
-      pub mine : (r : ℕ) → t.runner ≡ Some r → RunTied u r later anew
-      pub queues : (i : ℕ) (q : RunnerQueue ℕ) → slice_get later.locals i ≡ Some q → QueueTied q table
+      pub mine : (r : ℕ) → t.runner ≡ Some r → RunTied local u r later anew
+      pub queues : (i : ℕ) (q : RunnerQueue ℕ) → slice_get later.locals i ≡ Some q → QueueTied local q table
       pub places : later.free_places + one (is_new_run table.locals t) ≡ table.free_places + one (is_new_run later.locals u)
 
     new_other : {later : Table P T W} {anew : List (Option IdRing)} → RunnersChange later anew → (j : ℕ) (x : Ticker) → j ≢ k → slice_get tickers j ≡ Some x → is_new_run later.locals x ≡ is_new_run table.locals x
@@ -225,9 +224,10 @@ module _ {P T W : Type 0} {tickers : List Ticker} {table : Table P T W} {rings :
             let other = (change.others r (λ mine. far (tied.once j k x t r at found is mine))).0 in
             run_is x r is later.locals ∙ ap (λ b. waits x.phase && not b) other ∙ sym (run_is x r is table.locals)
 
-    pub runners_again : {later : Table P T W} {anew : List (Option IdRing)} → RunnersChange later anew → RunnersTied (slice_set tickers k u) later anew
+    pub runners_again : {later : Table P T W} {anew : List (Option IdRing)} → RunnersChange later anew → RunnersTied local (slice_set tickers k u) later anew
     runners_again {later} {anew} change =
         record {
+          roomy = tied.roomy;
           runners =
               let set = sum_by-set (λ (t : Ticker). one (is_run t)) tickers k t u found in
               let as_before : ◌≡◌ {A = ℕ} (one (is_run u)) (one (is_run t)) = ap (λ (o : Option ℕ). one (is_some o)) same in
@@ -238,7 +238,7 @@ module _ {P T W : Type 0} {tickers : List Ticker} {table : Table P T W} {rings :
           runs = λ j x r at is. elim (cases_eq j k) [
             | inl here ↦
                 let it : u ≡ x = cc (sym (get-set_same tickers k u t found), sym (ap (λ j. slice_get (slice_set tickers k u) j) here), at) in
-                subst (λ (x : Ticker). RunTied x r later anew) it (change.mine r (sym same ∙ ap (λ (t : Ticker). t.runner) it ∙ is))
+                subst (λ (x : Ticker). RunTied local x r later anew) it (change.mine r (sym same ∙ ap (λ (t : Ticker). t.runner) it ∙ is))
             | inr far ↦
                 let at : slice_get tickers j ≡ Some x = sym (get-set_other tickers k j u far) ∙ at in
                 let before = tied.runs j x r at is in
@@ -265,7 +265,7 @@ module _ {P T W : Type 0} {tickers : List Ticker} {table : Table P T W} {rings :
         }
 
     -- it is a tick, or its runner is registered, and it goes on
-    pub runners_queued : ((r : ℕ) → t.runner ≡ Some r → is_registered r table.locals ≡ true) → RunnersTied (slice_set tickers k u) table rings
+    pub runners_queued : ((r : ℕ) → t.runner ≡ Some r → is_registered r table.locals ≡ true) → RunnersTied local (slice_set tickers k u) table rings
     runners_queued queued =
         runners_again (record {
           next = refl;
@@ -286,7 +286,7 @@ module _ {P T W : Type 0} {tickers : List Ticker} {table : Table P T W} {rings :
         never x alike = queued_not_new table.locals x (λ r is. queued r (sym alike ∙ is))
 
     -- it goes, and was not new
-    pub runners_gone : is_new_run table.locals t ≡ false → waits u.phase ≡ false → needs_queue u.phase ≡ false → RunnersTied (slice_set tickers k u) table rings
+    pub runners_gone : is_new_run table.locals t ≡ false → waits u.phase ≡ false → needs_queue u.phase ≡ false → RunnersTied local (slice_set tickers k u) table rings
     runners_gone old goes leaves =
         let never = restless_not_new table.locals u goes in
         runners_again (record {
@@ -305,7 +305,7 @@ module _ {P T W : Type 0} {tickers : List Ticker} {table : Table P T W} {rings :
         })
 
     -- it goes, and was new: its runner's place is given back
-    pub runners_dropped : is_new_run table.locals t ≡ true → waits u.phase ≡ false → needs_queue u.phase ≡ false → {later : Table P T W} → later ≡ record table { free_places = table.free_places - 1 } → RunnersTied (slice_set tickers k u) later rings
+    pub runners_dropped : is_new_run table.locals t ≡ true → waits u.phase ≡ false → needs_queue u.phase ≡ false → {later : Table P T W} → later ≡ record table { free_places = table.free_places - 1 } → RunnersTied local (slice_set tickers k u) later rings
     runners_dropped new goes leaves {later} is_later =
         let never = restless_not_new table.locals u goes in
         let more = new_places k t found new in
@@ -325,14 +325,14 @@ module _ {P T W : Type 0} {tickers : List Ticker} {table : Table P T W} {rings :
         }))
 
   -- a new run registers its runner, with its ring
-  pub runners_registered : (k : ℕ) (t : Ticker) (r : ℕ) → slice_get tickers k ≡ Some t → t.runner ≡ Some r → is_new_run table.locals t ≡ true → RunnersTied tickers (after_register table r local_places) (slice_set rings r None)
+  pub runners_registered : (k : ℕ) (t : Ticker) (r : ℕ) → slice_get tickers k ≡ Some t → t.runner ≡ Some r → is_new_run table.locals t ≡ true → RunnersTied local tickers (after_register table r local) (slice_set rings r None)
   runners_registered k t r found is new =
-      let q : RunnerQueue ℕ = record { runner = r; entries = []; capacity = local_places } in
-      let later : Table P T W = after_register table r local_places in
+      let q : RunnerQueue ℕ = record { runner = r; entries = []; capacity = local } in
+      let later : Table P T W = after_register table r local in
       let more = new_places k t found new in
       let now : is_registered r later.locals ≡ true = registered_now r table.locals q refl in
       let old : is_new_run later.locals t ≡ false = queued_not_new later.locals t (λ s same. ap (λ s. is_registered s later.locals) (runner_same t s r same is) ∙ now) in
-      subst (λ l. RunnersTied l later (slice_set rings r None)) (set-here tickers k t found) (runners_again k t t found refl {later = later} {anew = slice_set rings r None} (record {
+      subst (λ l. RunnersTied local l later (slice_set rings r None)) (set-here tickers k t found) (runners_again k t t found refl {later = later} {anew = slice_set rings r None} (record {
         next = refl;
         long = length-slice_set rings r None;
         others = λ s other. (registered_push s table.locals q (λ same. other (is ∙ ap Some same)), get-set_other rings r s None (λ same. other (is ∙ ap Some (sym same))));
@@ -346,14 +346,14 @@ module _ {P T W : Type 0} {tickers : List Ticker} {table : Table P T W} {rings :
         queues = λ i x at. elim (cases_eq i (length table.locals)) [
           | inl last ↦
               let it : q ≡ x = cc (sym (get-push_last table.locals q), sym (ap (λ j. slice_get later.locals j) last), at) in
-              subst (λ (x : RunnerQueue ℕ). QueueTied x table) it (record { made = (tied.runs k t r found is).made; places = refl })
+              subst (λ (x : RunnerQueue ℕ). QueueTied local x table) it (record { made = (tied.runs k t r found is).made; places = refl })
           | inr far ↦ tied.queues i x (sym (get-push_other table.locals q i far) ∙ at)
         ];
         places = rw (new, old) (omega arith);
       }))
 
   -- a run at rest unregisters its runner, and goes
-  pub runners_unregistered : (k : ℕ) (t u : Ticker) (r : ℕ) → slice_get tickers k ≡ Some t → u.runner ≡ t.runner → t.runner ≡ Some r → waits u.phase ≡ false → needs_queue u.phase ≡ false → is_registered r table.locals ≡ true → RunnersTied (slice_set tickers k u) (after_unregister table r) rings
+  pub runners_unregistered : (k : ℕ) (t u : Ticker) (r : ℕ) → slice_get tickers k ≡ Some t → u.runner ≡ t.runner → t.runner ≡ Some r → waits u.phase ≡ false → needs_queue u.phase ≡ false → is_registered r table.locals ≡ true → RunnersTied local (slice_set tickers k u) (after_unregister table r) rings
   runners_unregistered k t u r found same is goes leaves there =
       let at = position_at (is_runner r) table.locals there in
       let runner = eqb-true at.1.runner r at.4 in
@@ -377,9 +377,10 @@ module _ {P T W : Type 0} {tickers : List Ticker} {table : Table P T W} {rings :
       }))
 
   -- the queues were made anew, with the same runners and places
-  pub runners_shaped : {later : Table P T W} → shapes later.locals ≡ shapes table.locals → later.next_runner ≡ table.next_runner → later.free_places ≡ table.free_places → RunnersTied tickers later rings
+  pub runners_shaped : {later : Table P T W} → shapes later.locals ≡ shapes table.locals → later.next_runner ≡ table.next_runner → later.free_places ≡ table.free_places → RunnersTied local tickers later rings
   runners_shaped {later} shape next free =
       record {
+        roomy = tied.roomy;
         runners = next ∙ tied.runners;
         kept = tied.kept ∙ sym next;
         runs = λ k t r at is.
@@ -419,16 +420,17 @@ module _ {P T W : Type 0} {tickers : List Ticker} {table : Table P T W} {rings :
     pub next : later.next_runner ≡ table.next_runner + one (is_run u)
     pub long : length anew ≡ later.next_runner
     pub kept : (r : ℕ) → r < table.next_runner → slice_get anew r ≡ slice_get rings r
-    pub runner : (r : ℕ) → u.runner ≡ Some r → (r ≡ table.next_runner) × RunTied u r later anew
+    pub runner : (r : ℕ) → u.runner ≡ Some r → (r ≡ table.next_runner) × RunTied local u r later anew
     pub places : later.free_places ≡ table.free_places + one (is_new_run table.locals u)
 
-  pub runners_pushed : (u : Ticker) {later : Table P T W} {anew : List (Option IdRing)} → RunnersPush u later anew → RunnersTied (tickers ++ u ∷ []) later anew
+  pub runners_pushed : (u : Ticker) {later : Table P T W} {anew : List (Option IdRing)} → RunnersPush u later anew → RunnersTied local (tickers ++ u ∷ []) later anew
   runners_pushed u {later} {anew} push =
       record {
+        roomy = tied.roomy;
         runners = let counts = sum_by_push (λ (t : Ticker). one (is_run t)) tickers u in let before = tied.runners in let next = push.next in omega arith;
         kept = push.long;
         runs = λ j x r at is. elim (cases_eq j (length tickers)) [
-          | inl last ↦ subst (λ (x : Ticker). RunTied x r later anew) (it_is j x last at) (push.runner r (ap (λ (t : Ticker). t.runner) (it_is j x last at) ∙ is)).1
+          | inl last ↦ subst (λ (x : Ticker). RunTied local x r later anew) (it_is j x last at) (push.runner r (ap (λ (t : Ticker). t.runner) (it_is j x last at) ∙ is)).1
           | inr far ↦
               let before = tied.runs j x r (sym (get-push_other tickers u j far) ∙ at) is in
               let next = push.next in
@@ -471,18 +473,18 @@ module _ {P T W : Type 0} {tickers : List Ticker} {table : Table P T W} {rings :
       it_is : (j : ℕ) (x : Ticker) → j ≡ length tickers → slice_get (tickers ++ u ∷ []) j ≡ Some x → u ≡ x
       it_is j x last at = cc (sym (get-push_last tickers u), sym (ap (λ j. slice_get (tickers ++ u ∷ []) j) last), at)
 
-  pub runners_ticked : RunnersTied (tickers ++ new_ticker None ∷ []) table rings
+  pub runners_ticked : RunnersTied local (tickers ++ new_ticker None ∷ []) table rings
   runners_ticked = runners_pushed (new_ticker None) (record { locals = refl; next = omega arith; long = tied.kept; kept = λ r below. refl; runner = λ r is. absurd (cc); places = omega arith })
 
   -- the new run's runner is the next one
-  pub runners_run : RunnersTied (tickers ++ new_ticker (Some table.next_runner) ∷ []) (after_reserve_runner table) (rings ++ Some new_ring ∷ [])
+  pub runners_run : RunnersTied local (tickers ++ new_ticker (Some table.next_runner) ∷ []) (after_reserve_runner table) (rings ++ Some (new_ring local) ∷ [])
   runners_run =
       let fresh : is_new_run table.locals (new_ticker (Some table.next_runner)) ≡ true = ap not next_fresh in
       runners_pushed (new_ticker (Some table.next_runner)) (record {
         locals = refl;
         next = refl;
-        long = let more = length-push rings (Some new_ring) in let kept = tied.kept in omega arith;
-        kept = λ r below. get-push_other rings (Some new_ring) r (λ last. let kept = tied.kept in absurd (omega arith));
+        long = let more = length-push rings (Some (new_ring local)) in let kept = tied.kept in omega arith;
+        kept = λ r below. get-push_other rings (Some (new_ring local)) r (λ last. let kept = tied.kept in absurd (omega arith));
         runner = λ r is.
             let same : r ≡ table.next_runner = cc in (
               same,
@@ -490,7 +492,7 @@ module _ {P T W : Type 0} {tickers : List Ticker} {table : Table P T W} {rings :
                 made = omega arith;
                 registered = λ needs. absurd (false≢true needs);
                 awake = λ _. refl;
-                ring = λ _. ap (slice_get (rings ++ Some new_ring ∷ [])) (same ∙ sym tied.kept) ∙ get-push_last rings (Some new_ring);
+                ring = λ _. ap (slice_get (rings ++ Some (new_ring local) ∷ [])) (same ∙ sym tied.kept) ∙ get-push_last rings (Some (new_ring local));
               },
             );
         places = rw fresh refl;
@@ -504,13 +506,14 @@ module _ {P T W : Type 0} {tickers : List Ticker} {table : Table P T W} {rings :
       by_runner None is = absurd (true≢false (sym new ∙ not_run t is table.locals))
       by_runner (Some r) is = (tied.runs k t r found is).awake new
 
-  pub runners_same : {later : Table P T W} → fixed_part later ≡ fixed_part table → RunnersTied tickers later rings
+  pub runners_same : {later : Table P T W} → fixed_part later ≡ fixed_part table → RunnersTied local tickers later rings
   runners_same same = runners_shaped (ap (λ p. shapes p.0) same) (ap (λ p. p.1.0) same) (ap (λ p. p.1.1.0) same)
 
 -- before the first step
-pub runners_opening : {P T W : Type 0} → RunnersTied {P = P} {T = T} {W = W} [] (empty_table 0) []
-runners_opening =
+pub runners_opening : {P T W : Type 0} (local : ℕ) → 0 < local → RunnersTied {P = P} {T = T} {W = W} local [] (empty_table 0) []
+runners_opening local roomy =
     record {
+      roomy = roomy;
       runners = refl;
       kept = refl;
       runs = λ k t r at is. absurd (cc);

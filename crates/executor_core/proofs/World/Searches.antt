@@ -3,13 +3,14 @@ use Rattle.std.proofs.Common.{◌≡◌, ◌≢◌, ℕ, zero, suc, ◌+◌, ◌
 use Rattle.std.proofs.lemmas.Bool.{cases_Bool, cases_eq, cases_lt, eq-eqb, eqb-true, ne_eqb, lt-ltb, ltb-true, or_left, or_right, or_cases, true≢false, cond-true, cond-false}
 use Rattle.std.proofs.lemmas.List.{take-append-drop}
 use Rattle.std.proofs.lemmas.List.Folds.{list_any-append}
+use Rattle.std.proofs.lemmas.List.Sorted.{length_permutation}
 use Rattle.std.proofs.lemmas.Map.Views.{any-filter_same}
 use Rattle.std.specs.List.{list_any, find, flat_map, range_with_len}
 use Rattle.std.specs.Prelude.{◌==◌, ◌%◌, min, slice_get}
-use Rattle.executor_core.specs.Queues.{RunnerQueue, QueueLists, is_runner, position_of, is_registered, half, steal_count, stolen, entries_or, entries_at, capacity_or, capacity_at, set_entries, with_entries, all_entries, visits, can_steal, victim, stolen_between, local_front, steal_from, search_shared, search_own, search_at, search, global_front, search_global, global_stolen, fair_at, fair}
+use Rattle.executor_core.specs.Queues.{RunnerQueue, QueueLists, is_runner, position_of, is_registered, half, steal_count, stolen, entries_or, entries_at, capacity_or, capacity_at, set_entries, with_entries, all_entries, visits, can_steal, victim, stolen_between, local_front, steal_from, search_shared, search_own, search_at, search, first_occupied, front_at, any_front, search_any, global_front, search_global, global_stolen, fair_at, fair}
 use Rattle.executor_core.specs.World.Steps.{found_by}
 use Rattle.executor_core.proofs.ListLemmas.{get-set_same, within_get}
-use Rattle.executor_core.proofs.QueueLemmas.{find_passes}
+use Rattle.executor_core.proofs.QueueLemmas.{find_passes, search_any-permutes, search_any-none}
 use Rattle.executor_core.proofs.World.Runners.{position_at, shapes, shape_at, shapes_with}
 
 half_some : (n : ℕ) → 0 < n → 0 < half n
@@ -171,6 +172,17 @@ search_shapes k word q = by_position (position_of k q.locals)
     by_position None = global_shapes q.global q
     by_position (Some r) = own_shapes r word (entries_at r q.locals) q
 
+pub any_shapes : (q : QueueLists ℕ) → shapes (search_any q).1.locals ≡ shapes q.locals
+any_shapes q = by_global q.global
+  where
+    by_position : (o : Option ℕ) → shapes (front_at o q).1.locals ≡ shapes q.locals
+    by_position None = refl
+    by_position (Some r) = front_shapes r (entries_at r q.locals) q
+
+    by_global : (global : List ℕ) → shapes (any_front global q).1.locals ≡ shapes q.locals
+    by_global [] = by_position (first_occupied q.locals)
+    by_global (x ∷ rest) = refl
+
 pub found_shapes : (runner : Option ℕ) (word : ℕ) (q : QueueLists ℕ) → shapes (found_by runner word q).1.locals ≡ shapes q.locals
 found_shapes None word q = global_shapes q.global q
 found_shapes (Some r) word q = search_shapes r word q
@@ -181,6 +193,14 @@ fair_shapes k q = by_position (position_of k q.locals)
     by_position : (o : Option ℕ) → shapes (fair_at o q).locals ≡ shapes q.locals
     by_position None = refl
     by_position (Some r) = stolen_shapes r q
+
+-- a search of any queue in vain
+pub any_vain : (q : QueueLists ℕ) → all_entries q ≡ [] → search_any q ≡ (None, q)
+any_vain q nothing = by_found (search_any q).0 refl
+  where
+    by_found : (o : Option ℕ) → (search_any q).0 ≡ o → search_any q ≡ (None, q)
+    by_found None is = λ i. (is i, (search_any-none q is).1 i)
+    by_found (Some x) is = absurd (let long = length_permutation (all_entries q) (x ∷ all_entries (search_any q).1) (search_any-permutes q x is) in let none = ap length nothing in omega arith)
 
 -- a tick's search in vain
 pub front_vain : (q : QueueLists ℕ) → (search_global q).0 ≡ None → (q.global ≡ []) × (search_global q ≡ (None, q))

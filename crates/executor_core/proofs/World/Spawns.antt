@@ -1,5 +1,5 @@
 -- A task is spawned; and the world before its first step.
-use Rattle.std.proofs.Common.{◌≡◌, ◌≢◌, ℕ, ◌+◌, ◌*◌, ◌≤◌, ◌||◌, not, true, false, List, [], ◌∷◌, ◌++◌, length, Option, Some, None, refl, sym, ap, subst, ◌∙◌, inl, inr, arith}
+use Rattle.std.proofs.Common.{◌≡◌, ◌≢◌, ℕ, ◌+◌, ◌*◌, ◌<◌, ◌≤◌, ◌||◌, not, true, false, List, [], ◌∷◌, ◌++◌, length, Option, Some, None, refl, sym, ap, subst, ◌∙◌, inl, inr, arith}
 use Rattle.std.proofs.lemmas.Bool.{cases_eq, true≢false}
 use Rattle.std.specs.Prelude.{slice_get, sum_by}
 use Rattle.std.specs.Ordering.{nat_cmp}
@@ -102,8 +102,8 @@ module _ {P T : Type 0} (a : Inside P T) (sound : IsWorld (execution_of a) a.cor
       )
 
 -- before the first step
-pub opening_sound : {P T : Type 0} {w : Execution T} {table : Table P T (Unit {0})} {entries : List (TaskEntry P)} {rings : List (Option IdRing)} {room : ℕ} → table ≡ empty_table 0 → w.sleepers ≡ no_sleepers → w.tickers ≡ [] → w.holder ≡ None → w.closed ≡ false → w.log ≡ [] → w.tasks ≡ [] → w.accepted ≡ 0 → w.limit ≤ 1000000 → w.picks + w.notices ≡ 0 → room ≡ 3 * w.limit → entries ≡ [] → rings ≡ [] → IsWorld w table entries rings room
-opening_sound {P} {T} {w} {table} {entries} {rings} cells_are nobody no_tickers free unclosed no_events no_tasks none bounded unspent capacity no_entries no_rings =
+pub opening_sound : {P T : Type 0} {w : Execution T} {table : Table P T (Unit {0})} {entries : List (TaskEntry P)} {rings : List (Option IdRing)} {room : ℕ} → table ≡ empty_table 0 → w.sleepers ≡ no_sleepers → w.tickers ≡ [] → w.holder ≡ None → w.closed ≡ false → w.log ≡ [] → w.tasks ≡ [] → w.accepted ≡ 0 → w.limit ≤ 1000000 → w.picks + w.notices ≡ 0 → room ≡ 3 * w.limit → entries ≡ [] → rings ≡ [] → 0 < w.local → IsWorld w table entries rings room
+opening_sound {P} {T} {w} {table} {entries} {rings} cells_are nobody no_tickers free unclosed no_events no_tasks none bounded unspent capacity no_entries no_rings roomy =
     let tasks = ap length no_tasks in
     let events = ap length no_events in
     let none_made = ap length no_tickers in
@@ -112,7 +112,7 @@ opening_sound {P} {T} {w} {table} {entries} {rings} cells_are nobody no_tickers 
       agree = rw (cells_are, no_events, no_entries) opening_agrees;
       notices = notices_opening w nobody;
       tickers = record { tied = rw (no_tickers, nobody) tied_opening; stores = λ k. rw (no_tickers, free) refl; opened = rw (nobody, free) refl };
-      runners = rw (no_tickers, cells_are, no_rings) runners_opening;
+      runners = rw (no_tickers, cells_are, no_rings) (runners_opening w.local roomy);
       closing = λ on. absurd (true≢false (sym on ∙ unclosed));
       room = record { within = omega arith; bounded = bounded; few_unspent = omega arith; few_tasks = omega arith; few_events = omega arith; few_before = λ _ _. omega arith; few_tickers = omega arith; enough = omega arith };
     }

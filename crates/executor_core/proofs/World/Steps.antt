@@ -30,7 +30,7 @@ use Rattle.executor_core.specs.declared.interleave.reply.Reply.TheVariants as re
 module _ {P T : Type 0} where
   -- the world after a step, by its parts
   abbrev pub stepped : Inside P T → ℕ → Core P T (Unit {0}) → List (Event T) → List (TaskEntry P) → ℕ → ℕ → Execution T
-  stepped a accepted core log entries notices picks = record { log = log; accepted = accepted; limit = a.limit; global = core.cells.global; locals = core.cells.locals; notices = notices; picks = picks; flag = core.flag; sleepers = core.sleepers; tasks = infos entries; tickers = a.tickers.items; holder = a.holder; closed = core.cells.closed; leaked = a.leaked }
+  stepped a accepted core log entries notices picks = record { log = log; accepted = accepted; limit = a.limit; local = a.local; global = core.cells.global; locals = core.cells.locals; notices = notices; picks = picks; flag = core.flag; sleepers = core.sleepers; tasks = infos entries; tickers = a.tickers.items; holder = a.holder; closed = core.cells.closed; leaked = a.leaked }
 
   -- what a step left fits together, and is what its row says
   pub record Done (later : Execution T) (table : Table P T (Unit {0})) (entries : List (TaskEntry P)) (rings : List (Option IdRing)) (room : ℕ) (r : Reply T × Execution T) (answer : Reply T) : Type 0 where

@@ -198,7 +198,7 @@ module _ {P T : Type 0} (a : Inside P T) (sound : IsWorld (execution_of a) a.cor
 
   -- what a ticker's step left fits together
   pub ticked_sound : (core : Core P T (Unit {0})) (log : List (Event T)) (entries : List (TaskEntry P)) (notices : ℕ) (tickers : List Ticker) (holder : Option ℕ) {rings : List (Option IdRing)} → Agree core.cells log entries → length entries ≡ length a.entries.items → length log ≤ length a.log.items + 1 → length tickers ≤ length a.tickers.items + 1
-      → NoNoticeLost (ticked core log entries notices tickers holder) → TickersTied tickers holder core.sleepers → RunnersTied tickers core.cells rings → notices_out (ticked core log entries notices tickers holder) ≤ notices_out (execution_of a) + 1 → a.core.cells.closed ≡ false → core.cells.closed ≡ a.core.cells.closed
+      → NoNoticeLost (ticked core log entries notices tickers holder) → TickersTied tickers holder core.sleepers → RunnersTied a.local tickers core.cells rings → notices_out (ticked core log entries notices tickers holder) ≤ notices_out (execution_of a) + 1 → a.core.cells.closed ≡ false → core.cells.closed ≡ a.core.cells.closed
       → IsWorld (ticked core log entries notices tickers holder) core.cells entries rings (vec_capacity a.log)
   ticked_sound core log entries notices tickers holder agree tasks events made law tied runners few unclosed as_before =
       record {
@@ -215,7 +215,7 @@ module _ {P T : Type 0} (a : Inside P T) (sound : IsWorld (execution_of a) a.cor
       → IsWorld (record (stepped a a.accepted core a.log.items a.entries.items a.notices a.picks) { tickers = tickers }) core.cells a.entries.items rings (vec_capacity a.log) × Makes row w reply.OutOfMemory (record (stepped a a.accepted core a.log.items a.entries.items a.notices a.picks) { tickers = tickers })
   make_refused row core_is tickers_are rings_are = rw (← view, core_is, tickers_are, rings_are) (sound, inl (refl, refl))
 
-  make_sound : w.closed ≡ false → (runner : Option ℕ) (cells : Table P T (Unit {0})) {rings : List (Option IdRing)} → Agree cells a.log.items a.entries.items → cells.global ≡ a.core.cells.global → cells.locals ≡ a.core.cells.locals → RunnersTied (a.tickers.items ++ new_ticker runner ∷ []) cells rings → cells.closed ≡ a.core.cells.closed
+  make_sound : w.closed ≡ false → (runner : Option ℕ) (cells : Table P T (Unit {0})) {rings : List (Option IdRing)} → Agree cells a.log.items a.entries.items → cells.global ≡ a.core.cells.global → cells.locals ≡ a.core.cells.locals → RunnersTied a.local (a.tickers.items ++ new_ticker runner ∷ []) cells rings → cells.closed ≡ a.core.cells.closed
       → IsWorld (ticked (record a.core { cells = cells; sleepers = after_reserve a.core.sleepers }) a.log.items a.entries.items a.notices (a.tickers.items ++ new_ticker runner ∷ []) a.holder) cells a.entries.items rings (vec_capacity a.log)
   make_sound unclosed runner cells agree global locals runners as_before =
       let core : Core P T (Unit {0}) = record a.core { cells = cells; sleepers = after_reserve a.core.sleepers } in
@@ -253,7 +253,7 @@ module _ {P T : Type 0} (a : Inside P T) (sound : IsWorld (execution_of a) a.cor
       ∙ ap (λ (s : SleeperList (Unit {0})). let x : Core P T (Unit {0}) = record a.core { sleepers = s } in x) (reserve_release sound.tickers.tied)
 
   -- a run was made, with a ring for its runner
-  pub run_done : w.closed ≡ false → {middle core : Core P T (Unit {0})} → middle ≡ record a.core { sleepers = after_reserve a.core.sleepers } → core ≡ record middle { cells = after_reserve_runner middle.cells } → {key : ℕ} → key ≡ middle.cells.next_runner → {ring : IdRing} → ring ≡ new_ring
+  pub run_done : w.closed ≡ false → {middle core : Core P T (Unit {0})} → middle ≡ record a.core { sleepers = after_reserve a.core.sleepers } → core ≡ record middle { cells = after_reserve_runner middle.cells } → {key : ℕ} → key ≡ middle.cells.next_runner → {ring : IdRing} → ring ≡ new_ring a.local
       → {reserved tickers : List Ticker} {t : Ticker} {k : ℕ} → tickers ≡ reserved ++ t ∷ [] → reserved ≡ a.tickers.items → t ≡ new_ticker (Some key) → k ≡ length reserved → {kept rings : List (Option IdRing)} → rings ≡ kept ++ Some ring ∷ [] → kept ≡ a.rings.items
       → IsWorld (ticked core a.log.items a.entries.items a.notices tickers a.holder) core.cells a.entries.items rings (vec_capacity a.log) × Makes run_row w (reply.Ticker k) (ticked core a.log.items a.entries.items a.notices tickers a.holder)
   run_done unclosed middle_is core_is key_is ring_is tickers_are reserved_are new k_is rings_are kept_are =
@@ -275,7 +275,7 @@ module _ {P T : Type 0} (a : Inside P T) (sound : IsWorld (execution_of a) a.cor
     queued_by : slice_get a.tickers.items k ≡ Some before → needs_queue before.phase ≡ true → (r : ℕ) → before.runner ≡ Some r → is_registered r a.core.cells.locals ≡ true
     queued_by found needs r is = (sound.runners.runs k before r found is).registered needs
 
-    on_queue : (u : Ticker) → slice_get a.tickers.items k ≡ Some before → u.runner ≡ before.runner → needs_queue before.phase ≡ true → RunnersTied (slice_set a.tickers.items k u) a.core.cells a.rings.items
+    on_queue : (u : Ticker) → slice_get a.tickers.items k ≡ Some before → u.runner ≡ before.runner → needs_queue before.phase ≡ true → RunnersTied a.local (slice_set a.tickers.items k u) a.core.cells a.rings.items
     on_queue u found same needs = runners_queued sound.runners k before u found same (queued_by found needs)
 
     as_many : (u : Ticker) → length (slice_set a.tickers.items k u) ≤ length a.tickers.items + 1
@@ -284,7 +284,7 @@ module _ {P T : Type 0} (a : Inside P T) (sound : IsWorld (execution_of a) a.cor
     -- a ticker that does not hold the lock, and has not ended, goes on with its number, and its notices stay as they are
     quiet_sound : (u : Ticker) → slice_get a.tickers.items k ≡ Some before → in_store before.phase ≡ false → is_over before.phase ≡ false → in_store u.phase ≡ false → gave_up u.phase ≡ false → (in_wake u.phase ≡ true → is_awake u ≡ false) → u.number ≡ before.number → notices_in u.phase ≡ notices_in before.phase
         → (s : SleeperList (Unit {0})) → s.used ≡ a.core.sleepers.used → s.places ≡ a.core.sleepers.places → s.is_open ≡ a.core.sleepers.is_open → length s.unnotified ≡ length a.core.sleepers.unnotified
-        → Covers (changed u s) → RunnersTied (slice_set a.tickers.items k u) a.core.cells a.rings.items → IsWorld (changed u s) a.core.cells a.entries.items a.rings.items (vec_capacity a.log)
+        → Covers (changed u s) → RunnersTied a.local (slice_set a.tickers.items k u) a.core.cells a.rings.items → IsWorld (changed u s) a.core.cells a.entries.items a.rings.items (vec_capacity a.log)
     quiet_sound u found apart going apart_still stays up number same s used places opened long covers runners =
         let change = kept_is (execution_of a) (changed u s) sound.notices k before u found refl in
         ticked_sound (record a.core { sleepers = s }) a.log.items a.entries.items a.notices (slice_set a.tickers.items k u) a.holder sound.agree refl (omega arith) (as_many u)
@@ -356,7 +356,7 @@ module _ {P T : Type 0} (a : Inside P T) (sound : IsWorld (execution_of a) a.cor
                 covers = covered_tick (execution_of a) later sound.notices k before (searched false before) was_made refl vain.0 (ap (λ (o : Option ℕ). is_some o) is);
               }
           by_runner (Some r) is none =
-              let places : (i : ℕ) (q : RunnerQueue ℕ) → slice_get a.core.cells.locals i ≡ Some q → 0 < q.capacity = λ i q at. subst (λ (c : ℕ). 0 < c) (sym (sound.runners.queues i q at).places) (omega arith) in
+              let places : (i : ℕ) (q : RunnerQueue ℕ) → slice_get a.core.cells.locals i ≡ Some q → 0 < q.capacity = λ i q at. subst (λ (c : ℕ). 0 < c) (sym (sound.runners.queues i q at).places) sound.runners.roomy in
               let vain = search_vain r word (queues_of a.core.cells) (queued_by was_made (ap needs_queue seeks) r is) places none in
               record {
                 same = ap (λ o. found_by o word (queues_of a.core.cells)) is ∙ vain.2;
@@ -389,7 +389,7 @@ module _ {P T : Type 0} (a : Inside P T) (sound : IsWorld (execution_of a) a.cor
         took : TookTask a sound view far core.cells task.id.number task.cancelled entries log
         took = took_task a sound view far left takes cells_are entries_are log_is
 
-        runners_left : (v : Ticker) → v.runner ≡ before.runner → RunnersTied (slice_set a.tickers.items k v) core.cells a.rings.items
+        runners_left : (v : Ticker) → v.runner ≡ before.runner → RunnersTied a.local (slice_set a.tickers.items k v) core.cells a.rings.items
         runners_left v same =
             let part = taken_runners a sound view far a.core.cells task.id.number in
             runners_shaped (on_queue v was_made same (ap needs_queue seeks)) (ap (λ c. shapes c.locals) cells_are ∙ found_shapes before.runner word (queues_of a.core.cells)) (ap (λ c. c.next_runner) cells_are ∙ ap (λ p. p.1.0) part) (ap (λ c. c.free_places) cells_are ∙ ap (λ p. p.1.1.0) part)
@@ -478,7 +478,7 @@ module _ {P T : Type 0} (a : Inside P T) (sound : IsWorld (execution_of a) a.cor
         none (Some q) h = absurd (true≢false h)
 
     held_sound : (u : Ticker) (s : SleeperList (Unit {0})) → slice_get a.tickers.items k ≡ Some before → a.holder ≡ None → in_store u.phase ≡ true → notices_in u.phase ≤ notices_in before.phase + 1 → s.is_open ≡ true → is_over before.phase ≡ false
-        → FlagLaw (held_world u s) → Covers (held_world u s) → NumbersTied (slice_set a.tickers.items k u) s → RunnersTied (slice_set a.tickers.items k u) a.core.cells a.rings.items → IsWorld (held_world u s) a.core.cells a.entries.items a.rings.items (vec_capacity a.log)
+        → FlagLaw (held_world u s) → Covers (held_world u s) → NumbersTied (slice_set a.tickers.items k u) s → RunnersTied a.local (slice_set a.tickers.items k u) a.core.cells a.rings.items → IsWorld (held_world u s) a.core.cells a.entries.items a.rings.items (vec_capacity a.log)
     held_sound u s found free storing few opened going flag covers tied runners =
         let change = kept_is (execution_of a) (held_world u s) sound.notices k before u found refl in
         ticked_sound (record a.core { sleepers = s }) a.log.items a.entries.items a.notices (slice_set a.tickers.items k u) (Some k) sound.agree refl (omega arith) (as_many u)
@@ -632,7 +632,7 @@ module _ {P T : Type 0} (a : Inside P T) (sound : IsWorld (execution_of a) a.cor
         })
       where
         by_new : slice_get a.tickers.items k ≡ Some before → (v : Ticker) (b : Bool) → is_new_run a.core.cells.locals before ≡ b → v.runner ≡ before.runner → is_waiting v.phase ≡ false → needs_queue v.phase ≡ false
-            → RunnersTied (slice_set a.tickers.items k v) (record a.core.cells { free_places = cond b (a.core.cells.free_places - 1) a.core.cells.free_places }) a.rings.items
+            → RunnersTied a.local (slice_set a.tickers.items k v) (record a.core.cells { free_places = cond b (a.core.cells.free_places - 1) a.core.cells.free_places }) a.rings.items
         by_new found v true new same goes leaves = runners_dropped sound.runners k before v found same new goes leaves refl
         by_new found v false old same goes leaves = runners_gone sound.runners k before v found same old goes leaves
 
@@ -739,7 +739,7 @@ module _ {P T : Type 0} (a : Inside P T) (sound : IsWorld (execution_of a) a.cor
         abbrev stored_world : Ticker → SleeperList (Unit {0}) → Execution T
         stored_world v s = ticked (record a.core { flag = is_notified a.core.sleepers; sleepers = s }) a.log.items a.entries.items floated (slice_set a.tickers.items k v) None
 
-        stored_sound : (v : Ticker) (s : SleeperList (Unit {0})) → in_store v.phase ≡ false → notices_in v.phase ≡ 0 → (0 < notices_in before.phase) ⊎ Covers (stored_world v s) → NumbersTied (slice_set a.tickers.items k v) s → s.is_open ≡ false → is_notified a.core.sleepers ≡ is_notified s → RunnersTied (slice_set a.tickers.items k v) a.core.cells a.rings.items
+        stored_sound : (v : Ticker) (s : SleeperList (Unit {0})) → in_store v.phase ≡ false → notices_in v.phase ≡ 0 → (0 < notices_in before.phase) ⊎ Covers (stored_world v s) → NumbersTied (slice_set a.tickers.items k v) s → s.is_open ≡ false → is_notified a.core.sleepers ≡ is_notified s → RunnersTied a.local (slice_set a.tickers.items k v) a.core.cells a.rings.items
             → IsWorld (stored_world v s) a.core.cells a.entries.items a.rings.items (vec_capacity a.log)
         stored_sound v s apart none covers tied opened says runners =
             let world : Execution T = stored_world v s in
@@ -813,7 +813,7 @@ module _ {P T : Type 0} (a : Inside P T) (sound : IsWorld (execution_of a) a.cor
         record GoesAway : Type 0 where
           pub number : before.number ≡ 0
           pub quiet : has_to_search before.phase ≡ false
-          pub runners : RunnersTied (slice_set a.tickers.items k (record before { phase = Ended })) a.core.cells a.rings.items
+          pub runners : RunnersTied a.local (slice_set a.tickers.items k (record before { phase = Ended })) a.core.cells a.rings.items
 
         goes_away : has_ended (stored before).phase ≡ true → GoesAway
         goes_away ends = let change = is_store before.phase storing in by_change change.0 change.1

@@ -5,7 +5,7 @@ use Rattle.std.specs.FinMap as map
 use Rattle.std.specs.Ordering.{nat_cmp}
 use Rattle.executor_core.specs.Cells.{Slotted, Table}
 use Rattle.executor_core.specs.Cells.Law.{queues_of}
-use Rattle.executor_core.specs.Queues.{QueueLists, emptied, local_entries, search, fair, registered, unregistered, is_registered, entries_of}
+use Rattle.executor_core.specs.Queues.{QueueLists, emptied, local_entries, search, search_any, fair, registered, unregistered, is_registered, entries_of}
 use Rattle.executor_core.specs.Cell.{is_idle, is_held, is_scheduled, is_undropped}
 use Rattle.executor_core.specs.Cell.Changes.{new_cell, woken, taken, pended, readied, awaited, cancelled_cell, detached, disposed, takes_back, output_of, is_finished_state, wakeup_of}
 use Rattle.executor_core.specs.declared.task.cell.Cell.{Cell}
@@ -163,6 +163,20 @@ module _ {P T W : Type 0} where
   pub record TakesFound (table : Table P T W) (k word : ℕ) (task : Taken P) : Type 0 where
     pub taken : IsTaken table task
     pub found : (search_in table k word).0 ≡ Some task.id.number
+
+-- take_any
+module _ {P T W : Type 0} where
+  -- what a search of any queue finds, and the queues after it
+  abbrev pub any_in : Table P T W → Option ℕ × QueueLists ℕ
+  any_in table = search_any (queues_of table)
+
+  abbrev pub after_take_any : Table P T W → Table P T W
+  after_take_any table = search_to (any_in table) table
+
+  -- the task is the one that it finds
+  pub record TakesAny (table : Table P T W) (task : Taken P) : Type 0 where
+    pub taken : IsTaken table task
+    pub found : (any_in table).0 ≡ Some task.id.number
 
 -- the other calls of a runner
 module _ {P T W : Type 0} where

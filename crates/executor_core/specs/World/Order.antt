@@ -6,7 +6,7 @@ use Rattle.executor_core.specs.World.{Execution}
 use Rattle.executor_core.specs.World.Promises.{queues}
 use Rattle.executor_core.specs.World.Steps.{idle_ones, ticker, StepTo, FoldTo}
 use Rattle.executor_core.specs.declared.interleave.request.Step.{Step}
-use Rattle.executor_core.specs.declared.interleave.request.Step.TheVariants.{Spawn, Wake, TryTick, Pend, Cancel, DropHandle, Search, Drain, Leak}
+use Rattle.executor_core.specs.declared.interleave.request.Step.TheVariants.{Spawn, Wake, TryTick, TryAny, Pend, Cancel, DropHandle, Search, Drain, Leak}
 use Rattle.executor_core.specs.declared.interleave.event.Event.{Event}
 use Rattle.executor_core.specs.declared.interleave.event.Event.TheVariants.{Woken}
 use Rattle.executor_core.specs.declared.interleave.reply.Reply.{Reply}
@@ -60,6 +60,7 @@ module _ {P T : Type 0} where
   -- the task that the step took, by its reply
   abbrev pub taken_by : Step P T → Reply T → List ℕ
   taken_by TryTick answer = taken_task answer
+  taken_by TryAny answer = taken_task answer
   taken_by (Search k word) answer = taken_task answer
   taken_by Drain answer = taken_task answer
   taken_by _ answer = []

@@ -3,15 +3,15 @@ use Rattle.std.specs.Prelude.{◌≡◌, ℕ, ◌<◌, true, List, [], length, O
 use Rattle.executor_core.specs.Cells.{Table}
 use Rattle.executor_core.specs.Queues.{RunnerQueue, is_registered}
 use Rattle.executor_core.specs.Ring.{IdRing}
-use Rattle.executor_core.specs.World.Steps.{local_places}
 use Rattle.executor_core.specs.World.Tickers.{is_run, is_new_run, needs_queue}
 use Rattle.executor_core.specs.declared.interleave.ticker.Ticker.{Ticker}
 
 -- an empty ring with a run's places
-abbrev pub new_ring : IdRing
-new_ring = record { ids = []; capacity = local_places }
+abbrev pub new_ring : ℕ → IdRing
+new_ring local = record { ids = []; capacity = local }
 
-module _ {P T W : Type 0} where
+-- by the places of a run's own queue
+module _ {P T W : Type 0} (local : ℕ) where
   -- what holds of the run of this runner
   pub record RunTied (t : Ticker) (runner : ℕ) (table : Table P T W) (rings : List (Option IdRing)) : Type 0 where
     pub made : runner < table.next_runner
@@ -19,14 +19,15 @@ module _ {P T W : Type 0} where
     pub registered : needs_queue t.phase ≡ true → is_registered runner table.locals ≡ true
     -- a new run is awake, and its ring waits
     pub awake : is_new_run table.locals t ≡ true → t.number ≡ 0
-    pub ring : is_new_run table.locals t ≡ true → slice_get rings runner ≡ Some (Some new_ring)
+    pub ring : is_new_run table.locals t ≡ true → slice_get rings runner ≡ Some (Some (new_ring local))
 
   -- what holds of a registered queue
   pub record QueueTied (q : RunnerQueue ℕ) (table : Table P T W) : Type 0 where
     pub made : q.runner < table.next_runner
-    pub places : q.capacity ≡ local_places
+    pub places : q.capacity ≡ local
 
   pub record RunnersTied (tickers : List Ticker) (table : Table P T W) (rings : List (Option IdRing)) : Type 0 where
+    pub roomy : 0 < local
     -- as many runners were made as there are runs, with a ring for each
     pub runners : table.next_runner ≡ count_by is_run tickers
     pub kept : length rings ≡ table.next_runner

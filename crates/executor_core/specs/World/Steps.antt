@@ -12,7 +12,7 @@ use Rattle.executor_core.specs.World.Tickers.{at_rest, in_search, in_sleep, in_w
 use Rattle.executor_core.specs.Cells.{Table}
 use Rattle.executor_core.specs.Cells.Calls.{IsTaken}
 use Rattle.executor_core.specs.declared.task.values.Taken.{Taken}
-use Rattle.executor_core.specs.Queues.{QueueLists, search_global, search, fair, fair_count, registered, unregistered, entries_of, local_entries, emptied}
+use Rattle.executor_core.specs.Queues.{QueueLists, search_global, search, search_any, fair, fair_count, registered, unregistered, entries_of, local_entries, emptied}
 use Rattle.executor_core.specs.declared.interleave.entry.TaskInfo.{TaskInfo}
 use Rattle.executor_core.specs.declared.interleave.ticker.Ticker.{Ticker}
 use Rattle.executor_core.specs.declared.interleave.event.Purpose.{Purpose}
@@ -20,7 +20,7 @@ use Rattle.executor_core.specs.declared.interleave.event.Purpose.TheVariants.{To
 use Rattle.executor_core.specs.declared.interleave.event.Event.{Event}
 use Rattle.executor_core.specs.declared.interleave.event.Event.TheVariants.{Spawned, Woken, Cancelled, Took, Returned, Finished, Dropped, Got}
 use Rattle.executor_core.specs.declared.interleave.request.Step.{Step}
-use Rattle.executor_core.specs.declared.interleave.request.Step.TheVariants.{Spawn, Wake, TryTick, Pend, Ready, PollHandle, Cancel, Detach, DropHandle, Dropped as DropDone, Exchange, Notify, Tick, Run, Register, Poll, Search, Sleep, Yield, Remove, Store, Fair, Unregister, Drop, Close, Drain, Leak}
+use Rattle.executor_core.specs.declared.interleave.request.Step.TheVariants.{Spawn, Wake, TryTick, TryAny, Pend, Ready, PollHandle, Cancel, Detach, DropHandle, Dropped as DropDone, Exchange, Notify, Tick, Run, Register, Poll, Search, Sleep, Yield, Remove, Store, Fair, Unregister, Drop, Close, Drain, Leak}
 use Rattle.executor_core.specs.declared.interleave.reply.Reply.{Reply}
 use Rattle.executor_core.specs.declared.interleave.reply.Reply.TheVariants as reply
 
@@ -36,13 +36,9 @@ info_or (Some i) = i
 abbrev pub new_info : ℕ → TaskInfo
 new_info slot = record { slot = slot; has_handle = true; awaited = false; to_drop = false }
 
--- a world before its first step
-abbrev pub opening : {T : Type 0} → ℕ → Execution T
-opening limit = record { log = []; accepted = 0; limit = limit; global = []; locals = []; notices = 0; picks = 0; flag = true; sleepers = no_sleepers; tasks = []; tickers = []; holder = None; closed = false; leaked = false }
-
--- for how many tasks a run's own queue has room
-abbrev pub local_places : ℕ
-local_places = 512
+-- a world before its first step, by how many it takes and the places of a run's own queue
+abbrev pub opening : {T : Type 0} → ℕ → ℕ → Execution T
+opening limit local = record { log = []; accepted = 0; limit = limit; local = local; global = []; locals = []; notices = 0; picks = 0; flag = true; sleepers = no_sleepers; tasks = []; tickers = []; holder = None; closed = false; leaked = false }
 
 -- what a task is taken for
 abbrev pub purpose_of : Bool → Purpose
@@ -72,6 +68,9 @@ module _ {T : Type 0} where
 
   abbrev pub informed : ℕ → TaskInfo → Execution T → Execution T
   informed n i w = record w { tasks = slice_set w.tasks n i }
+
+  abbrev pub with_queues : QueueLists ℕ → Execution T → Execution T
+  with_queues q w = record w { global = q.global; locals = q.locals }
 
   abbrev pub counted : Execution T → Execution T
   counted w = record w { accepted = w.accepted + 1 }
@@ -118,6 +117,11 @@ module _ {T : Type 0} where
   abbrev pub take_row : List ℕ → Execution T → Reply T × Execution T
   take_row [] w = (reply.NoTask, w)
   take_row (n ∷ rest) w = (take_reply n (cancelled n w.log), noticed (taking n rest w))
+
+  -- tryany: the front of the first queue in which something stands is taken, the global one coming first
+  abbrev pub take_any_row : Option ℕ × QueueLists ℕ → Execution T → Reply T × Execution T
+  take_any_row (None, q) w = (reply.NoTask, w)
+  take_any_row (Some n, q) w = (take_reply n (cancelled n w.log), noticed (with_queues q (taking n w.global w)))
 
   -- where a future went back, by whether its task was queued
   abbrev pub return_reply : ℕ → Bool → Reply T
@@ -269,12 +273,9 @@ module _ {T : Type 0} where
   abbrev pub run_row : Execution T → Execution T
   run_row w = ticker_row (Some (count_by is_run w.tickers)) w
 
-  abbrev pub with_queues : QueueLists ℕ → Execution T → Execution T
-  with_queues q w = record w { global = q.global; locals = q.locals }
-
   -- register k: an empty queue for its runner
   abbrev pub register_row : ℕ → Execution T → Reply T × Execution T
-  register_row k w = (reply.Done, with_queues (registered (runner_of (ticker k w)) local_places (queues w)) w)
+  register_row k w = (reply.Done, with_queues (registered (runner_of (ticker k w)) w.local (queues w)) w)
 
   -- fair k: half of the global queue goes to its own
   abbrev pub fair_row : ℕ → Execution T → Reply T × Execution T
@@ -389,6 +390,7 @@ module _ {P T : Type 0} where
   enabled (Spawn p) w = not w.closed
   enabled (Wake n) w = spawned n w.log
   enabled TryTick w = not w.closed
+  enabled TryAny w = not w.closed
   enabled (Pend n) w = held n w.log && not (info n w).to_drop
   enabled (Ready n t) w = held n w.log && not (info n w).to_drop
   enabled (PollHandle n) w = (info n w).has_handle
@@ -419,6 +421,7 @@ module _ {P T : Type 0} where
   Does (Spawn p) old answer new = Spawns old answer new
   Does (Wake n) old answer new = row (wake_row n old) answer new
   Does TryTick old answer new = row (take_row old.global old) answer new
+  Does TryAny old answer new = row (take_any_row (search_any (queues old)) old) answer new
   Does (Pend n) old answer new = row (pend_row n old) answer new
   Does (Ready n t) old answer new = row (ready_row n t old) answer new
   Does (PollHandle n) old answer new = row (handle_row n old) answer new

@@ -26,13 +26,13 @@ module _ {T : Type 0} where
 
 module _ {P T : Type 0} where
   abbrev pub execution_of : Inside P T → Execution T
-  execution_of a = record { log = a.log.items; accepted = a.accepted; limit = a.limit; global = a.core.cells.global; locals = a.core.cells.locals; notices = a.notices; picks = a.picks; flag = a.core.flag; sleepers = a.core.sleepers; tasks = infos a.entries.items; tickers = a.tickers.items; holder = a.holder; closed = a.core.cells.closed; leaked = a.leaked }
+  execution_of a = record { log = a.log.items; accepted = a.accepted; limit = a.limit; local = a.local; global = a.core.cells.global; locals = a.core.cells.locals; notices = a.notices; picks = a.picks; flag = a.core.flag; sleepers = a.core.sleepers; tasks = infos a.entries.items; tickers = a.tickers.items; holder = a.holder; closed = a.core.cells.closed; leaked = a.leaked }
 
   -- what is seen, the cells, what is kept of the tasks, the rings of new runs, and the room of the log fit together
   pub record IsWorld (w : Execution T) (table : Table P T (Unit {0})) (entries : List (TaskEntry P)) (rings : List (Option IdRing)) (capacity : ℕ) : Type 0 where
     pub agree : Agree table w.log entries
     pub notices : NoNoticeLost w
     pub tickers : TickersTied w.tickers w.holder w.sleepers
-    pub runners : RunnersTied w.tickers table rings
+    pub runners : RunnersTied w.local w.tickers table rings
     pub closing : w.closed ≡ true → IsClosed w
     pub room : HasRoom w capacity

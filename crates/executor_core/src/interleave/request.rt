@@ -9,6 +9,9 @@ pub enum Step<P, T> {
     Wake(u64),
     /// The task at the front of the global queue is taken.
     TryTick,
+    /// The task at the front of the global queue is taken, or else that of the first runner's queue that
+    /// has one.
+    TryAny,
     /// The poll of this task ends pending.
     Pend(u64),
     /// The poll of this task ends with this output.

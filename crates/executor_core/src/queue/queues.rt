@@ -10,7 +10,7 @@
 ghost use Rattle.std.specs.Prelude.{◌≡◌, ◌≢◌, ◌+◌, ◌-◌, ◌<◌, ◌≤◌, ◌^◌, ◌↔◌, ◌&&◌, ◌∷◌, ◌++◌, nat_lt, not, true, false, is_some, cond, [], Some, None, ◌==◌, map, drop, IfOk, IfErr, IsOk, IsErr, OnOk, OnErr, length, option_copied, option_map, unwrap_or, slice_get, slice_index_or, slice_set};
 ghost use Rattle.std.specs.List.{position, find, range_with_len};
 ghost use Rattle.executor_core.specs.SpawnError.{last_number};
-ghost use Rattle.executor_core.specs.Queues.{position_of, is_registered, search_global, search, gives, victim, fair, fair_count, registered, unregistered, unregistered_at, stolen_between, stolen_locals, global_stolen, stolen, with_entries, entries_at, capacity_at, entries_of, emptied, local_entries, gathered};
+ghost use Rattle.executor_core.specs.Queues.{position_of, is_registered, search_global, search, search_any, first_occupied, gives, victim, fair, fair_count, registered, unregistered, unregistered_at, stolen_between, stolen_locals, global_stolen, stolen, with_entries, entries_at, capacity_at, entries_of, emptied, local_entries, gathered};
 ghost use Rattle.executor_core.specs.Queues.View.{local_of};
 ghost use Rattle.executor_core.specs.Queues.State.{no_queues, with_lists, pushed};
 ghost use Rattle.executor_core.specs.Queues.Slots.{with_state};
@@ -188,6 +188,13 @@ fn position_in(locals: &[LocalQueue], runner: u64) -> Option<usize>
     ensures { result ≡ position (λ l. l.runner == runner) locals.now }
 {
     locals.iter().position(|local| local.runner == runner)
+}
+
+// At which position the first queue stands in which a task is queued.
+fn first_in(locals: &[LocalQueue]) -> Option<usize>
+    ensures { result ≡ position (λ l. not (length l.ring.ids == 0)) locals.now }
+{
+    locals.iter().position(|local| !local.ring.is_empty())
 }
 
 // Whether it stands at this position.
@@ -396,6 +403,27 @@ impl<P, T, W> Queues<P, T, W> {
         let from = self.find_victim(own, word)?;
         self.steal_between(from, own);
         self.take_local(own)
+    }
+
+    // Takes the task at the global front, or else at the front of the first runner's queue that has
+    // one.
+    pub(crate) fn take_any(&mut self) -> Option<TaskId>
+        ensures found { result ≡ (search_any self.old.state.lists).0 }
+        ensures slots { self.new.slots ≡ self.old.slots }
+        ensures lists { self.new.state ≡ with_lists (search_any self.old.state.lists).1 self.old.state }
+    {
+        if let Some(id) = self.take_front() {
+            return Some(id);
+        }
+        let own = self.first_occupied()?;
+        self.take_local(own)
+    }
+
+    // The first of the runners' queues in which a task stands.
+    fn first_occupied(&self) -> Option<usize>
+        ensures { result ≡ first_occupied self.now.state.lists.locals }
+    {
+        first_in(&self.locals)
     }
 
     // Takes the task at the front of the queue at this position.

@@ -27,12 +27,12 @@ const RUNS: [(&str, &str); 4] = [
     // After the close wakes, handles, notices and drops go on, and tickers do not.
     (
         "tick\npoll 0\nsearch 0 0\nsleep 0\nstore 0\nsearch 0 0\nsleep 0\nrun\nspawn\nspawn\n\
-         close\nspawn\ntrytick\ntick\nrun\npoll 0\ndrop 0\nregister 1\ndrop 1\nwake 0\n\
+         close\nspawn\ntrytick\ntryany\ntick\nrun\npoll 0\ndrop 0\nregister 1\ndrop 1\nwake 0\n\
          exchange\nnotify\npollhandle 0\ncancel 1\ndrain\nwake 0\ndropped 0\ndetach 0\n\
          drophandle 1\nshow\ndrain\ndropped 1\nshow\n",
         "ticker 0\ndone\nnone\nnumber 1\nfalse\nnone\nparked\nticker 1\ntask 0\ntask 1\n\
-         nothing\nnot now\nnot now\nnot now\nnot now\nnot now\nnot now\nnot now\nnot now\nnothing\n\
-         pick\nsleeper 1\npending\nnothing\ndrop 0\nnothing\ngone awaiter\nnothing\nnothing\n\
+         nothing\nnot now\nnot now\nnot now\nnot now\nnot now\nnot now\nnot now\nnot now\n\
+         not now\nnothing\npick\nsleeper 1\npending\nnothing\ndrop 0\nnothing\ngone awaiter\nnothing\nnothing\n\
          global [1] locals [] flag true numbers 1 notified 1 notices 1 picks 0 undropped 1\n\
          drop 1\ngone\n\
          global [] locals [] flag true numbers 1 notified 1 notices 1 picks 0 undropped 0\n",

@@ -3,7 +3,7 @@ use super::{Turn, expect_runs, expect_turns};
 use std::test::Fail;
 
 // What is read, and what is written.
-const RUNS: [(&str, &str); 5] = [
+const RUNS: [(&str, &str); 6] = [
     // A search takes the front of the global queue, and half of what is left. What a runner that
     // goes still has stands at the global end.
     (
@@ -14,6 +14,15 @@ const RUNS: [(&str, &str); 5] = [
          5\nnotice\n\
          global [3, 4, 1, 2] locals [] flag true numbers 0 notified 0 notices 7 picks 0 undropped \
          5\nawake\n",
+    ),
+    // A take of any queue takes from the global one first, and then from those of the runners.
+    (
+        "spawn\nspawn\nspawn\nspawn\nspawn\nrun\nregister 0\npoll 0\nsearch 0 9\nshow\n\
+         tryany\ntryany\ntryany\ntryany\ntryany\nshow\n",
+        "task 0\ntask 1\ntask 2\ntask 3\ntask 4\nticker 0\ndone\ndone\npoll 0\n\
+         global [3, 4] locals [[1, 2]] flag true numbers 0 notified 0 notices 6 picks 0 undropped \
+         5\npoll 3\npoll 4\npoll 1\npoll 2\nnone\n\
+         global [] locals [[]] flag true numbers 0 notified 0 notices 10 picks 0 undropped 5\n",
     ),
     // Another run takes from the global queue, then its own task, and then steals from the first.
     (

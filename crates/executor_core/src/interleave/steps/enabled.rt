@@ -147,7 +147,8 @@ impl<P: Drop, T: Copy> World<P, T> {
         ensures { result ≡ enabled step.now self.now }
     {
         match step {
-            Step::Spawn(_) | Step::TryTick | Step::Tick | Step::Run => !self.is_closed(),
+            Step::Spawn(_) | Step::TryTick | Step::TryAny | Step::Tick | Step::Run =>
+                !self.is_closed(),
             Step::Wake(n) => find_info(&self.entries, *n).is_some(),
             Step::Pend(n) => self.may_end(*n),
             Step::Ready(n, _) => self.may_end(*n),

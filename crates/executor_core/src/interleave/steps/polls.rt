@@ -2,8 +2,10 @@
 ghost use Rattle.std.specs.Prelude.{◌≡◌, ◌≢◌, ◌<◌, ◌&&◌, ◌++◌, ◌∷◌, [], not, true, Some, length, slice_get, slice_set};
 ghost use Rattle.std.specs.Vec.{vec_capacity};
 ghost use Rattle.executor_core.specs.World.Entries.{out_entry};
+ghost use Rattle.executor_core.specs.Queues.{search_any};
 ghost use Rattle.executor_core.specs.World.Log.{held};
-ghost use Rattle.executor_core.specs.World.Steps.{info, purpose_of, take_reply, row, take_row, pend_row, ready_row, dropped_row};
+ghost use Rattle.executor_core.specs.World.Promises.{queues};
+ghost use Rattle.executor_core.specs.World.Steps.{info, purpose_of, take_reply, row, take_row, take_any_row, pend_row, ready_row, dropped_row};
 
 use crate::interleave::World;
 use crate::interleave::entry::{FutureOut, TaskEntry, set_entry, take_unpolled};
@@ -50,6 +52,19 @@ impl<P: Drop, T: Copy> World<P, T> {
     {
         self.accepted += 1;
         let Some((taken, notice)) = self.core.take_global(None) else {
+            return Reply::NoTask;
+        };
+        keep_notice(&mut self.notices, Some(notice));
+        put_out(&mut self.entries, &mut self.log, taken)
+    }
+
+    pub(crate) fn try_any(&mut self) -> Reply<T>
+        requires room { self.old.accepted ≢ self.old.limit }
+        requires enabled { not self.old.closed ≡ true }
+        ensures { row (take_any_row (search_any (queues self.old)) self.old) result self.new }
+    {
+        self.accepted += 1;
+        let Some((taken, notice)) = self.core.take_any(None) else {
             return Reply::NoTask;
         };
         keep_notice(&mut self.notices, Some(notice));

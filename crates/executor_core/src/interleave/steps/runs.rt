@@ -12,9 +12,6 @@ use crate::interleave::steps::notices::keep_notice;
 use crate::interleave::ticker::{Ticker, set_ticker, ticker_at};
 use crate::queue::{Ring, RunnerError, RunnerKey};
 
-// For how many tasks a run's own queue has room.
-const LOCAL_PLACES: usize = 512;
-
 impl<P: Drop, T: Copy> World<P, T> {
     pub(crate) fn make_run(&mut self) -> Reply<T>
         requires room { self.old.accepted ≢ self.old.limit }
@@ -27,7 +24,7 @@ impl<P: Drop, T: Copy> World<P, T> {
         if self.rings.try_reserve(1).is_err() {
             return Reply::OutOfMemory;
         }
-        let Ok(ring) = Ring::new(self.alloc, LOCAL_PLACES) else {
+        let Ok(ring) = Ring::new(self.alloc, self.local) else {
             return Reply::OutOfMemory;
         };
         if self.core.reserve().is_err() {

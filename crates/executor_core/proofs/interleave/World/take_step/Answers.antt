@@ -27,6 +27,12 @@ try_tick-requires g c = record { room = (subst (λ w. w.accepted ≢ w.limit) c.
 pub returns-in-TryTick : goal.returns-in-TryTick
 returns-in-TryTick g c = step_done _ _ _ c.in-TryTick.is _ _ (subst (λ w. w.accepted ≢ w.limit) c.self.view_is c.if-self.false) (sym c.is_enabled.ensures ∙ c.if-not-is_enabled.false) c.try_tick.ensures
 
+pub try_any-requires : goal.try_any-requires
+try_any-requires g c = record { room = (subst (λ w. w.accepted ≢ w.limit) c.self.view_is c.if-self.false); enabled = step_enabled _ _ c.in-TryAny.is (sym c.is_enabled.ensures ∙ c.if-not-is_enabled.false) }
+
+pub returns-in-TryAny : goal.returns-in-TryAny
+returns-in-TryAny g c = step_done _ _ _ c.in-TryAny.is _ _ (subst (λ w. w.accepted ≢ w.limit) c.self.view_is c.if-self.false) (sym c.is_enabled.ensures ∙ c.if-not-is_enabled.false) c.try_any.ensures
+
 pub pend-requires : goal.pend-requires
 pend-requires g c = record { room = (subst (λ w. w.accepted ≢ w.limit) c.self.view_is c.if-self.false); enabled = step_enabled _ _ c.in-Pend.is (sym c.is_enabled.ensures ∙ c.if-not-is_enabled.false) }
 

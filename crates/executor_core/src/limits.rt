@@ -1,0 +1,79 @@
+//! The limits of an executor, which its caller may hand in.
+ghost use Rattle.std.specs.Prelude.{◌≡◌};
+ghost use Rattle.executor_core.specs.Limits.{is_lawful, default_limits};
+ghost use Rattle.executor_core.specs.declared.limits.NewError.TheVariants as NewError;
+
+use crate::task::OutOfMemory;
+use std::alloc::AllocError;
+use thiserror::Error;
+
+// The limits of an executor whose caller hands in none.
+const LOCAL: usize = 512;
+
+const TURN: u32 = 200;
+
+const FAIR: u32 = 64;
+
+// For how many tasks the queue of a run may have room at most.
+const MOST_LOCAL: usize = 65_536;
+
+/// The limits of an executor. Its runs keep them.
+#[derive(Debug, Clone, Copy, PartialEq, Eq)]
+pub struct Limits {
+    /// For how many tasks a run's own queue has room: 1 to 65,536.
+    pub local: usize,
+    /// How many tasks a run runs in a turn, after which it lets others of its thread go on: at
+    /// least 1.
+    pub turn: u32,
+    /// How many tasks a run finds from one fair part of the global queue to the next: at least 1.
+    pub fair: u32,
+}
+
+impl Limits {
+    /// Whether each of them is in its range.
+    pub fn is_lawful(&self) -> bool
+        ensures { result ≡ is_lawful self.now }
+    {
+        0 < self.local && self.local <= MOST_LOCAL && 0 < self.turn && 0 < self.fair
+    }
+}
+
+impl Default for Limits {
+    /// Room for 512 tasks, turns of 200 tasks, and a fair part with each 64th task.
+    fn default() -> Limits
+        ensures { result ≡ default_limits }
+    {
+        Limits {
+            local: LOCAL,
+            turn: TURN,
+            fair: FAIR,
+        }
+    }
+}
+
+/// Why nothing was made.
+#[derive(Debug, Clone, Copy, PartialEq, Eq, Error)]
+pub enum NewError {
+    /// A limit is not in its range. No memory was asked for.
+    #[error("a limit is not in its range")]
+    BadLimits,
+    /// A growth of memory was refused.
+    #[error("out of memory")]
+    OutOfMemory,
+}
+
+impl From<OutOfMemory> for NewError {
+    ghost from_gives = { λ _ e. e ≡ NewError.OutOfMemory };
+
+    fn from(_error: OutOfMemory) -> NewError {
+        NewError::OutOfMemory
+    }
+}
+
+impl From<AllocError> for NewError {
+    ghost from_gives = { λ _ e. e ≡ NewError.OutOfMemory };
+
+    fn from(_error: AllocError) -> NewError {
+        NewError::OutOfMemory
+    }
+}
