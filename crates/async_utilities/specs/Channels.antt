@@ -2,8 +2,8 @@
 use Rattle.std.specs.Prelude.{ℕ, ◌≡◌, ◌==◌, ◌||◌, nat_lt, Option, is_some, position, Bool, true, false, List, [], ◌∷◌, ◌++◌, length, drop, if◌then◌else◌}
 use Rattle.circular_buffer.specs.Buffer.{Buffer}
 use Rattle.async_utilities.specs.Lines.{first_due, waker_at, without}
-use Rattle.async_utilities.specs.declared.channels.side.Due.{Due}
-use Rattle.async_utilities.specs.declared.channels.side.Due.TheVariants.{Nobody}
+use Rattle.async_utilities.specs.declared.due.Due.{Due}
+use Rattle.async_utilities.specs.declared.due.Due.TheVariants.{Nobody}
 use Rattle.async_utilities.specs.declared.channels.state.State.{State}
 use Rattle.async_utilities.specs.declared.channels.state.Sent.{Sent}
 use Rattle.async_utilities.specs.declared.channels.state.Sent.TheVariants.{Kept, Full, Closed}

@@ -1,4 +1,5 @@
 pub mod Channels
+pub mod Deadlines
 pub mod Halves
 pub mod Joins
 pub mod Lines

@@ -1,8 +1,8 @@
 -- Those who wait at one side of a channel, in order.
 use Rattle.std.specs.Prelude.{ℕ, List, [], ◌∷◌, ◌++◌, Option, Some, None, slice_get, slice_set}
 use Rattle.std.specs.List.{remove}
-use Rattle.async_utilities.specs.declared.channels.side.Due.{Due}
-use Rattle.async_utilities.specs.declared.channels.side.Due.TheVariants.{Nobody, One}
+use Rattle.async_utilities.specs.declared.due.Due.{Due}
+use Rattle.async_utilities.specs.declared.due.Due.TheVariants.{Nobody, One}
 
 module _ {W : Type 0} where
   -- without the one at this place, if there is one

@@ -6,6 +6,7 @@ use async_executor::{Future, OutOfMemory, Poll, Wake};
 use std::alloc::{AllocError, Global};
 use std::sync::{Arc, Wait};
 use std::thread::Parker;
+use std::time::Duration;
 
 /// Wakes one thread, which parks while it waits. No wake is lost: the thread does not park if one
 /// came before.
@@ -32,6 +33,11 @@ impl ThreadWaker {
     /// happened since the last time.
     pub fn park<R: Wait>(&self, rt: &R) {
         self.parker.park(rt);
+    }
+
+    /// The same, but no longer than this. It may return before.
+    pub fn park_timeout<R: Wait>(&self, rt: &R, duration: Duration) {
+        self.parker.park_timeout(rt, duration);
     }
 }
 

@@ -10,8 +10,8 @@ ghost use Rattle.std.specs.Prelude.{◌<◌};
 pub(crate) mod side;
 pub(crate) mod state;
 
-use crate::channels::side::Due;
 use crate::channels::state::{Received, Sent, State};
+use crate::due::{Due, wake_unless_kept};
 use async_executor::{Future, OutOfMemory, Poll, Wake};
 use std::alloc::Global;
 use std::sync::{Arc, Mutex, MutexGuard, Wait};
@@ -200,14 +200,6 @@ impl<T: Drop, S: Wake, V: Wake, R: Wait + Drop> Sender<T, S, V, R> {
             sender: self,
             message: Some(message),
         }
-    }
-}
-
-// Wakes a waker that could not be kept, and drops one that was kept before.
-fn wake_unless_kept<W: Wake>(unused: Result<Option<W>, W>) {
-    match unused {
-        Ok(earlier) => drop(earlier),
-        Err(waker) => waker.wake(),
     }
 }
 

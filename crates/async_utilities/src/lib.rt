@@ -1,5 +1,5 @@
 //! What programs need beside an executor: a thread that waits for a future, small futures, joins, a
-//! signal, a channel, and a pool of threads.
+//! signal, a channel, timers, and a pool of threads.
 //!
 //! It stands on what `async_executor` makes public. Its futures are for wakers of any type, and its
 //! waker serves any future.
@@ -8,10 +8,12 @@
 pub mod blocking;
 pub mod channels;
 pub mod combining;
+pub(crate) mod due;
 pub mod immediate;
 pub mod joining;
 pub mod pooling;
 pub mod signals;
+pub mod timers;
 
 pub use blocking::{ThreadWaker, block_on, poll_until_ready};
 pub use channels::{NoMessage, Receive, Receiver, Send, Sender, Unsent, bounded};
@@ -20,3 +22,4 @@ pub use immediate::{Never, Ready, YieldNow};
 pub use joining::JoinAll;
 pub use pooling::{Pool, PoolError};
 pub use signals::{Signal, Waiting};
+pub use timers::{After, Reading, TimedOut, Timeout, Timer, TimerError, TimerFailed};

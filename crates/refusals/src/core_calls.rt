@@ -1,6 +1,7 @@
 //! The calls of the core that take memory.
 use crate::outcome::{Outcome, count};
 use executor_core::interleave::{Reply, Step, World};
+use executor_core::limits::{Limits, NewError};
 use executor_core::plain_core::{Core, FlagValue};
 use executor_core::queue::Ring;
 use executor_core::sleepers::Sleepers;
@@ -93,6 +94,16 @@ fn one_step_world(alloc: Global, outcome: &mut Outcome) -> Option<World<(), u64>
     }
     count(&mut outcome.world_new);
     World::new(alloc, 1).ok()
+}
+
+/// Makes a world with limits, and again where that is refused.
+pub fn make_world_with(alloc: Global, outcome: &mut Outcome) {
+    let made = World::<(), u64>::new_with(alloc, 1, Limits::default());
+    if made.is_err() {
+        count(&mut outcome.world_new_with);
+        outcome.expect(matches!(&made, Err(NewError::OutOfMemory)));
+        outcome.expect(World::<(), u64>::new_with(alloc, 1, Limits::default()).is_ok());
+    }
 }
 
 // The list of the one step, made again where that is refused.

@@ -8,6 +8,7 @@ mod growth;
 mod outcome;
 mod rooms;
 mod running;
+mod timers;
 mod utilities;
 
 use outcome::Outcome;
@@ -24,8 +25,10 @@ fn main(rt: HostRuntime) -> io::Result<ExitCode> {
     core_calls::reserve_place(alloc, &mut outcome);
     core_calls::reserve_in_core(alloc, &mut outcome);
     core_calls::run_world(alloc, &mut outcome);
+    core_calls::make_world_with(alloc, &mut outcome);
     core_calls::make_ticker(alloc, &mut outcome, false);
     core_calls::make_ticker(alloc, &mut outcome, true);
+    running::make_with(&rt, alloc, &mut outcome);
     running::spawn_and_run(&rt, alloc, &mut outcome);
     running::spawn_many_and_run(&rt, alloc, &mut outcome);
     running::tick_and_run(&rt, alloc, &mut outcome);
@@ -34,6 +37,10 @@ fn main(rt: HostRuntime) -> io::Result<ExitCode> {
     utilities::join(alloc, &mut refused);
     utilities::wait_for_signal(&rt, alloc, &mut refused);
     utilities::send(&rt, alloc, &mut refused);
+    timers::wait_for_time(&rt, alloc, &mut refused);
+    timers::wait_in_time(&rt, alloc, &mut refused);
+    timers::drive(&rt, alloc, &mut refused);
+    timers::start_pool(&rt, alloc, &mut refused);
     if let Some((sleepers, runners)) = rooms::keep_rooms(&rt, alloc, &mut outcome) {
         println!(rt; "room for {sleepers} sleepers and {runners} runners")?;
     }
@@ -42,16 +49,18 @@ fn main(rt: HostRuntime) -> io::Result<ExitCode> {
     }
     let wrong = outcome.wrong.saturating_add(refused.wrong);
     println!(rt;
-        "refused: Cells::spawn {}, Cells::reserve_runner {}, Ring::new {}, Sleepers::reserve {}, Core::reserve {}, World::new {}, World::run {}, World::step {}, Executor::new {}, Executor::spawn {}, Executor::spawn_many {}, Executor::tick {}, Executor::run {}, block_on {}, JoinAll::new {}, Signal::new {}, Signal::waiting {}, bounded {}, Sender::copy {}, Receiver::copy {}, lists {}, steps {}, orders {}; wrong: {}",
+        "refused: Cells::spawn {}, Cells::reserve_runner {}, Ring::new {}, Sleepers::reserve {}, Core::reserve {}, World::new {}, World::new_with {}, World::run {}, World::step {}, Executor::new {}, Executor::new_with {}, Executor::spawn {}, Executor::spawn_many {}, Executor::tick {}, Executor::run {}, block_on {}, JoinAll::new {}, Signal::new {}, Signal::waiting {}, bounded {}, Sender::copy {}, Receiver::copy {}, Timer::new {}, Timer::after {}, Timer::timeout {}, Timer::block_on {}, Pool::new {}, threads {}, lists {}, steps {}, orders {}; wrong: {}",
         outcome.cells_spawn,
         outcome.cells_reserve_runner,
         outcome.ring_new,
         outcome.sleepers_reserve,
         outcome.core_reserve,
         outcome.world_new,
+        outcome.world_new_with,
         outcome.world_run,
         outcome.world_step,
         outcome.executor_new,
+        outcome.executor_new_with,
         outcome.executor_spawn,
         outcome.executor_spawn_many,
         outcome.executor_tick,
@@ -63,6 +72,12 @@ fn main(rt: HostRuntime) -> io::Result<ExitCode> {
         refused.bounded,
         refused.sender,
         refused.receiver,
+        refused.timer,
+        refused.after,
+        refused.timeout,
+        refused.driver,
+        refused.pool,
+        refused.thread,
         refused.list,
         outcome.steps,
         outcome.orders,

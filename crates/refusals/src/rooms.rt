@@ -1,9 +1,10 @@
-//! What takes no memory: the drop of an executor, and as many ticks and runs as there is room for. A run that is over leaves
+//! What takes no memory: the drop of an executor, limits that are refused, and as many ticks and runs as there is room for. A run that is over leaves
 //! as much room as there was before it, and so does one that was refused, whichever of its requests
 //! was.
 use crate::outcome::{Outcome, count};
-use crate::running::{AddingExecutor, Adds, Beside, CountingWaker, made, spawn_all};
-use async_executor::executor::{Run, Tick};
+use crate::running::{AddingExecutor, Adds, Beside, CountingWaker, made, made_with, spawn_all};
+use async_executor::executor::{Limits, NewError, Run, Tick};
+use executor_core::interleave::World;
 use executor_core::queue::Ring;
 use std::alloc::{AllocError, Global};
 use std::sync::Wait;
@@ -154,6 +155,26 @@ fn drop_one<R: Wait + Clone + Drop + Send + Sync>(rt: &R, alloc: Global, outcome
     outcome.expect(sum.load(Ordering::SeqCst) == 0);
 }
 
+// Limits that are out of their range are refused before a request for memory is made, so one that
+// comes after is the first.
+fn refuse_limits<R: Wait + Clone + Drop + Send + Sync>(
+    rt: &R,
+    alloc: Global,
+    outcome: &mut Outcome,
+) {
+    let limits = Limits {
+        turn: 0,
+        ..Limits::default()
+    };
+    order(alloc, 1);
+    outcome.expect(matches!(&made_with(rt, alloc, limits), Err(NewError::BadLimits)));
+    outcome.expect(is_ring_refused(alloc));
+    order(alloc, 1);
+    let world = World::<(), u64>::new_with(alloc, 1, limits);
+    outcome.expect(matches!(&world, Err(NewError::BadLimits)));
+    outcome.expect(is_ring_refused(alloc));
+}
+
 /// For how many sleepers and runners a new executor has room, before and after runs that were
 /// refused. There is no answer if the library takes no orders.
 pub fn keep_rooms<R: Wait + Clone + Drop + Send + Sync>(
@@ -165,6 +186,7 @@ pub fn keep_rooms<R: Wait + Clone + Drop + Send + Sync>(
         return None;
     }
     drop_one(rt, alloc, outcome);
+    refuse_limits(rt, alloc, outcome);
     let ex = made(rt, alloc, outcome)?;
     let sleepers = refuse_first(&ex, alloc, outcome).ok()?;
     let runners = refuse_later(&ex, alloc, outcome).ok()?;

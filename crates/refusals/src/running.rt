@@ -1,6 +1,8 @@
 //! The calls of a running executor that take memory.
 use crate::outcome::{Outcome, count};
-use async_executor::executor::{Executor, Run, RunError, RunnerError, Task, Tick};
+use async_executor::executor::{
+    Executor, Limits, NewError, Run, RunError, RunnerError, Task, Tick,
+};
 use executor_core::task::{Future, OutOfMemory, Poll, SpawnError, Wake};
 use std::alloc::Global;
 use std::sync::Wait;
@@ -54,6 +56,32 @@ pub fn made<'a, R: Wait + Clone + Drop + Send + Sync>(
     }
     count(&mut outcome.executor_new);
     Executor::new(rt.clone().ok()?, alloc).ok()
+}
+
+/// Makes an executor with limits, and again where that is refused.
+pub fn make_with<R: Wait + Clone + Drop + Send + Sync>(
+    rt: &R,
+    alloc: Global,
+    outcome: &mut Outcome,
+) {
+    let made = made_with(rt, alloc, Limits::default());
+    if made.is_err() {
+        count(&mut outcome.executor_new_with);
+        outcome.expect(matches!(&made, Err(NewError::OutOfMemory)));
+        outcome.expect(made_with(rt, alloc, Limits::default()).is_ok());
+    }
+}
+
+/// An executor with these limits.
+pub fn made_with<'a, R: Wait + Clone + Drop + Send + Sync>(
+    rt: &R,
+    alloc: Global,
+    limits: Limits,
+) -> Result<AddingExecutor<'a, R>, NewError> {
+    match rt.clone() {
+        Ok(rt) => Executor::new_with(rt, alloc, limits),
+        Err(_) => Err(NewError::OutOfMemory),
+    }
 }
 
 // Spawns a task, and again where that is refused.

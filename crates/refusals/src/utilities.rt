@@ -16,6 +16,12 @@ pub struct Refused {
     pub bounded: u32,
     pub sender: u32,
     pub receiver: u32,
+    pub timer: u32,
+    pub after: u32,
+    pub timeout: u32,
+    pub driver: u32,
+    pub pool: u32,
+    pub thread: u32,
     pub list: u32,
     pub wrong: u32,
 }
@@ -31,13 +37,19 @@ impl Refused {
             bounded: 0,
             sender: 0,
             receiver: 0,
+            timer: 0,
+            after: 0,
+            timeout: 0,
+            driver: 0,
+            pool: 0,
+            thread: 0,
             list: 0,
             wrong: 0,
         }
     }
 
-    // An answer is wrong where this does not hold.
-    fn expect(&mut self, holds: bool) {
+    /// An answer is wrong where this does not hold.
+    pub fn expect(&mut self, holds: bool) {
         if !holds {
             count(&mut self.wrong);
         }
@@ -46,7 +58,7 @@ impl Refused {
 
 /// Wakes nobody.
 #[derive(Drop)]
-struct Nobody;
+pub struct Nobody;
 
 impl Wake for Nobody {
     fn wake(&self) {}

@@ -39,7 +39,8 @@ fn awaits<R: Wait + Clone + Drop + Send + Sync>(
     None
 }
 
-/// Runs one task of a new executor by a tick, and one by itself. What is left is in its text.
+/// Runs one task of a new executor to its end, by a tick and by itself, and begins another one. What is
+/// left is in its text.
 pub fn prints<R: Wait + Clone + Drop + Send + Sync>(
     rt: &R,
     alloc: Global,
@@ -49,6 +50,7 @@ pub fn prints<R: Wait + Clone + Drop + Send + Sync>(
     server.tick().ok()?.poll(&Nobody);
     server.try_tick();
     server.spawn(Sum::of(3, 4)).ok()?.detach();
+    server.try_tick_any();
     Some(server)
 }
 
@@ -60,12 +62,14 @@ pub fn lasts<R: Wait + Clone + Drop>(
     Some(executor.leak())
 }
 
-/// Runs a task of a new executor on this thread by a tick, by itself, and by a run.
+/// Runs tasks of a new executor on this thread by a tick, by themselves, and by a run.
 pub fn keeps<R: Wait + Clone + Drop>(rt: &R, alloc: Global) -> Option<bool> {
     let server = StaticLocalExecutor::new(rt.clone().ok()?, alloc).ok()?;
     server.spawn(Sum::of(1, 2)).ok()?.detach();
     server.tick().ok()?.poll(&Nobody);
     server.try_tick();
+    server.spawn(Sum::of(5, 6)).ok()?.detach();
+    server.try_tick_any();
     let mut run = server.run(server.spawn(Sum::of(3, 4)).ok()?).ok()?;
     run.poll(&Nobody);
     Some(run.poll(&Nobody) == Poll::Ready(Ok(7)))

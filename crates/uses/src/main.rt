@@ -6,25 +6,29 @@ mod calling;
 mod crossing;
 mod futures;
 mod lasting;
+mod limiting;
 mod parking;
 mod pooling;
 mod priorities;
 mod staying;
+mod timing;
 
 use async_executor::{Cancelled, Executor, Future, OutOfMemory, Poll, Task, TaskWaker, Wake};
 use calling::{asks_again, gives_back};
 use executor_core::interleave::{Reply, Step, World};
 use futures::{Channel, Job, Nobody, Receiver, Sum, send};
 use lasting::{keeps, lasts, prints, serves};
+use limiting::keeps_turns;
 use parking::parks;
-use pooling::pools;
+use pooling::{joins, pools};
 use priorities::{accepts, overtakes, prefers};
-use staying::{gathers, local_executor, naps, releases, stays};
+use staying::{clears, gathers, local_executor, naps, releases, stays};
 use std::alloc::Global;
 use std::fmt::Debug;
 use std::io;
 use std::sync::{Mutex, Wait};
 use std::thread::{self, Threads};
+use timing::times_out;
 
 /// Runs a task until nothing is scheduled, and asks its handle for the output.
 fn runs<F, R>(rt: &R, alloc: Global, future: F) -> Option<F::Output>
@@ -211,6 +215,26 @@ fn sleeps<R: Wait + Clone + Drop + Send + Sync>(
     Some((asleep, woken))
 }
 
+/// Polls a run once, which leaves tasks in a queue of its own, and then runs all that is left without
+/// it. Says whether tasks were left once the queue that all share was empty, and whether none is in
+/// the end.
+fn empties<R: Wait + Clone + Drop + Send + Sync>(rt: &R, alloc: Global) -> Option<(bool, bool)> {
+    let executor = executor(rt, alloc)?;
+    let mut tasks: Vec<Task<Sum, Nobody, R>> = Vec::new(alloc);
+    let sums = (0..150).map(|number| Sum::of(number, number));
+    executor.spawn_many(sums, &mut tasks).ok()?;
+    let mut run = executor.run(executor.spawn(Sum::of(1, 2)).ok()?).ok()?;
+    run.poll(&Nobody);
+    run_all(rt, &executor);
+    let is_left = !executor.is_empty();
+    for _ in rt.forever() {
+        if !executor.try_tick_any() {
+            break;
+        }
+    }
+    Some((is_left, executor.is_empty()))
+}
+
 /// Runs futures of two kinds on one executor.
 fn mixes<R: Wait + Clone + Drop + Send + Sync>(rt: &R, alloc: Global) -> Option<(u64, u64)> {
     let executor = executor(rt, alloc)?;
@@ -319,12 +343,15 @@ fn call_alone<R: Wait + Threads + Clone + Drop + Send + Sync + Print>(
 ) -> io::Result<()> {
     print(rt, "spawns_many", &spawns_many(rt, alloc))?;
     print(rt, "closes", &closes(rt, alloc))?;
+    print(rt, "empties", &empties(rt, alloc))?;
     print(rt, "mixes", &mixes(rt, alloc))?;
     print(rt, "boxes", &boxes(rt, alloc))?;
     print(rt, "receives", &receives(rt, alloc))?;
     print(rt, "parks", &parks(rt, alloc))?;
     print(rt, "pools", &pools(rt, alloc))?;
-    print(rt, "interleaves", &interleaves(alloc))
+    print(rt, "interleaves", &interleaves(alloc))?;
+    let polls = (keeps_turns(rt, alloc, 16), keeps_turns(rt, alloc, 200));
+    print(rt, "keeps_turns", &polls)
 }
 
 // The callers of an executor with levels.
@@ -345,6 +372,7 @@ fn call_local<R: Wait + Clone + Drop + Print>(rt: &R, alloc: Global) -> io::Resu
         return Ok(());
     };
     print(rt, "releases", &releases(rt, &executor))?;
+    print(rt, "clears", &clears(rt, &executor))?;
     print(rt, "naps", &naps(&executor))
 }
 
@@ -371,6 +399,8 @@ fn main(rt: HostRuntime) -> io::Result<()> {
         Err(OutOfMemory) => println!(rt; "{OutOfMemory}")?,
     }
     call_alone(&rt, alloc)?;
+    print(&rt, "joins", &joins(&rt, alloc))?;
+    print(&rt, "times_out", &times_out(&rt, alloc))?;
     call_levels(&rt, alloc)?;
     call_local(&rt, alloc)?;
     call_static(&rt, alloc)

@@ -1,52 +1,12 @@
 //! Threads that run the tasks of one executor, and park while none is scheduled.
 use crate::futures::{Counted, Sum};
 use crate::{added, executor, two_outputs, two_tasks};
-use async_executor::{Executor, Future, OutOfMemory, Poll, Task, Wake};
-use std::alloc::{AllocError, Global};
+use async_executor::{Executor, Future, Poll, Task, Wake};
+use async_utilities::ThreadWaker;
+use std::alloc::Global;
 use std::sync::atomic::{AtomicU64, Ordering};
 use std::sync::{Arc, Wait};
-use std::thread::{self, Parker, Threads};
-
-/// Where one thread parks, and what wakes it there. A wake is not lost where it comes before the
-/// thread parks: it does not wait then.
-#[derive(Drop)]
-pub struct ThreadWaker {
-    parker: Arc<Parker>,
-}
-
-impl ThreadWaker {
-    pub fn new(alloc: Global) -> Result<ThreadWaker, AllocError> {
-        Ok(ThreadWaker {
-            parker: Arc::new(alloc, Parker::new())?,
-        })
-    }
-}
-
-impl Wake for ThreadWaker {
-    fn wake(&self) {
-        self.parker.unpark();
-    }
-
-    fn copy(&self) -> Result<Self, OutOfMemory> {
-        let parker = Arc::try_clone(&self.parker)?;
-        Ok(ThreadWaker { parker })
-    }
-}
-
-/// Polls the future until it is ready. While it is not, the thread parks.
-pub fn block_on<G: Future<ThreadWaker>>(
-    rt: &impl Wait,
-    mine: &ThreadWaker,
-    future: &mut G,
-) -> G::Output {
-    for _ in rt.forever() {
-        if let Poll::Ready(output) = future.poll(mine) {
-            return output;
-        }
-        mine.parker.park(rt);
-    }
-    unreachable!()
-}
+use std::thread::{self, Threads};
 
 /// What the threads share: the executor, how many futures are left, and where the threads park.
 #[derive(Drop)]
@@ -100,13 +60,13 @@ impl<R: Wait + Clone + Drop + Send + Sync> Crew<R> {
             if tick.poll(mine) == Poll::Ready(()) {
                 return true;
             }
-            mine.parker.park(rt);
+            mine.park(rt);
         }
         false
     }
 }
 
-pub fn three_wakers(alloc: Global) -> Option<[ThreadWaker; 3]> {
+fn three_wakers(alloc: Global) -> Option<[ThreadWaker; 3]> {
     let first = ThreadWaker::new(alloc).ok()?;
     let second = ThreadWaker::new(alloc).ok()?;
     let third = ThreadWaker::new(alloc).ok()?;

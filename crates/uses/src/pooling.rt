@@ -1,116 +1,79 @@
-//! A pool of threads that run the tasks of one executor, each by a run, until they are told to stop.
+//! Threads that run the tasks of one executor, each by a run, until they are told to stop.
 use crate::futures::Sum;
-use crate::parking::{ThreadWaker, block_on, three_wakers};
 use crate::{added, executor, two_tasks};
-use async_executor::{Executor, Future, Poll, Run, Wake};
+use async_executor::{Executor, Run};
+use async_utilities::{JoinAll, Pool, Signal, ThreadWaker, Waiting, Zip, block_on};
 use std::alloc::Global;
 use std::sync::Wait;
-use std::sync::atomic::{AtomicBool, Ordering};
 use std::thread::{self, Threads};
 
-/// Tells the threads of a pool to stop. The last thread is the one that tells the others.
-#[derive(Drop)]
-struct Stop {
-    is_told: AtomicBool,
-    threads: [ThreadWaker; 3],
-}
+type Workers<R> = Executor<Sum, ThreadWaker, R>;
 
-impl Stop {
-    fn new(alloc: Global) -> Option<Stop> {
-        Some(Stop {
-            threads: three_wakers(alloc)?,
-            is_told: AtomicBool::new(false),
-        })
-    }
+type Stop<R> = Signal<ThreadWaker, R>;
 
-    fn tell(&self) {
-        self.is_told.store(true, Ordering::SeqCst);
-        for waker in &self.threads {
-            waker.wake();
-        }
-    }
-}
+type Worker<'a, R> = Run<'a, Sum, ThreadWaker, R, Waiting<ThreadWaker, R>>;
 
-/// Ready once the threads are told to stop.
-#[derive(Drop)]
-struct Stopped<'a> {
-    stop: &'a Stop,
-}
-
-impl<W> Future<W> for Stopped<'_> {
-    type Output = ();
-
-    fn poll(&mut self, _w: &W) -> Poll<()> {
-        if self.stop.is_told.load(Ordering::SeqCst) {
-            Poll::Ready(())
-        } else {
-            Poll::Pending
-        }
-    }
-}
-
-type Pool<R> = Executor<Sum, ThreadWaker, R>;
-
-type Worker<'a, R> = Run<'a, Sum, ThreadWaker, R, Stopped<'a>>;
-
-fn two_runs<'a, R: Wait + Clone + Drop + Send + Sync>(
-    executor: &'a Pool<R>,
-    stop: &'a Stop,
-) -> Option<(Worker<'a, R>, Worker<'a, R>)> {
-    let one = executor.run(Stopped { stop }).ok();
-    let two = executor.run(Stopped { stop }).ok();
-    one.zip(two)
+// Runs tasks until the threads are told to stop.
+fn worker<'a, R: Wait + Clone + Drop + Send + Sync>(
+    executor: &'a Workers<R>,
+    stop: &Stop<R>,
+) -> Option<Worker<'a, R>> {
+    executor.run(stop.waiting().ok()?).ok()
 }
 
 // Awaits two tasks, and adds their outputs.
 fn sum<R: Wait + Clone + Drop + Send + Sync>(
     rt: &R,
-    executor: &Pool<R>,
-    mine: &ThreadWaker,
+    alloc: Global,
+    executor: &Workers<R>,
 ) -> Option<u64> {
-    let (mut add, mut more) = two_tasks(executor, Sum::of(1, 2), Sum::of(3, 4))?;
-    let first = block_on(rt, mine, &mut add).ok();
-    let second = block_on(rt, mine, &mut more).ok();
-    added(first.zip(second))
+    let (add, more) = two_tasks(executor, Sum::of(1, 2), Sum::of(3, 4))?;
+    let (first, second) = block_on(rt, alloc, Zip::new(add, more)).ok()?;
+    added(first.ok().zip(second.ok()))
 }
 
 // The sum, after which the threads stop.
 fn total<R: Wait + Clone + Drop + Send + Sync>(
     rt: &R,
-    executor: &Pool<R>,
-    stop: &Stop,
-    mine: &ThreadWaker,
+    alloc: Global,
+    executor: &Workers<R>,
+    stop: &Stop<R>,
 ) -> Option<u64> {
-    let total = sum(rt, executor, mine);
-    stop.tell();
+    let total = sum(rt, alloc, executor);
+    stop.set();
     total
 }
 
-// Drives each run on a thread of its own until the sum is there.
-fn drives<R: Wait + Threads + Clone + Drop + Send + Sync>(
-    rt: &R,
-    executor: &Pool<R>,
-    stop: &Stop,
-    runs: (Worker<'_, R>, Worker<'_, R>),
-) -> Option<u64> {
-    let [first, second, mine] = &stop.threads;
-    let (mut one, mut two) = runs;
-    let (one, two) = (&mut one, &mut two);
+/// Runs tasks on two threads, and adds their outputs on a third, which parks until they are there.
+pub fn pools<R: Wait + Threads + Clone + Drop + Send + Sync>(rt: &R, alloc: Global) -> Option<u64> {
+    let stop = Signal::new(rt.clone().ok()?, alloc).ok()?;
+    let executor = executor(rt, alloc)?;
+    let (one, two) = worker(&executor, &stop).zip(worker(&executor, &stop))?;
     thread::scope(thread::scope_env(), rt, |scope| {
-        let is_first = scope.spawn(move || block_on(rt, first, one)).is_ok();
-        let is_second = scope.spawn(move || block_on(rt, second, two)).is_ok();
+        let is_first = scope.spawn(move || block_on(rt, alloc, one)).is_ok();
+        let is_second = scope.spawn(move || block_on(rt, alloc, two)).is_ok();
         if is_first || is_second {
-            total(rt, executor, stop, mine)
+            total(rt, alloc, &executor, &stop)
         } else {
             None
         }
     })
 }
 
-/// Runs tasks on two threads, and adds their outputs on a third, which parks until they are there.
-pub fn pools<R: Wait + Threads + Clone + Drop + Send + Sync>(rt: &R, alloc: Global) -> Option<u64> {
-    let stop = Stop::new(alloc)?;
-    let executor = executor(rt, alloc)?;
-    let runs = two_runs(&executor, &stop)?;
-    drives(rt, &executor, &stop, runs)
+/// Has a pool of four threads run a task for each number below 1,000, and adds their outputs in order.
+/// The drop of the pool stops its threads.
+pub fn joins<R: Wait + Threads + Clone + Drop + Send + Sync + 'static>(
+    rt: &R,
+    alloc: Global,
+) -> Option<u64> {
+    let pool: Pool<Sum, R> = Pool::new(rt.clone().ok()?, alloc, 4).ok()?;
+    let mut tasks = Vec::new(alloc);
+    let sums = (0..1000).map(|number| Sum::of(number, 1));
+    pool.executor().spawn_many(sums, &mut tasks).ok()?;
+    let all = JoinAll::new(alloc, tasks).ok()?;
+    let mut total = 0u64;
+    for output in block_on(rt, alloc, all).ok()? {
+        total = total.checked_add(output.ok()?)?;
+    }
+    Some(total)
 }

@@ -88,6 +88,20 @@ pub fn releases<R: Wait + Clone + Drop>(
     Some((cancel.poll(&Nobody), last.poll(&Nobody)))
 }
 
+/// Runs tasks until no queue has one, also not the queue of a run.
+pub fn clears<R: Wait + Clone + Drop>(
+    rt: &R,
+    executor: &LocalExecutor<Sum, Nobody, R>,
+) -> Option<bool> {
+    executor.spawn(Sum::of(1, 2)).ok()?.detach();
+    for _ in rt.forever() {
+        if !executor.try_tick_any() {
+            break;
+        }
+    }
+    Some(executor.is_empty())
+}
+
 /// Runs one task by a tick. While none is scheduled the tick sleeps, and a spawn wakes it. The first
 /// poll of the task does not end it.
 pub fn naps<R: Wait + Clone + Drop>(

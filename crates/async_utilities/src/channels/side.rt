@@ -2,31 +2,9 @@
 ghost use Rattle.std.specs.Prelude.{◌≡◌, ◌==◌, ◌++◌, ◌∷◌, ◌+◌, ◌-◌, [], IfOk, IfErr, IfSome, OnOk, OnErr, ◌<◌, position, drop, vec_len};
 ghost use Rattle.async_utilities.specs.Lines.{without, waker_at, replaced, first_due};
 
-use async_executor::{OutOfMemory, Wake};
+use crate::due::Due;
+use async_executor::OutOfMemory;
 use std::alloc::Global;
-
-/// Whom a change of a channel has to wake, once no lock is held. It cannot be dropped: `wake` is its
-/// one end.
-pub(crate) enum Due<W> {
-    Nobody,
-    One(W),
-    All(Vec<(u64, W)>),
-}
-
-impl<W: Wake> Due<W> {
-    /// Wakes them, each once.
-    pub(crate) fn wake(self) {
-        match self {
-            Due::Nobody => {}
-            Due::One(waker) => waker.wake(),
-            Due::All(wakers) => {
-                for (_, waker) in wakers {
-                    waker.wake();
-                }
-            }
-        }
-    }
-}
 
 /// How many ends there are, and which of them wait: the first one first, each by its number, with the
 /// waker that it left.

@@ -3,7 +3,8 @@ ghost use Rattle.std.specs.Prelude.{◌≡◌, ◌==◌, [], IfOk, drop, length}
 ghost use Rattle.circular_buffer.specs.Buffer.{buffer};
 ghost use Rattle.async_utilities.specs.Channels.{sent, kept, received, left, is_kept, is_message, Leaves};
 
-use crate::channels::side::{Due, Side};
+use crate::channels::side::Side;
+use crate::due::Due;
 use async_executor::OutOfMemory;
 use circular_buffer::HeapCircularBuffer;
 use std::alloc::Global;

@@ -1,0 +1,52 @@
+//! Times that a clock was read at.
+ghost use Rattle.std.specs.Prelude.{◌≡◌, ◌<◌, ◌*◌, ◌^◌, max};
+ghost use Rattle.std.specs.Duration.{as_nanos};
+
+use std::io;
+use std::time::{Clock, Duration};
+
+/// A time that a clock was read at, counted from the clock's start, which is arbitrary. There is none
+/// but those that a clock gave.
+#[derive(Clone, Copy, Debug, PartialEq, Eq)]
+pub struct Reading {
+    since_start: Duration,
+}
+
+impl Reading {
+    /// Reads the clock.
+    ///
+    /// # Errors
+    ///
+    /// That of the clock.
+    pub fn now(clock: &impl Clock) -> io::Result<Reading> {
+        Ok(Reading {
+            since_start: clock.monotonic()?,
+        })
+    }
+
+    /// The time since the start of the clock.
+    pub fn since_start(self) -> Duration
+        ensures { result ≡ self.since_start }
+    {
+        self.since_start
+    }
+
+    /// The same in nanoseconds.
+    pub fn nanos(self) -> u128
+        ensures nanos { result ≡ as_nanos self.since_start }
+        ensures small { result < 2 ^ 64 * 1_000_000_000 }
+    {
+        self.since_start.as_nanos()
+    }
+
+    /// The later one of both.
+    pub(crate) fn later(self, other: Reading) -> Reading
+        ensures { as_nanos result.since_start ≡ max (as_nanos self.since_start) (as_nanos other.since_start) }
+    {
+        if self.nanos() < other.nanos() {
+            other
+        } else {
+            self
+        }
+    }
+}
