@@ -11,7 +11,7 @@ extern long atol(const char *text);
 extern long write(int descriptor, const void *bytes, size count);
 
 // crates/refusals/src/rooms.rt has the same number, as that of the ids in a ring.
-static const size ORDER = 1 << 20, MOST_ORDERED = 16;
+static const size ORDER = 1 << 20, MOST_ORDERED = 64;
 
 static void *const NEXT_LIBRARY = (void *)-1L;
 static long requests, refused = -1, ordered;

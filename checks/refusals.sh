@@ -4,10 +4,10 @@
 # The program refusals prints which of its calls met the refusal: one call each time, no answer may
 # be wrong, and in the end each call has to have met one. exsim answers `out of memory`: at its
 # start with status 2 and nothing more, or at a spawn or where a ticker is made, after which it has
-# to show what it showed before, and to go on as if that step had not been asked for.
+# to go on as if that step had not been asked for.
 #
 # The programs are those that the gate built, or are built by `rt run` where a source is newer. The
-# library of fail_nth.c counts their requests, and says whether it refused one. The last request of
+# library of fail_nth.c counts their requests, and says whether it refused one. One of the last of
 # refusals is refused once more by `rt try`, which also finds a bad access.
 #
 # In the end refusals orders itself which requests fail, and says for how many ticks and runs there is
@@ -93,16 +93,17 @@ requests=$(printf '%s\n' "$out" | grep '^requests for memory: ' || :)
 echo "refusals, by its orders: $room; $requests"
 passed=$((passed + 1))
 
-n=$last
+# The runtime of `rt try` does not count what the C library requests to start a thread, which the
+# program does, so the last request has a smaller number there. The four before it are of the same call.
+n=$((last - 4))
 out=$(cd "$top/crates/refusals" && "$rt" try --fail-alloc "$n" --seconds 60 2>&1) &&
     status=0 || status=$?
 read_line 1
 echo "refusals, request $n, by rt try: $call"
 passed=$((passed + 1))
 
-# Runs exsim on two steps of this name, with each of its requests refused in turn.
+# Runs exsim on the steps of this name, with each of its requests refused in turn.
 refuse_steps() {
-    printf 'show\n%s\nshow\n%s\nshow\n' "$1" "$1" > "$work/steps"
     whole=$("$program" < "$work/steps")
     starts=0
     steps=0
@@ -112,14 +113,8 @@ refuse_steps() {
         case "$status $out" in
             "2 out of memory") starts=$((starts + 1)) ;;
             "0 "*)
-                kept=$(printf '%s\n' "$out" | awk '
-                    /^out of memory$/ { refused++; getline; wrong = wrong || $0 != shown; next }
-                    { shown = $0; print }
-                    END { if (refused != 1 || wrong) print "wrong" }')
-                case "$whole" in
-                    "$kept"*) steps=$((steps + 1)) ;;
-                    *) give_up "exsim, $1, request $n: $out" ;;
-                esac
+                leave_refused_step "$1"
+                steps=$((steps + 1))
                 ;;
             *) give_up "exsim, $1, request $n, status $status: $out" ;;
         esac
@@ -128,12 +123,36 @@ refuse_steps() {
     done
     ! is_refused || give_up "exsim has more than $n requests"
     [ "$status $out" = "0 $whole" ] || give_up "exsim, $1, none refused, status $status: $out"
-    echo "exsim, refused at its start: $starts, at a $1: $steps"
+    echo "exsim, refused at its start: $starts, at $1: $steps"
     [ "$starts" -gt 0 ] && [ "$steps" -gt 0 ] || give_up "not each place of exsim met a refusal"
 }
 
+# The one step that was refused is a spawn, or makes a ticker, and all others were answered as if it
+# had not been asked for.
+leave_refused_step() {
+    place=$(printf '%s\n' "$out" | sed -n '/^out of memory$/=')
+    case $(sed -n "${place}p" "$work/steps") in
+        spawn | tick | run) ;;
+        *) give_up "exsim, $1, request $n: $out" ;;
+    esac
+    sed "${place}d" "$work/steps" > "$work/others"
+    others=$("$program" < "$work/others")
+    [ "$(printf '%s\n' "$out" | sed "${place}d")" = "$others" ] ||
+        give_up "exsim, $1, request $n: $out"
+}
+
 find_program exsim
-refuse_steps spawn
-refuse_steps tick
-refuse_steps run
+for step in spawn tick run; do
+    printf 'show\n%s\nshow\n%s\nshow\n' "$step" "$step" > "$work/steps"
+    refuse_steps "a $step"
+done
+printf '%s\n' spawn spawn spawn spawn spawn tick run tick run show 'register 1' 'poll 1' 'search 1 9' \
+    'register 3' 'poll 3' 'search 3 1' show 'fair 1' 'wake 0' 'pend 0' 'ready 1 5' 'pollhandle 1' \
+    'pollhandle 3' 'cancel 2' 'detach 4' 'trytick' 'dropped 2' 'pend 3' 'wake 3' exchange notify \
+    'poll 0' 'search 0 0' 'sleep 0' 'store 0' 'search 0 0' 'sleep 0' 'store 0' show spawn exchange \
+    notify tick spawn 'poll 0' 'search 0 0' 'remove 0' 'store 0' 'ready 3 7' 'ready 5 7' show run \
+    'poll 4' 'poll 2' 'search 2 0' 'sleep 2' 'yield 2' 'drop 2' 'store 2' spawn 'drophandle 6' \
+    'unregister 1' 'drop 1' 'unregister 3' 'drop 3' 'ready 0 1' 'ready 4 1' spawn show close show \
+    drain 'dropped 6' drain 'dropped 7' drain drain spawn tick show > "$work/steps"
+refuse_steps "steps of all kinds"
 echo "$passed passed, 0 failed"
