@@ -1,7 +1,7 @@
 -- What is counted of each element of a list, one element at a time.
-use Rattle.std.proofs.Common.{◌≡◌, ℕ, ◌+◌, ◌<◌, List, [], ◌∷◌, ◌++◌, length, map, take, get_or, Option, Some, None, inl, inr, refl, ap, ◌∙◌, arith}
+use Rattle.std.proofs.Common.{◌≡◌, ℕ, ◌+◌, ◌<◌, ◌≤◌, List, [], ◌∷◌, ◌++◌, length, map, take, get_or, Option, Some, None, inl, inr, refl, sym, ap, ◌∙◌, arith}
 use Rattle.std.specs.Prelude.{slice_get, option_map}
-use Rattle.std.proofs.lemmas.List.{map_more}
+use Rattle.std.proofs.lemmas.List.{map_more, length-append, length-map, length-take-le}
 use Rattle.std.proofs.lemmas.Option.{slice_get_within, slice_get_cases, get_or_from_slice_get}
 
 module _ {X Y : Type 0} (f : X → Y) where
@@ -20,3 +20,10 @@ module _ {X Y : Type 0} (f : X → Y) where
     | inl found ↦ absurd (cc (none ∙ ap (option_map f) found.2))
     | inr past ↦ omega (arith, past.0, inside)
   ]
+
+  -- what follows the first i of a list up to the first j has j - i elements
+  pub length_between : (xs : List X) (ys : List Y) (i j : ℕ) → map f (take i xs) ++ ys ≡ map f (take j xs) → i ≤ j → j ≤ length xs → i + length ys ≡ j
+  length_between xs ys i j together ordered within =
+      let first : length (map f (take i xs)) ≡ i = length-map (take i xs) f ∙ length-take-le i xs (omega (arith, ordered, within)) in
+      let whole : length (map f (take j xs)) ≡ j = length-map (take j xs) f ∙ length-take-le j xs within in
+      omega (arith, first, whole, sym (length-append (map f (take i xs)) ys) ∙ ap length together)

@@ -1,29 +1,34 @@
 //! The text of an executor: how many tasks it has, how many stand in each queue, and how many sleep.
 //!
-//! It waits for no lock: what is behind one that is taken is said to be locked. The counts are copied
-//! first, so no lock is held while the text is written, which may run code of the caller's.
-ghost use Rattle.std.specs.Prelude.{◌≡◌, length, map, IfOk};
+//! It waits for no lock and takes no memory: what is behind a lock that is taken is said to be locked.
+//! The counts are copied first, so no lock is held while the text is written, which may run code of
+//! the caller's. The lengths of the runners' queues are copied so many at a time, and those that
+//! follow once the ones before are written.
+ghost use Rattle.std.specs.Prelude.{◌≡◌, length, map, take};
 ghost use Rattle.executor_core.specs.Cells.Calls.{undropped_count};
+
+mod queue_lens;
 
 use crate::executor::{Executor, TaskWaker};
 use crate::home::Home;
 use crate::local_executor::LocalExecutor;
 use crate::scheduler::ExecutorIn;
+use crate::state::ExecutorState;
 use crate::static_executors::{StaticExecutor, StaticLocalExecutor};
-use executor_core::task::{Cells, Future, OutOfMemory, Wake};
-use std::alloc::Global;
+use executor_core::task::{Cells, Future, Wake};
+use queue_lens::{AT_A_TIME, QueueLens};
 use std::fmt::{self, Debug, Formatter, Write};
 use std::sync::Wait;
 
 // A value, or that it is behind a lock that is taken.
 #[derive(Drop)]
-struct Shown<'a, T> {
-    value: Option<&'a T>,
+struct Shown<T> {
+    value: Option<T>,
 }
 
-impl<T: Debug> Debug for Shown<'_, T> {
+impl<T: Debug> Debug for Shown<T> {
     fn fmt<O: Write>(&self, f: &mut Formatter<O>) -> fmt::Result {
-        match self.value {
+        match &self.value {
             Some(value) => value.fmt(f),
             None => f.write_str("<locked>"),
         }
@@ -36,38 +41,50 @@ struct TaskCounts {
     // How many futures are not dropped.
     active: usize,
     global_tasks: usize,
-    // The lengths of the runners' queues, in order of registration.
-    local_runners: Vec<usize>,
+    runners: usize,
+    // The lengths of the first runners' queues.
+    first_lens: QueueLens,
 }
 
 impl TaskCounts {
-    fn of<W>(cells: &Cells<(), (), W>, alloc: Global) -> Result<TaskCounts, OutOfMemory>
-        ensures active { IfOk result (λ counts. counts.active ≡ undropped_count cells.now) }
-        ensures global { IfOk result (λ counts. counts.global_tasks ≡ length cells.now.global) }
-        ensures local { IfOk result (λ counts. counts.local_runners.items ≡ map (λ q. length q.entries) cells.now.locals) }
+    fn of<W>(cells: &Cells<(), (), W>) -> TaskCounts
+        ensures active { result.active ≡ undropped_count cells.now }
+        ensures global { result.global_tasks ≡ length cells.now.global }
+        ensures runners { result.runners ≡ length cells.now.locals }
+        ensures local { result.first_lens ≡ map (λ q. length q.entries) (take 64 cells.now.locals) }
     {
-        let local_runners = local_lens(cells, alloc)?;
-        Ok(TaskCounts {
+        TaskCounts {
             active: cells.undropped(),
             global_tasks: cells.global_len(),
-            local_runners,
-        })
+            runners: cells.runners(),
+            first_lens: QueueLens::of(cells, 0),
+        }
     }
 }
 
-// How many tasks stand in each runner's queue.
-fn local_lens<W>(cells: &Cells<(), (), W>, alloc: Global) -> Result<Vec<usize>, OutOfMemory>
-    ensures { IfOk result (λ lens. lens.items ≡ map (λ q. length q.entries) cells.now.locals) }
-{
-    let mut lens = Vec::new(alloc);
-    for r in 0..cells.runners() {
-        if let Some(len) = cells.local_len(r) {
-            if lens.push(len).is_err() {
-                return Err(OutOfMemory);
-            }
+// The lengths of the queues of all runners: the first ones, and where the others are looked up.
+#[derive(Drop)]
+struct LocalRunners<'a, W: Wake, R: Wait + Clone + Drop> {
+    counts: &'a TaskCounts,
+    state: &'a ExecutorState<W, R>,
+}
+
+impl<W: Wake, R: Wait + Clone + Drop> Debug for LocalRunners<'_, W, R> {
+    fn fmt<O: Write>(&self, f: &mut Formatter<O>) -> fmt::Result {
+        let mut list = f.debug_list();
+        list.slice(self.counts.first_lens.as_slice());
+        for first in (AT_A_TIME..self.counts.runners).step_by(AT_A_TIME) {
+            let lens = match self.state.cells.try_lock() {
+                Some(cells) => Some(QueueLens::of(&cells, first)),
+                None => None,
+            };
+            match lens {
+                Some(lens) => list.slice(lens.as_slice()),
+                None => list.entry(&Shown::<usize> { value: None }),
+            };
         }
+        list.finish()
     }
-    Ok(lens)
 }
 
 // Whether the text counts the futures that are not dropped, or always says 0.
@@ -78,7 +95,6 @@ enum Active {
 }
 
 impl<H: Home> ExecutorIn<H> {
-    // Writes the text. It is an error if memory for the lengths of the runners' queues is refused.
     fn write_text<O: Write>(
         &self,
         name: &str,
@@ -87,37 +103,29 @@ impl<H: Home> ExecutorIn<H> {
     ) -> fmt::Result {
         let state = self.state();
         let counts = match state.cells.try_lock() {
-            Some(cells) => match TaskCounts::of(&cells, state.alloc()) {
-                Ok(counts) => Some(counts),
-                Err(OutOfMemory) => return Err(fmt::Error),
-            },
+            Some(cells) => Some(TaskCounts::of(&cells)),
             None => None,
         };
         let sleepers = state.sleepers_in_use();
         let active = match active {
-            Active::Counted => counts.as_ref().map(|counts| &counts.active),
-            Active::Zero => Some(&0),
+            Active::Counted => counts.as_ref().map(|counts| counts.active),
+            Active::Zero => Some(0),
         };
         f.debug_struct(name)
             .field("active", &Shown { value: active })
             .field(
                 "global_tasks",
                 &Shown {
-                    value: counts.as_ref().map(|counts| &counts.global_tasks),
+                    value: counts.as_ref().map(|counts| counts.global_tasks),
                 },
             )
             .field(
                 "local_runners",
                 &Shown {
-                    value: counts.as_ref().map(|counts| &counts.local_runners),
+                    value: counts.as_ref().map(|counts| LocalRunners { counts, state }),
                 },
             )
-            .field(
-                "sleepers",
-                &Shown {
-                    value: sleepers.as_ref(),
-                },
-            )
+            .field("sleepers", &Shown { value: sleepers })
             .finish()
     }
 }
