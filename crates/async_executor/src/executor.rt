@@ -40,6 +40,12 @@ pub use tickers::{Run, Tick};
 /// output that was there before, and else says that its task was cancelled.
 ///
 /// Example: `uses::runs`, on several threads `uses::pools`, and of the drop `uses::closes`.
+///
+/// ```text
+/// let mut task = executor.spawn(future).ok()?;
+/// run_all(rt, &executor);
+/// output_of(task.poll(&Nobody))
+/// ```
 pub struct Executor<F, W, R>
 where
     F: Future<TaskWaker<W, R>>,
@@ -62,7 +68,11 @@ where
     ///
     /// `OutOfMemory` where memory for what the executor shares is refused.
     ///
-    /// Example: `uses::runs`.
+    /// Example: `uses::executor`, which `uses::runs` calls.
+    ///
+    /// ```text
+    /// Executor::new(rt.clone().ok()?, alloc).ok()
+    /// ```
     pub fn new(rt: R, alloc: Global) -> Result<Self, OutOfMemory>
         ensures { IfOk result (λ executor. executor.inner.limits ≡ default_limits) }
     {
@@ -79,6 +89,11 @@ where
     /// `OutOfMemory`, if memory for what the executor shares is refused.
     ///
     /// Example: `uses::keeps_turns`.
+    ///
+    /// ```text
+    /// let executor = Executor::new_with(rt.clone().ok()?, alloc, limits).ok()?;
+    /// polled(&executor, &ran)
+    /// ```
     pub fn new_with(rt: R, alloc: Global, limits: Limits) -> Result<Self, NewError>
         ensures ok { IfOk result (λ executor. executor.inner.limits ≡ limits) }
         ensures cause { IfErr result (λ error. (error ≡ NewError.BadLimits) ↔ (is_lawful limits ≡ false)) }
@@ -98,6 +113,12 @@ where
     /// is as before.
     ///
     /// Example: `uses::gives_back`.
+    ///
+    /// ```text
+    /// match executor.spawn(future) {
+    ///     Ok(task) => Ok(task),
+    ///     Err(refused) => Err(refused.into_inner()),
+    /// ```
     #[inline(always)]
     pub fn spawn(&self, future: F) -> Result<Task<F, W, R>, SpawnError<F>>
         ensures ok { IfOk result (λ task. task.inner.answered ≡ false) }
@@ -122,6 +143,12 @@ where
     /// where the place of its handle was refused, since the Vec was full.
     ///
     /// Example: `uses::spawns_many`.
+    ///
+    /// ```text
+    /// let mut tasks: Vec<Task<Sum, Nobody, R>> = Vec::new(alloc);
+    /// let sums = (1..4).map(|number| Sum::of(number, number));
+    /// executor.spawn_many(sums, &mut tasks).ok()?;
+    /// ```
     pub fn spawn_many<I: Iterator<Item = F>>(
         &self,
         futures: I,
@@ -146,6 +173,11 @@ where
     /// Whether the future of every task was dropped. A task that was cancelled counts until then.
     ///
     /// Example: `uses::detaches`.
+    ///
+    /// ```text
+    /// let was_empty = executor.is_empty();
+    /// executor.try_tick() && executor.try_tick() && executor.is_empty() && !was_empty
+    /// ```
     #[inline(always)]
     pub fn is_empty(&self) -> bool {
         self.inner.is_empty()
@@ -155,7 +187,13 @@ where
     /// once, or dropped where the task was cancelled. It looks at the queue that all share alone:
     /// what a run has in a queue of its own is left to it, or to `try_tick_any`.
     ///
-    /// Example: `uses::runs`.
+    /// Example: `uses::run_all`, which `uses::runs` calls.
+    ///
+    /// ```text
+    /// if !executor.try_tick() {
+    ///     break;
+    /// }
+    /// ```
     #[inline(always)]
     pub fn try_tick(&self) -> bool {
         self.inner.try_tick()
@@ -169,6 +207,12 @@ where
     /// The Rust crate has no such call.
     ///
     /// Example: `uses::empties`.
+    ///
+    /// ```text
+    /// if !executor.try_tick_any() {
+    ///     break;
+    /// }
+    /// ```
     #[inline(always)]
     pub fn try_tick_any(&self) -> bool {
         self.inner.try_tick_any()
@@ -182,6 +226,11 @@ where
     /// `OutOfMemory` where memory for that place is refused. All is as before.
     ///
     /// Example: `uses::sleeps`.
+    ///
+    /// ```text
+    /// let mut tick = executor.tick().ok()?;
+    /// let asleep = tick.poll(&Nobody);
+    /// ```
     #[inline(always)]
     pub fn tick(&self) -> Result<Tick<'_, F, W, R>, OutOfMemory>
         ensures { IfOk result (λ tick. tick.inner.rest ≡ record { number = 0; ended = false }) }
@@ -202,6 +251,12 @@ where
     /// all is as before.
     ///
     /// Example: `uses::pools`.
+    ///
+    /// ```text
+    /// executor.run(stop.waiting().ok()?).ok()
+    /// let (one, two) = worker(&executor, &stop).zip(worker(&executor, &stop))?;
+    /// let is_first = scope.spawn(move || block_on(rt, alloc, one)).is_ok();
+    /// ```
     pub fn run<G: Future<W>>(&self, future: G) -> Result<Run<'_, F, W, R, G>, RunError<G>>
         ensures ok { IfOk result (λ run. has_ended run.inner.rest ≡ false) }
         ensures limits { IfOk result (λ run. IsNewRun self.now.inner.limits run.inner.rest run.inner.own.ring) }
@@ -219,6 +274,12 @@ where
     /// takes no memory.
     ///
     /// Example: `uses::serves`.
+    ///
+    /// ```text
+    /// let before = executor.spawn(Sum::of(1, 2)).ok()?;
+    /// let server = executor.leak();
+    /// let after = server.spawn(Sum::of(3, 4)).ok()?;
+    /// ```
     pub fn leak(self) -> StaticExecutor<F, W, R>
         ensures { result.inner ≡ self.inner }
     {

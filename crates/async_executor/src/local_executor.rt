@@ -34,6 +34,12 @@ pub use tickers::{LocalRun, LocalTick};
 /// Its drop is that of `Executor`.
 ///
 /// Example: `uses::stays`, and of the drop `uses::gathers`.
+///
+/// ```text
+/// let executor = LocalExecutor::new(rt.clone().ok()?, alloc).ok()?;
+/// spawned(&executor, &total, 2)?.detach();
+/// let mut run = executor.run(spawned(&executor, &total, 3)?).ok()?;
+/// ```
 pub struct LocalExecutor<F, W, R>
 where
     F: Future<TaskWaker<W, R>>,
@@ -56,6 +62,11 @@ where
     /// `OutOfMemory` if memory for what the executor shares is refused.
     ///
     /// Example: `uses::stays`.
+    ///
+    /// ```text
+    /// let executor = LocalExecutor::new(rt.clone().ok()?, alloc).ok()?;
+    /// spawned(&executor, &total, 2)?.detach();
+    /// ```
     pub fn new(rt: R, alloc: Global) -> Result<Self, OutOfMemory>
         ensures { IfOk result (λ executor. executor.inner.limits ≡ default_limits) }
     {
@@ -70,7 +81,11 @@ where
     /// `BadLimits` exactly if a limit is not in its range, before memory is asked for. Else
     /// `OutOfMemory`, if memory for what the executor shares is refused.
     ///
-    /// Example: `uses::keeps_turns`.
+    /// Example: `uses::keeps_turns`, of an `Executor`.
+    ///
+    /// ```text
+    /// let executor = Executor::new_with(rt.clone().ok()?, alloc, limits).ok()?;
+    /// ```
     pub fn new_with(rt: R, alloc: Global, limits: Limits) -> Result<Self, NewError>
         ensures ok { IfOk result (λ executor. executor.inner.limits ≡ limits) }
         ensures cause { IfErr result (λ error. (error ≡ NewError.BadLimits) ↔ (is_lawful limits ≡ false)) }
@@ -90,6 +105,11 @@ where
     /// before.
     ///
     /// Example: `uses::stays`.
+    ///
+    /// ```text
+    /// let total = total.clone().ok()?;
+    /// executor.spawn(Add { total, number }).ok()
+    /// ```
     #[inline(always)]
     pub fn spawn(&self, future: F) -> Result<LocalTask<F, W, R>, SpawnError<F>>
         ensures ok { IfOk result (λ task. task.inner.answered ≡ false) }
@@ -110,6 +130,12 @@ where
     /// of its handle was refused, since the Vec was full.
     ///
     /// Example: `uses::gathers`.
+    ///
+    /// ```text
+    /// let mut tasks: Vec<LocalTask<Sum, Nobody, R>> = Vec::new(alloc);
+    /// let sums = (1..3).map(|number| Sum::of(number, number));
+    /// executor.spawn_many(sums, &mut tasks).ok()?;
+    /// ```
     pub fn spawn_many<I: Iterator<Item = F>>(
         &self,
         futures: I,
@@ -127,6 +153,11 @@ where
     /// As `Executor::is_empty`.
     ///
     /// Example: `uses::stays`.
+    ///
+    /// ```text
+    /// let has_ended = run.poll(&Nobody) == Poll::Ready(Ok(()));
+    /// Some((total.get(), has_ended && executor.is_empty()))
+    /// ```
     #[inline(always)]
     pub fn is_empty(&self) -> bool {
         self.inner.is_empty()
@@ -134,7 +165,13 @@ where
 
     /// As `Executor::try_tick`.
     ///
-    /// Example: `uses::stays`.
+    /// Example: `uses::gathers`.
+    ///
+    /// ```text
+    /// for _ in 0..3 {
+    ///     executor.try_tick();
+    /// }
+    /// ```
     #[inline(always)]
     pub fn try_tick(&self) -> bool {
         self.inner.try_tick()
@@ -143,6 +180,12 @@ where
     /// As `Executor::try_tick_any`.
     ///
     /// Example: `uses::clears`.
+    ///
+    /// ```text
+    /// if !executor.try_tick_any() {
+    ///     break;
+    /// }
+    /// ```
     #[inline(always)]
     pub fn try_tick_any(&self) -> bool {
         self.inner.try_tick_any()
@@ -155,6 +198,11 @@ where
     /// `OutOfMemory` if memory for the place in which it sleeps is refused. All is as before.
     ///
     /// Example: `uses::naps`.
+    ///
+    /// ```text
+    /// let mut tick = executor.tick().ok()?;
+    /// let asleep = tick.poll(&Nobody);
+    /// ```
     #[inline(always)]
     pub fn tick(&self) -> Result<LocalTick<'_, F, W, R>, OutOfMemory>
         ensures { IfOk result (λ tick. tick.inner.rest ≡ record { number = 0; ended = false }) }
@@ -171,6 +219,12 @@ where
     /// as before.
     ///
     /// Example: `uses::stays`.
+    ///
+    /// ```text
+    /// let mut run = executor.run(spawned(&executor, &total, 3)?).ok()?;
+    /// run.poll(&Nobody);
+    /// let has_ended = run.poll(&Nobody) == Poll::Ready(Ok(()));
+    /// ```
     pub fn run<G: Future<W>>(&self, future: G) -> Result<LocalRun<'_, F, W, R, G>, RunError<G>>
         ensures ok { IfOk result (λ run. has_ended run.inner.rest ≡ false) }
         ensures limits { IfOk result (λ run. IsNewRun self.now.inner.limits run.inner.rest run.inner.own.ring) }
@@ -185,6 +239,11 @@ where
     /// As `Executor::leak`.
     ///
     /// Example: `uses::lasts`.
+    ///
+    /// ```text
+    /// executor.spawn(Sum::of(1, 2)).ok()?.detach();
+    /// Some(executor.leak())
+    /// ```
     pub fn leak(self) -> StaticLocalExecutor<F, W, R>
         ensures { result.inner ≡ self.inner }
     {

@@ -25,6 +25,11 @@ use std::sync::Wait;
 /// stay pending. What is left of them is let go with the last handle.
 ///
 /// Example: `uses::serves`.
+///
+/// ```text
+/// let server = executor.leak();
+/// let after = server.spawn(Sum::of(3, 4)).ok()?;
+/// ```
 #[derive(Drop)]
 pub struct StaticExecutor<F, W, R>
 where
@@ -49,6 +54,11 @@ where
     /// `OutOfMemory` if memory for what the executor shares is refused.
     ///
     /// Example: `uses::prints`.
+    ///
+    /// ```text
+    /// let server = StaticExecutor::new(rt.clone().ok()?, alloc).ok()?;
+    /// server.spawn(Sum::of(1, 2)).ok()?.detach();
+    /// ```
     pub fn new(rt: R, alloc: Global) -> Result<Self, OutOfMemory>
         ensures { IfOk result (λ executor. executor.inner.limits ≡ default_limits) }
     {
@@ -63,7 +73,11 @@ where
     /// `BadLimits` exactly if a limit is not in its range, before memory is asked for. Else
     /// `OutOfMemory`, if memory for what the executor shares is refused.
     ///
-    /// Example: `uses::keeps_turns`.
+    /// Example: `uses::keeps_turns`, of an `Executor`.
+    ///
+    /// ```text
+    /// let executor = Executor::new_with(rt.clone().ok()?, alloc, limits).ok()?;
+    /// ```
     pub fn new_with(rt: R, alloc: Global, limits: Limits) -> Result<Self, NewError>
         ensures ok { IfOk result (λ executor. executor.inner.limits ≡ limits) }
         ensures cause { IfErr result (λ error. (error ≡ NewError.BadLimits) ↔ (is_lawful limits ≡ false)) }
@@ -83,6 +97,10 @@ where
     /// before.
     ///
     /// Example: `uses::serves`.
+    ///
+    /// ```text
+    /// let after = server.spawn(Sum::of(3, 4)).ok()?;
+    /// ```
     #[inline(always)]
     pub fn spawn(&self, future: F) -> Result<Task<F, W, R>, SpawnError<F>>
         ensures ok { IfOk result (λ task. task.inner.answered ≡ false) }
@@ -104,6 +122,12 @@ where
     /// As `Executor::try_tick`.
     ///
     /// Example: `uses::prints`.
+    ///
+    /// ```text
+    /// server.spawn(Sum::of(1, 2)).ok()?.detach();
+    /// server.tick().ok()?.poll(&Nobody);
+    /// server.try_tick();
+    /// ```
     #[inline(always)]
     pub fn try_tick(&self) -> bool {
         self.inner.try_tick()
@@ -112,6 +136,11 @@ where
     /// As `Executor::try_tick_any`.
     ///
     /// Example: `uses::prints`.
+    ///
+    /// ```text
+    /// server.spawn(Sum::of(3, 4)).ok()?.detach();
+    /// server.try_tick_any();
+    /// ```
     #[inline(always)]
     pub fn try_tick_any(&self) -> bool {
         self.inner.try_tick_any()
@@ -124,6 +153,11 @@ where
     /// `OutOfMemory` if memory for the place in which it sleeps is refused. All is as before.
     ///
     /// Example: `uses::prints`.
+    ///
+    /// ```text
+    /// server.spawn(Sum::of(1, 2)).ok()?.detach();
+    /// server.tick().ok()?.poll(&Nobody);
+    /// ```
     #[inline(always)]
     pub fn tick(&self) -> Result<Tick<'_, F, W, R>, OutOfMemory>
         ensures { IfOk result (λ tick. tick.inner.rest ≡ record { number = 0; ended = false }) }
@@ -140,6 +174,12 @@ where
     /// as before.
     ///
     /// Example: `uses::serves`.
+    ///
+    /// ```text
+    /// let mut run = server.run(task).ok()?;
+    /// if let Poll::Ready(output) = run.poll(&Nobody) {
+    ///     return output.ok();
+    /// ```
     pub fn run<G: Future<W>>(&self, future: G) -> Result<Run<'_, F, W, R, G>, RunError<G>>
         ensures ok { IfOk result (λ run. has_ended run.inner.rest ≡ false) }
         ensures limits { IfOk result (λ run. IsNewRun self.now.inner.limits run.inner.rest run.inner.own.ring) }
@@ -156,6 +196,12 @@ where
 /// of `StaticExecutor`. It stands for the `StaticLocalExecutor` of the Rust crate.
 ///
 /// Example: `uses::keeps`.
+///
+/// ```text
+/// let server = StaticLocalExecutor::new(rt.clone().ok()?, alloc).ok()?;
+/// server.spawn(Sum::of(1, 2)).ok()?.detach();
+/// server.tick().ok()?.poll(&Nobody);
+/// ```
 #[derive(Drop)]
 pub struct StaticLocalExecutor<F, W, R>
 where
@@ -179,6 +225,11 @@ where
     /// `OutOfMemory` if memory for what the executor shares is refused.
     ///
     /// Example: `uses::keeps`.
+    ///
+    /// ```text
+    /// let server = StaticLocalExecutor::new(rt.clone().ok()?, alloc).ok()?;
+    /// server.spawn(Sum::of(1, 2)).ok()?.detach();
+    /// ```
     pub fn new(rt: R, alloc: Global) -> Result<Self, OutOfMemory>
         ensures { IfOk result (λ executor. executor.inner.limits ≡ default_limits) }
     {
@@ -193,7 +244,11 @@ where
     /// `BadLimits` exactly if a limit is not in its range, before memory is asked for. Else
     /// `OutOfMemory`, if memory for what the executor shares is refused.
     ///
-    /// Example: `uses::keeps_turns`.
+    /// Example: `uses::keeps_turns`, of an `Executor`.
+    ///
+    /// ```text
+    /// let executor = Executor::new_with(rt.clone().ok()?, alloc, limits).ok()?;
+    /// ```
     pub fn new_with(rt: R, alloc: Global, limits: Limits) -> Result<Self, NewError>
         ensures ok { IfOk result (λ executor. executor.inner.limits ≡ limits) }
         ensures cause { IfErr result (λ error. (error ≡ NewError.BadLimits) ↔ (is_lawful limits ≡ false)) }
@@ -213,6 +268,10 @@ where
     /// before.
     ///
     /// Example: `uses::keeps`.
+    ///
+    /// ```text
+    /// server.spawn(Sum::of(1, 2)).ok()?.detach();
+    /// ```
     #[inline(always)]
     pub fn spawn(&self, future: F) -> Result<LocalTask<F, W, R>, SpawnError<F>>
         ensures ok { IfOk result (λ task. task.inner.answered ≡ false) }
@@ -227,6 +286,12 @@ where
     /// As `Executor::try_tick`.
     ///
     /// Example: `uses::keeps`.
+    ///
+    /// ```text
+    /// server.spawn(Sum::of(1, 2)).ok()?.detach();
+    /// server.tick().ok()?.poll(&Nobody);
+    /// server.try_tick();
+    /// ```
     #[inline(always)]
     pub fn try_tick(&self) -> bool {
         self.inner.try_tick()
@@ -235,6 +300,11 @@ where
     /// As `Executor::try_tick_any`.
     ///
     /// Example: `uses::keeps`.
+    ///
+    /// ```text
+    /// server.spawn(Sum::of(5, 6)).ok()?.detach();
+    /// server.try_tick_any();
+    /// ```
     #[inline(always)]
     pub fn try_tick_any(&self) -> bool {
         self.inner.try_tick_any()
@@ -247,6 +317,11 @@ where
     /// `OutOfMemory` if memory for the place in which it sleeps is refused. All is as before.
     ///
     /// Example: `uses::keeps`.
+    ///
+    /// ```text
+    /// server.spawn(Sum::of(1, 2)).ok()?.detach();
+    /// server.tick().ok()?.poll(&Nobody);
+    /// ```
     #[inline(always)]
     pub fn tick(&self) -> Result<LocalTick<'_, F, W, R>, OutOfMemory>
         ensures { IfOk result (λ tick. tick.inner.rest ≡ record { number = 0; ended = false }) }
@@ -263,6 +338,12 @@ where
     /// as before.
     ///
     /// Example: `uses::keeps`.
+    ///
+    /// ```text
+    /// let mut run = server.run(server.spawn(Sum::of(3, 4)).ok()?).ok()?;
+    /// run.poll(&Nobody);
+    /// Some(run.poll(&Nobody) == Poll::Ready(Ok(7)))
+    /// ```
     pub fn run<G: Future<W>>(&self, future: G) -> Result<LocalRun<'_, F, W, R, G>, RunError<G>>
         ensures ok { IfOk result (λ run. has_ended run.inner.rest ≡ false) }
         ensures limits { IfOk result (λ run. IsNewRun self.now.inner.limits run.inner.rest run.inner.own.ring) }

@@ -15,6 +15,12 @@ use thiserror::Error;
 /// A task has no output to give: it was cancelled, or its handle has answered before.
 ///
 /// Example: `uses::asks_again`.
+///
+/// ```text
+/// let first = task.poll(w);
+/// let second = task.poll(w);
+/// (first, second)
+/// ```
 #[derive(Debug, Clone, Copy, PartialEq, Eq, Error)]
 #[error("the task was cancelled")]
 pub struct Cancelled;

@@ -17,7 +17,13 @@ use std::sync::{Arc, Wait};
 /// stands for the `std::task::Waker` that the Rust crate hands to its futures, and as it is a
 /// `Wake`, an executor may be driven from within a task of another one.
 ///
-/// Example: `uses::receives`.
+/// Example: `uses::receives`, whose copy `uses::send` wakes.
+///
+/// ```text
+/// channel.waker = Some(waker);
+/// let waker = channel.waker.take();
+/// waker.wake();
+/// ```
 #[derive(Drop)]
 pub struct TaskWaker<W, R> {
     state: Arc<ExecutorState<W, R>>,
@@ -84,7 +90,13 @@ impl<W: Wake, R: Wait + Clone + Drop> Wake for TaskWaker<W, R> {
     /// Schedules the task where it waits for a wake. Where it is being polled, it is scheduled once
     /// that poll ends.
     ///
-    /// Example: `uses::receives`.
+    /// Example: `uses::send`, which `uses::receives` calls.
+    ///
+    /// ```text
+    /// if let Some(waker) = waker {
+    ///     waker.wake();
+    /// }
+    /// ```
     #[inline(always)]
     fn wake(&self) {
         if let Some(mark) = &self.mark {
@@ -104,7 +116,13 @@ impl<W: Wake, R: Wait + Clone + Drop> Wake for TaskWaker<W, R> {
     ///
     /// `OutOfMemory` where another share of the state is refused.
     ///
-    /// Example: `uses::receives`.
+    /// Example: `uses::receives`, whose copy `uses::send` wakes.
+    ///
+    /// ```text
+    /// let (Ok(waker), Some(mut channel)) = (w.copy(), self.channel.try_lock()) else {
+    ///     w.wake();
+    ///     return Poll::Pending;
+    /// ```
     fn copy(&self) -> Result<Self, OutOfMemory> {
         let state = Arc::try_clone(&self.state)?;
         Ok(TaskWaker {

@@ -64,6 +64,12 @@ pub use ticker::{ListChange, Phase};
 /// the log does not say of a task and of a ticker.
 ///
 /// Example: `uses::interleaves`.
+///
+/// ```text
+/// let mut world: World<(), u64> = World::new(alloc, 4).ok()?;
+/// world.step(Step::Wake(0));
+/// Some(matches!(world.step(Step::Pend(0)), Reply::Queued(0)))
+/// ```
 #[derive(Drop)]
 pub struct World<P, T> {
     alloc: Global,

@@ -18,6 +18,14 @@ const FAIR: u32 = 64;
 const MOST_LOCAL: usize = 65_536;
 
 /// The limits of an executor. Its runs keep them.
+///
+/// Example: `uses::keeps_turns`.
+///
+/// ```text
+/// let limits = Limits {
+///     turn,
+///     ..Limits::default()
+/// ```
 #[derive(Debug, Clone, Copy, PartialEq, Eq)]
 pub struct Limits {
     /// For how many tasks a run's own queue has room: 1 to 65,536.
@@ -40,6 +48,14 @@ impl Limits {
 
 impl Default for Limits {
     /// Room for 512 tasks, turns of 200 tasks, and a fair part with each 64th task.
+    ///
+    /// Example: `uses::keeps_turns`.
+    ///
+    /// ```text
+    /// let limits = Limits {
+    ///     turn,
+    ///     ..Limits::default()
+    /// ```
     fn default() -> Limits
         ensures { result ≡ default_limits }
     {
@@ -52,6 +68,12 @@ impl Default for Limits {
 }
 
 /// Why nothing was made.
+///
+/// Example: `uses::keeps_turns`, which lets it go.
+///
+/// ```text
+/// let executor = Executor::new_with(rt.clone().ok()?, alloc, limits).ok()?;
+/// ```
 #[derive(Debug, Clone, Copy, PartialEq, Eq, Error)]
 pub enum NewError {
     /// A limit is not in its range. No memory was asked for.

@@ -5,6 +5,12 @@ ghost use Rattle.priority_executor.specs.Answers.{answers_until};
 /// What the levels are asked, and the list of what they answered.
 ///
 /// Example: `uses::prefers`.
+///
+/// ```text
+/// let is_open = self.open.get(level).copied().unwrap_or(false);
+/// self.answers.push((level, is_open));
+/// is_open
+/// ```
 pub trait Asker {
     /// Which level was asked, and what it answered, the first one first.
     ghost answers: { Self → List (ℕ × Bool) };
@@ -13,6 +19,14 @@ pub trait Asker {
     ghost places: { Self → ℕ };
 
     /// Asks this level, and puts its answer at the end of the list.
+    ///
+    /// Example: `uses::prefers`.
+    ///
+    /// ```text
+    /// let is_open = self.open.get(level).copied().unwrap_or(false);
+    /// self.answers.push((level, is_open));
+    /// is_open
+    /// ```
     fn ask(&mut self, level: usize) -> bool
         requires { 0 < places self.old }
         ensures listed { answers self.new ≡ answers self.old ++ (level, result) ∷ [] }
@@ -23,6 +37,11 @@ pub trait Asker {
 /// none exactly if all n were asked and answered false.
 ///
 /// Example: `uses::prefers`.
+///
+/// ```text
+/// let first = choose(&mut doors, 3);
+/// (first, doors.answers.len())
+/// ```
 pub fn choose<A: Asker>(asker: &mut A, n: usize) -> Option<usize>
     requires { n ≤ A.places asker.old }
     ensures answers { A.answers asker.new ≡ A.answers asker.old ++ answers_until n result }

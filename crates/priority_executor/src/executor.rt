@@ -18,6 +18,12 @@ use std::sync::Wait;
 /// It has no `run` and no Debug. The Rust crate has no such type: there, a program writes its own.
 ///
 /// Example: `uses::overtakes`, `uses::accepts`.
+///
+/// ```text
+/// executor.spawn(1, Runner { ran }).ok()?.detach();
+/// let mut task = executor.spawn(0, Runner { ran }).ok()?;
+/// executor.try_tick();
+/// ```
 #[derive(Drop)]
 pub struct PriorityExecutor<F, W, R, const N: usize>
 where
@@ -45,6 +51,11 @@ where
     /// `OutOfMemory` if memory for a level is refused.
     ///
     /// Example: `uses::overtakes`.
+    ///
+    /// ```text
+    /// let executor = PriorityExecutor::new(rt.clone().ok()?, alloc).ok()?;
+    /// let before = urgent(&executor, &ran)?;
+    /// ```
     pub fn new(rt: R, alloc: Global) -> Result<Self, OutOfMemory>
         requires some { 0 < N }
         requires few { N < 2 ^ 32 }
@@ -64,6 +75,11 @@ where
     /// as before.
     ///
     /// Example: `uses::overtakes`.
+    ///
+    /// ```text
+    /// executor.spawn(1, Runner { ran }).ok()?.detach();
+    /// let mut task = executor.spawn(0, Runner { ran }).ok()?;
+    /// ```
     pub fn spawn(&self, level: usize, future: F) -> Result<Task<F, W, R>, SpawnError<F>>
         requires { level < N }
         ensures ok { IfOk result (λ task. task.inner.answered ≡ false) }
@@ -83,6 +99,12 @@ where
     /// one has a task.
     ///
     /// Example: `uses::overtakes`.
+    ///
+    /// ```text
+    /// if executor.is_empty() || !executor.try_tick() {
+    ///     break;
+    /// }
+    /// ```
     pub fn is_empty(&self) -> bool {
         self.levels.iter().all(|level| level.is_empty())
     }
@@ -91,6 +113,11 @@ where
     /// whether there was one.
     ///
     /// Example: `uses::overtakes`.
+    ///
+    /// ```text
+    /// let mut task = executor.spawn(0, Runner { ran }).ok()?;
+    /// executor.try_tick();
+    /// ```
     pub fn try_tick(&self) -> bool {
         let mut ticks = TryTicks {
             levels: &self.levels,
@@ -108,6 +135,12 @@ where
     /// before.
     ///
     /// Example: `uses::accepts`.
+    ///
+    /// ```text
+    /// if executor.tick().ok()?.poll(&Nobody) == Poll::Pending {
+    ///     break;
+    /// }
+    /// ```
     pub fn tick(&self) -> Result<PriorityTick<Tick<'_, F, W, R>, N>, OutOfMemory>
         ensures { IfOk result (λ tick. IsSomeAnd tick.ticks (λ ticks. All (λ one. one.inner.rest.ended ≡ false) ticks.levels.items)) }
     {

@@ -13,6 +13,12 @@ use async_executor::{Future, Poll};
 /// notified, another sleeper of that level is woken in its place.
 ///
 /// Example: `uses::accepts`.
+///
+/// ```text
+/// if executor.tick().ok()?.poll(&Nobody) == Poll::Pending {
+///     break;
+/// }
+/// ```
 #[derive(Drop)]
 pub struct PriorityTick<T, const N: usize> {
     pub(crate) ticks: Option<LevelTicks<T, N>>,
@@ -34,6 +40,12 @@ impl<W, T: Future<W, Output = ()>, const N: usize> Future<W> for PriorityTick<T,
     /// each of them keeps a copy of the waker. One that was ready stays so, and polls nothing.
     ///
     /// Example: `uses::accepts`.
+    ///
+    /// ```text
+    /// if executor.tick().ok()?.poll(&Nobody) == Poll::Pending {
+    ///     break;
+    /// }
+    /// ```
     fn poll(&mut self, w: &W) -> Poll<()>
         ensures ended { is_ready result ≡ is_none self.new.ticks }
         ensures again { self.old.ticks ≡ None → self.new.ticks ≡ None }

@@ -16,6 +16,12 @@ use std::sync::Wait;
 /// the `Task` of the Rust crate.
 ///
 /// Example: `uses::runs`, `uses::drops`.
+///
+/// ```text
+/// let mut task = executor.spawn(future).ok()?;
+/// run_all(rt, &executor);
+/// output_of(task.poll(&Nobody))
+/// ```
 pub struct Task<F, W, R>
 where
     F: Future<TaskWaker<W, R>>,
@@ -34,6 +40,12 @@ where
     /// Lets the task run on without a handle. Its output is dropped once it is there.
     ///
     /// Example: `uses::detaches`.
+    ///
+    /// ```text
+    /// task.detach();
+    /// let was_empty = executor.is_empty();
+    /// executor.try_tick() && executor.try_tick() && executor.is_empty() && !was_empty
+    /// ```
     #[inline(always)]
     pub fn detach(self) {
         let Task { inner } = self;
@@ -44,6 +56,12 @@ where
     /// poll. What is given is a future that ends once the future of the task was dropped.
     ///
     /// Example: `uses::cancels`.
+    ///
+    /// ```text
+    /// let mut cancel = executor.spawn(Sum::of(1, 2)).ok()?.cancel();
+    /// executor.try_tick();
+    /// Some(cancel.poll(&Nobody))
+    /// ```
     #[inline(always)]
     pub fn cancel(self) -> Cancel<F, W, R>
         ensures { result.task.inner.answered ≡ self.inner.answered }
@@ -55,6 +73,12 @@ where
     /// The same task, with `None` in place of `Cancelled`.
     ///
     /// Example: `uses::falls_back`.
+    ///
+    /// ```text
+    /// let mut task = executor.spawn(Sum::of(1, 2)).ok()?.fallible();
+    /// run_all(rt, executor);
+    /// Some(task.poll(&Nobody))
+    /// ```
     pub fn fallible(self) -> FallibleTask<F, W, R>
         ensures { result.task.inner.answered ≡ self.inner.answered }
     {
@@ -63,7 +87,13 @@ where
 
     /// Whether the task has ended or was cancelled, or this handle has answered.
     ///
-    /// Example: `uses::falls_back`.
+    /// Example: `uses::receives`.
+    ///
+    /// ```text
+    /// let is_early = task.is_finished();
+    /// send(rt, sender, 5);
+    /// run_all(rt, executor);
+    /// ```
     pub fn is_finished(&self) -> bool
         ensures { IsTrue self.now.inner.answered → IsTrue result }
     {
@@ -100,6 +130,12 @@ where
     /// nothing is kept.
     ///
     /// Example: `uses::asks_again`.
+    ///
+    /// ```text
+    /// let first = task.poll(w);
+    /// let second = task.poll(w);
+    /// (first, second)
+    /// ```
     #[inline(always)]
     fn poll(&mut self, w: &W) -> Poll<Result<F::Output, Cancelled>>
         ensures answered { self.new.inner.answered ≡ is_ready result }
@@ -128,6 +164,12 @@ where
 /// task is let go. It stands for the future that `Task::cancel` of the Rust crate gives.
 ///
 /// Example: `uses::cancels`.
+///
+/// ```text
+/// let mut cancel = executor.spawn(Sum::of(1, 2)).ok()?.cancel();
+/// executor.try_tick();
+/// Some(cancel.poll(&Nobody))
+/// ```
 pub struct Cancel<F, W, R>
 where
     F: Future<TaskWaker<W, R>>,
@@ -148,6 +190,11 @@ where
     /// As the poll of `Task`, with `None` in place of `Cancelled`.
     ///
     /// Example: `uses::cancels`.
+    ///
+    /// ```text
+    /// executor.try_tick();
+    /// Some(cancel.poll(&Nobody))
+    /// ```
     #[inline(always)]
     fn poll(&mut self, w: &W) -> Poll<Option<F::Output>>
         ensures answered { self.new.task.inner.answered ≡ is_ready result }
@@ -174,6 +221,12 @@ where
 /// Its drop is that of `Task`. It stands for the `FallibleTask` of the Rust crate.
 ///
 /// Example: `uses::falls_back`, `uses::lets_go`.
+///
+/// ```text
+/// let mut task = executor.spawn(Sum::of(1, 2)).ok()?.fallible();
+/// run_all(rt, executor);
+/// Some(task.poll(&Nobody))
+/// ```
 pub struct FallibleTask<F, W, R>
 where
     F: Future<TaskWaker<W, R>>,
@@ -192,6 +245,10 @@ where
     /// As `Task::detach`.
     ///
     /// Example: `uses::lets_go`.
+    ///
+    /// ```text
+    /// executor.spawn(Sum::of(1, 2)).ok()?.fallible().detach();
+    /// ```
     pub fn detach(self) {
         let FallibleTask { task } = self;
         task.detach();
@@ -200,6 +257,12 @@ where
     /// As `Task::cancel`.
     ///
     /// Example: `uses::lets_go`.
+    ///
+    /// ```text
+    /// let mut cancel = executor.spawn(Sum::of(3, 4)).ok()?.fallible().cancel();
+    /// run_all(rt, executor);
+    /// Some(cancel.poll(&Nobody))
+    /// ```
     pub fn cancel(self) -> Cancel<F, W, R>
         ensures { result.task.inner.answered ≡ self.task.inner.answered }
     {
@@ -210,6 +273,11 @@ where
     /// As `Task::is_finished`.
     ///
     /// Example: `uses::falls_back`.
+    ///
+    /// ```text
+    /// if task.is_finished() {
+    ///     Some(task.poll(&Nobody))
+    /// ```
     pub fn is_finished(&self) -> bool
         ensures { IsTrue self.now.task.inner.answered → IsTrue result }
     {
@@ -228,6 +296,11 @@ where
     /// As the poll of `Task`, with `None` in place of `Cancelled`.
     ///
     /// Example: `uses::falls_back`.
+    ///
+    /// ```text
+    /// if task.is_finished() {
+    ///     Some(task.poll(&Nobody))
+    /// ```
     fn poll(&mut self, w: &W) -> Poll<Option<F::Output>>
         ensures answered { self.new.task.inner.answered ≡ is_ready result }
         ensures again { IsTrue self.old.task.inner.answered → IsReadyNone result }

@@ -16,6 +16,12 @@ use std::sync::Wait;
 /// woken in its place. It stands for the future that `Executor::tick` of the Rust crate gives.
 ///
 /// Example: `uses::sleeps`, and on threads that park `uses::parks`.
+///
+/// ```text
+/// let mut tick = executor.tick().ok()?;
+/// leaves(executor, Sum::of(1, 2))?;
+/// let woken = tick.poll(&Nobody);
+/// ```
 pub struct Tick<'a, F, W, R>
 where
     F: Future<TaskWaker<W, R>>,
@@ -39,6 +45,12 @@ where
     /// stays so, and does nothing more.
     ///
     /// Example: `uses::sleeps`.
+    ///
+    /// ```text
+    /// let asleep = tick.poll(&Nobody);
+    /// leaves(executor, Sum::of(1, 2))?;
+    /// let woken = tick.poll(&Nobody);
+    /// ```
     #[inline(always)]
     fn poll(&mut self, w: &W) -> Poll<()>
         ensures ended { self.new.inner.rest.ended ≡ is_ready result }
@@ -68,6 +80,12 @@ where
 /// the Rust crate gives.
 ///
 /// Example: `uses::pools`.
+///
+/// ```text
+/// executor.run(stop.waiting().ok()?).ok()
+/// let (one, two) = worker(&executor, &stop).zip(worker(&executor, &stop))?;
+/// let is_first = scope.spawn(move || block_on(rt, alloc, one)).is_ok();
+/// ```
 pub struct Run<'a, F, W, R, G>
 where
     F: Future<TaskWaker<W, R>>,
@@ -93,7 +111,13 @@ where
     /// where the copy is refused, the waker itself is woken. A run that was ready wakes it and is
     /// pending, and does nothing more.
     ///
-    /// Example: `uses::pools`.
+    /// Example: `uses::keeps_turns`.
+    ///
+    /// ```text
+    /// if let Poll::Ready(polls) = run.poll(&Nobody) {
+    ///     return Some(polls);
+    /// }
+    /// ```
     #[inline(always)]
     fn poll(&mut self, w: &W) -> Poll<G::Output>
         ensures ended { has_ended self.old.inner.rest ≡ false → has_ended self.new.inner.rest ≡ is_ready result }

@@ -12,6 +12,12 @@ use std::sync::Wait;
 /// As `Task`, of a task that stays on the thread of its executor, as its handle does.
 ///
 /// Example: `uses::stays`.
+///
+/// ```text
+/// spawned(&executor, &total, 2)?.detach();
+/// let mut run = executor.run(spawned(&executor, &total, 3)?).ok()?;
+/// run.poll(&Nobody);
+/// ```
 pub struct LocalTask<F, W, R>
 where
     F: Future<TaskWaker<W, R>>,
@@ -30,6 +36,11 @@ where
     /// As `Task::detach`.
     ///
     /// Example: `uses::keeps`.
+    ///
+    /// ```text
+    /// server.spawn(Sum::of(1, 2)).ok()?.detach();
+    /// server.tick().ok()?.poll(&Nobody);
+    /// ```
     #[inline(always)]
     pub fn detach(self) {
         let LocalTask { inner } = self;
@@ -39,6 +50,11 @@ where
     /// As `Task::cancel`.
     ///
     /// Example: `uses::releases`.
+    ///
+    /// ```text
+    /// let mut cancel = executor.spawn(Sum::of(5, 6)).ok()?.cancel();
+    /// Some((cancel.poll(&Nobody), last.poll(&Nobody)))
+    /// ```
     #[inline(always)]
     pub fn cancel(self) -> LocalCancel<F, W, R>
         ensures { result.task.inner.answered ≡ self.inner.answered }
@@ -50,6 +66,11 @@ where
     /// As `Task::fallible`.
     ///
     /// Example: `uses::releases`.
+    ///
+    /// ```text
+    /// let mut last = executor.spawn(Sum::of(7, 8)).ok()?.fallible();
+    /// Some((cancel.poll(&Nobody), last.poll(&Nobody)))
+    /// ```
     pub fn fallible(self) -> LocalFallibleTask<F, W, R>
         ensures { result.task.inner.answered ≡ self.inner.answered }
     {
@@ -59,6 +80,12 @@ where
     /// As `Task::is_finished`.
     ///
     /// Example: `uses::naps`.
+    ///
+    /// ```text
+    /// let task = executor.spawn(Sum::of(1, 2)).ok()?;
+    /// let woken = tick.poll(&Nobody);
+    /// Some((asleep, woken, task.is_finished()))
+    /// ```
     pub fn is_finished(&self) -> bool
         ensures { IsTrue self.now.inner.answered → IsTrue result }
     {
@@ -92,6 +119,12 @@ where
     /// As the poll of `Task`.
     ///
     /// Example: `uses::gathers`.
+    ///
+    /// ```text
+    /// let mut second = tasks.pop()?;
+    /// let mut first = tasks.pop()?;
+    /// Some((first.poll(&Nobody), second.poll(&Nobody)))
+    /// ```
     #[inline(always)]
     fn poll(&mut self, w: &W) -> Poll<Result<F::Output, Cancelled>>
         ensures answered { self.new.inner.answered ≡ is_ready result }
@@ -116,6 +149,11 @@ where
 /// As `Cancel`, of a task that stays on its thread.
 ///
 /// Example: `uses::releases`.
+///
+/// ```text
+/// let mut cancel = executor.spawn(Sum::of(5, 6)).ok()?.cancel();
+/// Some((cancel.poll(&Nobody), last.poll(&Nobody)))
+/// ```
 pub struct LocalCancel<F, W, R>
 where
     F: Future<TaskWaker<W, R>>,
@@ -136,6 +174,11 @@ where
     /// As the poll of `Cancel`.
     ///
     /// Example: `uses::releases`.
+    ///
+    /// ```text
+    /// let mut cancel = executor.spawn(Sum::of(5, 6)).ok()?.cancel();
+    /// Some((cancel.poll(&Nobody), last.poll(&Nobody)))
+    /// ```
     #[inline(always)]
     fn poll(&mut self, w: &W) -> Poll<Option<F::Output>>
         ensures answered { self.new.task.inner.answered ≡ is_ready result }
@@ -160,6 +203,11 @@ where
 /// As `FallibleTask`, of a task that stays on its thread.
 ///
 /// Example: `uses::releases`.
+///
+/// ```text
+/// let mut last = executor.spawn(Sum::of(7, 8)).ok()?.fallible();
+/// Some((cancel.poll(&Nobody), last.poll(&Nobody)))
+/// ```
 pub struct LocalFallibleTask<F, W, R>
 where
     F: Future<TaskWaker<W, R>>,
@@ -178,6 +226,10 @@ where
     /// As `Task::detach`.
     ///
     /// Example: `uses::releases`.
+    ///
+    /// ```text
+    /// executor.spawn(Sum::of(1, 2)).ok()?.fallible().detach();
+    /// ```
     pub fn detach(self) {
         let LocalFallibleTask { task } = self;
         task.detach();
@@ -186,6 +238,10 @@ where
     /// As `Task::cancel`.
     ///
     /// Example: `uses::releases`.
+    ///
+    /// ```text
+    /// executor.spawn(Sum::of(3, 4)).ok()?.fallible().cancel();
+    /// ```
     pub fn cancel(self) -> LocalCancel<F, W, R>
         ensures { result.task.inner.answered ≡ self.task.inner.answered }
     {
@@ -196,6 +252,12 @@ where
     /// As `Task::is_finished`.
     ///
     /// Example: `uses::releases`.
+    ///
+    /// ```text
+    /// if last.is_finished() || !executor.try_tick() {
+    ///     break;
+    /// }
+    /// ```
     pub fn is_finished(&self) -> bool
         ensures { IsTrue self.now.task.inner.answered → IsTrue result }
     {
@@ -214,6 +276,11 @@ where
     /// As the poll of `FallibleTask`.
     ///
     /// Example: `uses::releases`.
+    ///
+    /// ```text
+    /// let mut last = executor.spawn(Sum::of(7, 8)).ok()?.fallible();
+    /// Some((cancel.poll(&Nobody), last.poll(&Nobody)))
+    /// ```
     fn poll(&mut self, w: &W) -> Poll<Option<F::Output>>
         ensures answered { self.new.task.inner.answered ≡ is_ready result }
         ensures again { IsTrue self.old.task.inner.answered → IsReadyNone result }

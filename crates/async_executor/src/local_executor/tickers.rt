@@ -13,6 +13,12 @@ use std::sync::Wait;
 /// As `Tick`, of an executor that stays on its thread, as this does.
 ///
 /// Example: `uses::naps`.
+///
+/// ```text
+/// let mut tick = executor.tick().ok()?;
+/// let task = executor.spawn(Sum::of(1, 2)).ok()?;
+/// let woken = tick.poll(&Nobody);
+/// ```
 pub struct LocalTick<'a, F, W, R>
 where
     F: Future<TaskWaker<W, R>>,
@@ -33,6 +39,12 @@ where
     /// As the poll of `Tick`.
     ///
     /// Example: `uses::naps`.
+    ///
+    /// ```text
+    /// let asleep = tick.poll(&Nobody);
+    /// let task = executor.spawn(Sum::of(1, 2)).ok()?;
+    /// let woken = tick.poll(&Nobody);
+    /// ```
     #[inline(always)]
     fn poll(&mut self, w: &W) -> Poll<()>
         ensures ended { self.new.inner.rest.ended ≡ is_ready result }
@@ -57,6 +69,12 @@ where
 /// As `Run`, of an executor that stays on its thread, as this does.
 ///
 /// Example: `uses::stays`.
+///
+/// ```text
+/// let mut run = executor.run(spawned(&executor, &total, 3)?).ok()?;
+/// run.poll(&Nobody);
+/// let has_ended = run.poll(&Nobody) == Poll::Ready(Ok(()));
+/// ```
 pub struct LocalRun<'a, F, W, R, G>
 where
     F: Future<TaskWaker<W, R>>,
@@ -79,6 +97,11 @@ where
     /// As the poll of `Run`.
     ///
     /// Example: `uses::stays`.
+    ///
+    /// ```text
+    /// run.poll(&Nobody);
+    /// let has_ended = run.poll(&Nobody) == Poll::Ready(Ok(()));
+    /// ```
     #[inline(always)]
     fn poll(&mut self, w: &W) -> Poll<G::Output>
         ensures ended { has_ended self.old.inner.rest ≡ false → has_ended self.new.inner.rest ≡ is_ready result }

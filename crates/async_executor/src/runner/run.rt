@@ -29,6 +29,12 @@ use std::sync::Wait;
 use thiserror::Error;
 
 /// Why there is no run, with the future that it was to run. Nothing else changed.
+///
+/// Example: `uses::keeps_turns`, which lets it go.
+///
+/// ```text
+/// let mut run = executor.run(AllRan { ran, polls: 0 }).ok()?;
+/// ```
 #[derive(Debug, PartialEq, Eq, Drop, Error)]
 pub enum RunError<G> {
     /// A growth of memory was refused.

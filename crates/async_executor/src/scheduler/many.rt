@@ -12,6 +12,12 @@ use executor_core::task::SpawnError;
 use thiserror::Error;
 
 /// Why not every future was spawned. Those that were stay, and their handles are in the Vec.
+///
+/// Example: `uses::spawns_many`, which lets it go.
+///
+/// ```text
+/// executor.spawn_many(sums, &mut tasks).ok()?;
+/// ```
 #[derive(Debug, PartialEq, Eq, Drop, Error)]
 #[error("no more than {spawned} tasks were spawned")]
 pub struct SpawnMany<F> {

@@ -7,7 +7,11 @@ use thiserror::Error;
 
 /// A growth of memory was refused. Nothing else changed.
 ///
-/// Example: `uses::gives_back`.
+/// Example: `uses::sleeps`, which lets it go.
+///
+/// ```text
+/// let mut tick = executor.tick().ok()?;
+/// ```
 #[derive(Debug, Clone, Copy, PartialEq, Eq, Error)]
 #[error("out of memory")]
 pub struct OutOfMemory;
@@ -21,6 +25,12 @@ impl From<AllocError> for OutOfMemory {
 /// Why no task was spawned, with its future. Nothing else changed.
 ///
 /// Example: `uses::gives_back`.
+///
+/// ```text
+/// match executor.spawn(future) {
+///     Ok(task) => Ok(task),
+///     Err(refused) => Err(refused.into_inner()),
+/// ```
 #[derive(Debug, PartialEq, Eq, Drop, Error)]
 pub enum SpawnError<P> {
     /// A growth of memory was refused.
@@ -35,6 +45,10 @@ impl<P> SpawnError<P> {
     /// The future that was refused.
     ///
     /// Example: `uses::gives_back`.
+    ///
+    /// ```text
+    /// Err(refused) => Err(refused.into_inner()),
+    /// ```
     pub fn into_inner(self) -> P
         ensures { result ≡ refused_future self }
     {

@@ -3,7 +3,13 @@ use crate::task::error::OutOfMemory;
 
 /// Asks whoever polls for another poll. It stands for `std::task::Waker`.
 ///
-/// Example: `uses::receives`.
+/// Example: `uses::send`, which `uses::receives` calls.
+///
+/// ```text
+/// if let Some(waker) = waker {
+///     waker.wake();
+/// }
+/// ```
 pub trait Wake: Drop {
     /// Asks for another poll.
     fn wake(&self);
@@ -18,7 +24,13 @@ pub trait Wake: Drop {
 
 /// The answer of a poll. It stands for `std::task::Poll`.
 ///
-/// Example: `uses::runs`.
+/// Example: `uses::keeps_turns`.
+///
+/// ```text
+/// if let Poll::Ready(polls) = run.poll(&Nobody) {
+///     return Some(polls);
+/// }
+/// ```
 #[derive(Debug, PartialEq, Eq, Drop)]
 pub enum Poll<T> {
     /// The future gave this, and is not to be polled again.
@@ -29,7 +41,13 @@ pub enum Poll<T> {
 
 /// What is polled to its end, by wakers of the type W. It stands for `std::future::Future`.
 ///
-/// Example: `uses::mixes`.
+/// Example: `uses::overtakes`, and of two kinds in one type `uses::mixes`.
+///
+/// ```text
+/// fn poll(&mut self, _w: &W) -> Poll<u64> {
+///     Poll::Ready(self.ran.fetch_add(1, Ordering::SeqCst))
+/// }
+/// ```
 pub trait Future<W>: Drop {
     /// What it gives in the end.
     type Output: Drop;
@@ -41,6 +59,10 @@ pub trait Future<W>: Drop {
 /// A future on the heap is polled there, and only its address is moved.
 ///
 /// Example: `uses::boxes`.
+///
+/// ```text
+/// runs(rt, alloc, Box::new(alloc, Sum::of(1, 2)).ok()?)
+/// ```
 impl<W, F: Future<W>> Future<W> for Box<F> {
     type Output = F::Output;
 
