@@ -12,6 +12,14 @@ use std::time::Duration;
 /// came before.
 ///
 /// One thread at a time may park on it and on its copies.
+///
+/// Example: `uses::parks`.
+///
+/// ```text
+/// let first = ThreadWaker::new(alloc).ok()?;
+/// mine.park(rt);
+/// waker.wake();
+/// ```
 #[derive(Drop)]
 pub struct ThreadWaker {
     parker: Arc<Parker>,
@@ -23,6 +31,12 @@ impl ThreadWaker {
     /// # Errors
     ///
     /// `AllocError` if memory for it is refused.
+    ///
+    /// Example: `uses::parks`.
+    ///
+    /// ```text
+    /// let first = ThreadWaker::new(alloc).ok()?;
+    /// ```
     pub fn new(alloc: Global) -> Result<ThreadWaker, AllocError> {
         Ok(ThreadWaker {
             parker: Arc::new(alloc, Parker::new())?,
@@ -31,6 +45,12 @@ impl ThreadWaker {
 
     /// Parks this thread until the waker, or a copy of it, is woken. It returns at once if that
     /// happened since the last time.
+    ///
+    /// Example: `uses::parks`.
+    ///
+    /// ```text
+    /// mine.park(rt);
+    /// ```
     pub fn park<R: Wait>(&self, rt: &R) {
         self.parker.park(rt);
     }
@@ -58,6 +78,13 @@ impl Wake for ThreadWaker {
 /// # Errors
 ///
 /// `AllocError` if memory for the thread's waker is refused. The future is dropped then, unpolled.
+///
+/// Example: `uses::pools`.
+///
+/// ```text
+/// let (first, second) = block_on(rt, alloc, Zip::new(add, more)).ok()?;
+/// added(first.ok().zip(second.ok()))
+/// ```
 pub fn block_on<G: Future<ThreadWaker>>(
     rt: &impl Wait,
     alloc: Global,

@@ -121,6 +121,13 @@ impl<G, T> Half<G, T> {
 }
 
 /// Gives the outputs of two futures, which are polled by turns until both are ready.
+///
+/// Example: `uses::pools`.
+///
+/// ```text
+/// let (first, second) = block_on(rt, alloc, Zip::new(add, more)).ok()?;
+/// added(first.ok().zip(second.ok()))
+/// ```
 #[derive(Drop)]
 pub struct Zip<A, X, B, Y> {
     halves: Option<(Half<A, X>, Half<B, Y>)>,
@@ -128,6 +135,12 @@ pub struct Zip<A, X, B, Y> {
 
 impl<A, X, B, Y> Zip<A, X, B, Y> {
     /// Awaits both.
+    ///
+    /// Example: `uses::pools`.
+    ///
+    /// ```text
+    /// let (first, second) = block_on(rt, alloc, Zip::new(add, more)).ok()?;
+    /// ```
     pub fn new(left: A, right: B) -> Zip<A, X, B, Y>
         ensures { result.halves ≡ Some (Half.Open left, Half.Open right) }
     {

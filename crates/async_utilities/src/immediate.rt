@@ -38,6 +38,12 @@ impl<W, T: Drop> Future<W> for Ready<T> {
 }
 
 /// Never ready, and wakes nobody.
+///
+/// Example: `uses::times_out`.
+///
+/// ```text
+/// let wanted = timer.timeout(Duration::from_millis(10), Never::new()).ok()?;
+/// ```
 #[derive(Drop)]
 pub struct Never<T> {
     output: PhantomData<T>,
@@ -45,6 +51,12 @@ pub struct Never<T> {
 
 impl<T> Never<T> {
     /// Never gives a value of the type T.
+    ///
+    /// Example: `uses::times_out`.
+    ///
+    /// ```text
+    /// let wanted = timer.timeout(Duration::from_millis(10), Never::new()).ok()?;
+    /// ```
     pub fn new() -> Never<T> {
         Never {
             output: PhantomData,

@@ -13,6 +13,14 @@ use std::alloc::{AllocFailed, Global};
 /// of tasks, which run by themselves: a future that only its polls drive waits for its turn.
 ///
 /// It is pending from then on, and wakes nobody.
+///
+/// Example: `uses::joins`.
+///
+/// ```text
+/// let all = JoinAll::new(alloc, tasks).ok()?;
+/// for output in block_on(rt, alloc, all).ok()? {
+///     total = total.checked_add(output.ok()?)?;
+/// ```
 #[derive(Drop)]
 pub struct JoinAll<G, T> {
     inner: Option<Joining<G, T>>,
@@ -32,6 +40,12 @@ impl<G, T> JoinAll<G, T> {
     /// # Errors
     ///
     /// `AllocFailed` if memory for the outputs is refused, with the futures in their order.
+    ///
+    /// Example: `uses::joins`.
+    ///
+    /// ```text
+    /// let all = JoinAll::new(alloc, tasks).ok()?;
+    /// ```
     pub fn new(alloc: Global, futures: Vec<G>) -> Result<JoinAll<G, T>, AllocFailed<Vec<G>>>
         ensures ok { IfOk result (λ all. IfSome all.inner (λ inner. (inner.left.items ≡ reverse futures.items) × (inner.outputs.items ≡ []))) }
         ensures begun { IfOk result (λ all. IsSome all.inner) }

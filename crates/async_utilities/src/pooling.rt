@@ -11,6 +11,12 @@ use std::thread::{self, JoinHandle, Threads};
 use thiserror::Error;
 
 /// Why there is no pool, or why one of its threads stopped before it was told to.
+///
+/// Example: `uses::joins`, which lets it go.
+///
+/// ```text
+/// let pool: Pool<Sum, R> = Pool::new(rt.clone().ok()?, alloc, 4).ok()?;
+/// ```
 #[derive(Debug, Clone, Copy, PartialEq, Eq, Error)]
 pub enum PoolError {
     /// Memory was refused.
@@ -46,6 +52,14 @@ type Ended = Result<(), PoolError>;
 /// Threads that each drive a run of one executor, and park while it has nothing to do, until the pool
 /// is joined or dropped. Its drop tells them to stop, and waits for them: a task that never returns
 /// from a poll keeps it waiting. Tasks that are left then are dropped with the executor.
+///
+/// Example: `uses::joins`.
+///
+/// ```text
+/// let pool: Pool<Sum, R> = Pool::new(rt.clone().ok()?, alloc, 4).ok()?;
+/// pool.executor().spawn_many(sums, &mut tasks).ok()?;
+/// let all = JoinAll::new(alloc, tasks).ok()?;
+/// ```
 pub struct Pool<F, R>
 where
     F: Future<TaskWaker<ThreadWaker, R>> + Send + 'static,
@@ -142,6 +156,12 @@ where
     /// # Errors
     ///
     /// `PoolError`. The threads that were started are stopped again.
+    ///
+    /// Example: `uses::joins`.
+    ///
+    /// ```text
+    /// let pool: Pool<Sum, R> = Pool::new(rt.clone().ok()?, alloc, 4).ok()?;
+    /// ```
     pub fn new(rt: R, alloc: Global, count: usize) -> Result<Pool<F, R>, PoolError>
         ensures { IfOk result (λ pool. vec_len pool.started.threads ≡ count) }
     {
@@ -180,6 +200,13 @@ where
     }
 
     /// The executor, to spawn tasks on.
+    ///
+    /// Example: `uses::joins`.
+    ///
+    /// ```text
+    /// let sums = (0..1000).map(|number| Sum::of(number, 1));
+    /// pool.executor().spawn_many(sums, &mut tasks).ok()?;
+    /// ```
     pub fn executor(&self) -> &Executor<F, ThreadWaker, R> {
         &self.executor
     }

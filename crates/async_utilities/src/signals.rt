@@ -11,6 +11,14 @@ use std::sync::{Arc, Mutex, MutexGuard, Wait};
 /// A signal that is set once, and stays set. Any number of futures await it, each by a `Waiting` of
 /// its own, as runs that are to stop together. W is the waker that they are polled with, and R the
 /// right to wait for the lock.
+///
+/// Example: `uses::pools`.
+///
+/// ```text
+/// let stop = Signal::new(rt.clone().ok()?, alloc).ok()?;
+/// executor.run(stop.waiting().ok()?).ok()
+/// stop.set();
+/// ```
 #[derive(Drop)]
 pub struct Signal<W: Wake, R: Wait + Drop> {
     shared: Arc<Shared<W, R>>,
@@ -107,6 +115,12 @@ impl<W: Wake, R: Wait + Drop> Signal<W, R> {
     /// # Errors
     ///
     /// `OutOfMemory` if memory for it is refused.
+    ///
+    /// Example: `uses::pools`.
+    ///
+    /// ```text
+    /// let stop = Signal::new(rt.clone().ok()?, alloc).ok()?;
+    /// ```
     pub fn new(rt: R, alloc: Global) -> Result<Signal<W, R>, OutOfMemory> {
         let waiters = Mutex::new(Waiters::new(alloc));
         match Arc::new(alloc, Shared { waiters, alloc, rt }) {
@@ -127,6 +141,13 @@ impl<W: Wake, R: Wait + Drop> Signal<W, R> {
 
     /// Sets the signal, and wakes each waker that waits for it, once. If it was set before, nothing
     /// happens. No lock is held while a waker is woken.
+    ///
+    /// Example: `uses::pools`.
+    ///
+    /// ```text
+    /// let total = sum(rt, alloc, executor);
+    /// stop.set();
+    /// ```
     pub fn set(&self) {
         let waiting = self.shared.waiters().set();
         let Some(wakers) = waiting else {
@@ -150,6 +171,12 @@ impl<W: Wake, R: Wait + Drop> Signal<W, R> {
     /// # Errors
     ///
     /// `OutOfMemory` if memory for the place is refused.
+    ///
+    /// Example: `uses::pools`.
+    ///
+    /// ```text
+    /// executor.run(stop.waiting().ok()?).ok()
+    /// ```
     pub fn waiting(&self) -> Result<Waiting<W, R>, OutOfMemory> {
         let shared = Arc::try_clone(&self.shared)?;
         let place = shared.waiters().join()?;
@@ -160,6 +187,13 @@ impl<W: Wake, R: Wait + Drop> Signal<W, R> {
 /// Ready once its signal is set, and from then on. While it is not, a copy of the waker of its last
 /// poll is kept, and is woken when the signal is set. If the copy is refused, the waker itself is
 /// woken and nothing more is kept. Its drop gives its place back, and drops the copy unwoken.
+///
+/// Example: `uses::pools`.
+///
+/// ```text
+/// executor.run(stop.waiting().ok()?).ok()
+/// stop.set();
+/// ```
 pub struct Waiting<W: Wake, R: Wait + Drop> {
     shared: Arc<Shared<W, R>>,
     place: usize,

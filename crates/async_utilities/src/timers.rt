@@ -26,6 +26,12 @@ use std::time::{Clock, Duration};
 use thiserror::Error;
 
 /// Why a timer did not do what it was asked for.
+///
+/// Example: `uses::times_out`, which lets it go.
+///
+/// ```text
+/// let timer = Timer::new(rt.clone().ok()?, rt.clone().ok()?, alloc).ok()?;
+/// ```
 #[derive(Debug, Clone, Copy, Error)]
 pub enum TimerError {
     /// Memory was refused.
@@ -55,6 +61,12 @@ impl From<io::Error> for TimerError {
 }
 
 /// Why a timer did not do what it was asked for, with the future that it was handed.
+///
+/// Example: `uses::times_out`, which lets it go.
+///
+/// ```text
+/// let wanted = timer.timeout(Duration::from_millis(10), Never::new()).ok()?;
+/// ```
 #[derive(Debug, Drop)]
 pub struct TimerFailed<G> {
     /// The future.
@@ -134,6 +146,14 @@ fn until(now: Reading, deadline: u128) -> Duration
 /// Gives futures that are ready once its clock has reached a time. W is the waker that they are polled
 /// with, C the clock, and R the right to wait for the lock. Somebody has to drive it, by `block_on` or
 /// by `fire`.
+///
+/// Example: `uses::times_out`.
+///
+/// ```text
+/// let timer = Timer::new(rt.clone().ok()?, rt.clone().ok()?, alloc).ok()?;
+/// let wanted = timer.timeout(Duration::from_millis(10), Never::new()).ok()?;
+/// let answer = timer.block_on(run).ok()?.ok()?;
+/// ```
 #[derive(Drop)]
 pub struct Timer<W: Wake, C: Clock + Drop, R: Wait + Drop> {
     shared: Arc<Shared<W, R>>,
@@ -146,6 +166,12 @@ impl<W: Wake, C: Clock + Drop, R: Wait + Drop> Timer<W, C, R> {
     /// # Errors
     ///
     /// `TimerError`, if memory for it is refused or the clock is not to be read.
+    ///
+    /// Example: `uses::times_out`.
+    ///
+    /// ```text
+    /// let timer = Timer::new(rt.clone().ok()?, rt.clone().ok()?, alloc).ok()?;
+    /// ```
     pub fn new(rt: R, clock: C, alloc: Global) -> Result<Timer<W, C, R>, TimerError> {
         let now = Reading::now(&clock)?;
         let deadlines = Mutex::new(Deadlines::new(alloc, now));
@@ -195,6 +221,13 @@ impl<W: Wake, C: Clock + Drop, R: Wait + Drop> Timer<W, C, R> {
     ///
     /// `TimerFailed` with the future, if memory for its place is refused or the clock is not to be
     /// read.
+    ///
+    /// Example: `uses::times_out`.
+    ///
+    /// ```text
+    /// let wanted = timer.timeout(Duration::from_millis(10), Never::new()).ok()?;
+    /// let task = executor.spawn(wanted).ok()?;
+    /// ```
     pub fn timeout<G>(
         &self,
         duration: Duration,
@@ -237,6 +270,14 @@ impl<W: Wake, C: Clock + Drop, R: Wait + Drop> Timer<W, C, R> {
     ///
     /// `TimerFailed` with the future, if memory for the thread's waker is refused or the clock is not
     /// to be read.
+    ///
+    /// Example: `uses::times_out`.
+    ///
+    /// ```text
+    /// let run = executor.run(task).ok()?;
+    /// let answer = timer.block_on(run).ok()?.ok()?;
+    /// Some(answer.is_err())
+    /// ```
     pub fn block_on<G: Future<ThreadWaker>>(&self, future: G) -> Result<G::Output, TimerFailed<G>> {
         let mut future = future;
         let (place, waker) = match self.shared.join() {
@@ -323,6 +364,13 @@ impl<W: Wake, R: Wait + Drop> Drop for After<W, R> {
 }
 
 /// So much time has passed and a future was not ready.
+///
+/// Example: `uses::times_out`.
+///
+/// ```text
+/// let answer = timer.block_on(run).ok()?.ok()?;
+/// Some(answer.is_err())
+/// ```
 #[derive(Debug, Clone, Copy, PartialEq, Eq, Error)]
 #[error("timed out")]
 pub struct TimedOut {
@@ -332,6 +380,13 @@ pub struct TimedOut {
 
 /// Gives the output of a future, or `TimedOut` if its time passes before. If both are so at one poll,
 /// it is the output. It lets the future go then, is pending from then on, and wakes nobody.
+///
+/// Example: `uses::times_out`.
+///
+/// ```text
+/// let wanted = timer.timeout(Duration::from_millis(10), Never::new()).ok()?;
+/// let task = executor.spawn(wanted).ok()?;
+/// ```
 #[derive(Drop)]
 pub struct Timeout<G, W: Wake, R: Wait + Drop> {
     inner: Option<(G, After<W, R>)>,
