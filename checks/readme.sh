@@ -1,7 +1,7 @@
 #!/bin/sh
 # Compares what the pages say with what the repository has: programs, callers and printed runs word
 # for word, quoted contracts, the calls and clauses that carry a promise, the modules of the map,
-# the worked interleaving of exsim, examples, links, and figures.
+# the worked interleaving of exsim, examples and their lines, links, and figures.
 # Usage: checks/readme.sh, anywhere. RT names the command rt. Its last line counts the comparisons.
 # Runs beside the gate.
 set -u
@@ -122,6 +122,46 @@ if [ -s "$copy/log" ]; then
     fail "calls without an example:" "$copy/log"
 else
     pass "each public call has an example"
+fi
+
+# The examples in comments: each has one to three lines, which stand in a file of crates/uses that
+# defines a caller which the line 'Example: ' above them names.
+for crate in uses executor_core async_executor priority_executor async_utilities; do
+    printf '%s\n' "$sources" | grep "^crates/$crate/src/.*\.rt$"
+done | xargs awk '
+    function stands(line, word, file) {
+        for (word = 2; word <= words; word += 2)
+            for (file in callers)
+                if ((file, named[word]) in callers_of && (file, line) in lines_of) return 1
+        return 0
+    }
+    { text = $0; sub(/^ */, "", text) }
+    FILENAME ~ /^crates\/uses\// {
+        callers[FILENAME]
+        if (text !~ /^\/\//) lines_of[FILENAME, text]
+        if (sub(/^(pub(\([a-z]+\))? )?fn /, "uses::", text)) {
+            sub(/[(<].*/, "", text)
+            callers_of[FILENAME, text]
+        }
+        next
+    }
+    !sub(/^\/\/\/ ?/, "", text) {
+        if (words && (lines < 1 || lines > 3)) print FILENAME ": " lines " lines below: " example
+        words = inside = 0
+        next
+    }
+    /^ *\/\/\/ Example: / { examples++; example = text; words = split(text, named, "`"); lines = 0; next }
+    /^ *\/\/\/ ```/ { inside = !inside; next }
+    inside && words {
+        lines++
+        sub(/^ */, "", text)
+        if (!stands(text)) print FILENAME ": " text
+    }
+    END { if (!examples) print "there is no example" }' > "$copy/log"
+if [ -s "$copy/log" ]; then
+    fail "examples whose lines crates/uses lacks:" "$copy/log"
+else
+    pass "each line of an example is in crates/uses"
 fi
 
 for page in README.md docs/*.md "$calling"; do
