@@ -1,21 +1,20 @@
 -- With which of the tasks that it finds a run takes a fair part.
-use Rattle.std.proofs.Common.{◌≡◌, ℕ, ◌+◌, ◌<◌, Bool, true, false, Some, None, refl, sym, ap, subst, ◌∙◌, arith}
+use Rattle.std.proofs.Common.{◌≡◌, ℕ, ◌+◌, ◌<◌, true, false, refl, sym, ap, ◌∙◌, arith}
 use Rattle.std.proofs.lemmas.Bool.{ltb-true, lt-ltb, eqb-true, eq-eqb, ne_eqb, false≢true}
 use Rattle.std.proofs.Math.Nat.{suc-mod, mod-eq_of_lt, mod_self}
-use Rattle.std.specs.Prelude.{suc, ◌%◌, ◌==◌, nat_lt}
+use Rattle.std.specs.Prelude.{suc, ◌%◌}
 use Rattle.executor_core.specs.declared.task.values.Taken.{Taken}
 use Rattle.async_executor.specs.Ticks.{AskRun}
 use Rattle.async_executor.specs.Ticks as ticks
-use Rattle.async_executor.specs.Ticks.Courses.{Course, Departing, course, KeepsCourse}
-use Rattle.async_executor.specs.Runs.{is_fit, IsFitNext}
+use Rattle.async_executor.specs.Ticks.Courses.{Departing, course, KeepsCourse}
+use Rattle.async_executor.specs.Runs.{is_fit}
 use Rattle.async_executor.specs.Runs.Counts.{Counted, goes_on, more, anew, CountsEach}
-use Rattle.async_executor.specs.Runs.Decisions.{ask, found, after_task, dropping, working, passing_on, leaving, resumed}
-use Rattle.async_executor.specs.Runs.Fairs.{HasFound, FindsIn, FindsFrom}
+use Rattle.async_executor.specs.Runs.Decisions.{ask, found, working, resumed}
+use Rattle.async_executor.specs.Runs.Fairs.{HasFound, FindsIn}
 use Rattle.async_executor.specs.declared.machine.run.Aim.{Aim}
 use Rattle.async_executor.specs.declared.machine.run.Aim.TheVariants.{Work, PassOn, Leave}
 use Rattle.async_executor.specs.declared.machine.run.Runner.{Runner}
 use Rattle.async_executor.specs.declared.machine.run.RunAction.TheVariants as asks
-use Rattle.async_executor.specs.declared.machine.run.RunNext.{RunNext}
 use Rattle.async_executor.specs.declared.machine.run.RunState.TheVariants.{Ticking}
 use Rattle.async_executor.specs.declared.machine.tick.TickAction.{TickAction}
 use Rattle.async_executor.specs.declared.machine.tick.TickAction.TheVariants.{Search, Insert, Update, Store, Remove, StoreRemoved, Exchange, Notify, Wake, Run}

@@ -1,7 +1,7 @@
 -- What a run makes of the decisions of its ticks.
 use Rattle.std.proofs.Common.{◌≡◌, ℕ, ◌+◌, ◌<◌, Bool, true, false, cond, inl, inr, Option, None, refl, sym, ap, subst, ◌∙◌, arith}
 use Rattle.std.proofs.lemmas.Bool.{cases_Bool, eqb-true, eq-eqb, ltb-true, lt-ltb, cond-true, cond-false, cond_both, ne_eqb, false≢true}
-use Rattle.std.specs.Prelude.{suc, ◌%◌, ◌≢◌, ◌==◌}
+use Rattle.std.specs.Prelude.{◌==◌}
 use Rattle.executor_core.specs.declared.interleave.ticker.Phase.TheVariants as phase
 use Rattle.executor_core.specs.declared.interleave.ticker.Ticker.{Ticker}
 use Rattle.executor_core.specs.World.Tickers as seen
@@ -12,7 +12,7 @@ use Rattle.async_executor.specs.Ticks.Courses.{Course, Waiting, Seeking, Departi
 use Rattle.async_executor.specs.Ticks.Steps as ticks_steps
 use Rattle.async_executor.specs.Ticks.Tickers as ticks_seen
 use Rattle.async_executor.specs.Runs.{AskTick, AskFair, AskNothing, is_fit, asked, asked_in, answers, store_asked, IsAsked, IsFitNext}
-use Rattle.async_executor.specs.Runs.Counts.{Counted, goes_on, more, anew}
+use Rattle.async_executor.specs.Runs.Counts.{goes_on, more, anew}
 use Rattle.async_executor.specs.Runs.Decisions.{ask, run_rest, run_ended, searching, dropping, after_task, found, working, passing_on, leaving, resumed}
 use Rattle.async_executor.specs.Runs.Steps.{left_awake, ran, worked, passed_on, ticked, leads, may_tick, may_lead}
 use Rattle.async_executor.specs.Runs.Tickers.{runner_in, run_at, ticker_in, ticker_of, ticker_after}

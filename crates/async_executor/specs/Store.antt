@@ -1,4 +1,4 @@
-use Rattle.std.specs.Prelude.{◌≡◌, ◌==◌, Bool, true, false, ℕ, Option, Some, None, cond, List, [], ◌∷◌, ◌++◌, slice_set, slice_get, length, nat_lt, vec_len, vec_capacity, ◌<◌}
+use Rattle.std.specs.Prelude.{◌==◌, Bool, true, false, ℕ, Option, Some, None, cond, List, [], ◌∷◌, ◌++◌, slice_set, slice_get, length, nat_lt, vec_len, vec_capacity, ◌<◌}
 use Rattle.executor_core.specs.declared.task.id.TaskId.{TaskId}
 use Rattle.async_executor.specs.declared.store.Kept.{Kept}
 use Rattle.async_executor.specs.declared.store.Kept.TheVariants.{Nothing, Future, Output}

@@ -14,9 +14,9 @@ use crate::store::Store;
 use crate::waker::{LentWake, TaskWaker};
 use executor_core::queue::RunnerKey;
 use executor_core::task::{
-    Again, Cells, EndPending, EndReady, Notice, PollHandle, Ran, SpawnError, Taken, TaskId, Wake,
+    Again, Cells, EndPending, EndReady, Notice, PollHandle, Ran, SpawnError, Taken, TaskId,
 };
-use std::sync::{Arc, Wait};
+use std::sync::Arc;
 
 /// Makes a task of this future and keeps the future. Its place is made before the task is queued.
 /// Where that is refused, all is as before.
@@ -61,7 +61,8 @@ pub(crate) fn search<H: Home>(
 ) -> Option<(Taken<()>, Notice)> {
     let mut store = store!(home);
     let found = cells!(home.state()).search(key, word, again);
-    store.get().take_found(found, out)
+    store.get().take_found(&found, out);
+    found
 }
 
 /// Ends a task that was run, and keeps its future or its output, where the handle wants it. There is
@@ -101,7 +102,8 @@ pub(crate) fn end_then_search<H: Home>(
         Ok(notice) => {
             let found = cells.search(key, word, None);
             drop(cells);
-            EndThenSearch::Searched(notice, store.take_found(found, out))
+            store.take_found(&found, out);
+            EndThenSearch::Searched(notice, found)
         }
         Err(left) => EndThenSearch::Left(left),
     }
@@ -170,7 +172,8 @@ fn poll_handle_of_ended<H: Home>(
 /// The future of a task while it is out, with the waker that it is polled with.
 pub type Out<F, W, R> = Option<(F, TaskWaker<W, R>)>;
 
-impl<F: Drop, W: Wake, R: Wait + Clone + Drop, T: Drop> Store<F, Arc<ExecutorState<W, R>>, T> {
+// It waits for nothing, so it asks for no right to wait, and costs its caller no test.
+impl<F: Drop, W: Drop, R: Drop, T: Drop> Store<F, Arc<ExecutorState<W, R>>, T> {
     pub(crate) fn take(&mut self, id: TaskId) -> Out<F, W, R> {
         let (future, state) = self.take_future(id)?;
         Some((future, TaskWaker::lent(state, id)))
@@ -178,14 +181,10 @@ impl<F: Drop, W: Wake, R: Wait + Clone + Drop, T: Drop> Store<F, Arc<ExecutorSta
 
     // Takes the future of a task that was found out, where none is out any more.
     #[inline(always)]
-    fn take_found(
-        &mut self,
-        found: Option<(Taken<()>, Notice)>,
-        out: &mut Out<F, W, R>,
-    ) -> Option<(Taken<()>, Notice)> {
-        let (taken, notice) = found?;
-        *out = self.take(taken.id());
-        Some((taken, notice))
+    fn take_found(&mut self, found: &Option<(Taken<()>, Notice)>, out: &mut Out<F, W, R>) {
+        if let Some((taken, _)) = found {
+            *out = self.take(taken.id());
+        }
     }
 
     // Ends the handle of a task that has ended. Its output comes out, and a waker that was left.

@@ -4,20 +4,19 @@ ghost use Rattle.async_executor.specs.Poller.{AnswersOwn, DisposesOwn};
 
 use crate::changes::Out;
 use crate::waker::TaskWaker;
-use executor_core::task::{Future, Poll, Polled, Poller, TaskId, Wake};
-use std::sync::Wait;
+use executor_core::task::{Future, Poll, Polled, Poller, TaskId};
 
 /// Borrows the future of one task while it is out, and the waker that it is polled with. It answers
 /// for this task alone, and counts the polls and the disposals that it is asked for.
 #[derive(Drop)]
-pub(crate) struct TaskPoller<'a, F: Future<TaskWaker<W, R>>, W: Wake, R: Wait + Clone + Drop> {
+pub(crate) struct TaskPoller<'a, F: Future<TaskWaker<W, R>>, W: Drop, R: Drop> {
     id: TaskId,
     out: &'a mut Out<F, W, R>,
     polls: u64,
     disposals: u64,
 }
 
-impl<'a, F: Future<TaskWaker<W, R>>, W: Wake, R: Wait + Clone + Drop> TaskPoller<'a, F, W, R> {
+impl<'a, F: Future<TaskWaker<W, R>>, W: Drop, R: Drop> TaskPoller<'a, F, W, R> {
     /// The poller of the task of this id.
     pub(crate) fn new(id: TaskId, out: &'a mut Out<F, W, R>) -> TaskPoller<'a, F, W, R>
         ensures { result ≡ record { id = id; out = out.entry; polls = 0; disposals = 0 } }
@@ -31,7 +30,7 @@ impl<'a, F: Future<TaskWaker<W, R>>, W: Wake, R: Wait + Clone + Drop> TaskPoller
     }
 }
 
-impl<F: Future<TaskWaker<W, R>>, W: Wake, R: Wait + Clone + Drop> Poller<(), F::Output>
+impl<F: Future<TaskWaker<W, R>>, W: Drop, R: Drop> Poller<(), F::Output>
     for TaskPoller<'_, F, W, R> {
     ghost polls = { λ p. p.polls };
 

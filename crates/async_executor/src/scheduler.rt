@@ -27,11 +27,28 @@ use crate::ticker::TickIn;
 use executor_core::limits::{Limits, NewError};
 use executor_core::queue::Ring;
 use executor_core::task::{
-    EndPending, Future, Held, Notice, OutOfMemory, Ran, SpawnError, Taken, TaskId, run_taken,
+    EndPending, Future, Held, OutOfMemory, Ran, SpawnError, Taken, TaskId, run_taken,
 };
 pub(crate) use many::Handle;
 pub use many::SpawnMany;
 use std::alloc::Global;
+
+// Runs the task that this take finds, and says whether there was one. No lock may be held. It is no
+// function for the reason that `lock` is none.
+macro_rules! take_and_run {
+    ($executor:expr, $take:ident) => {{
+        let state = $executor.home.state();
+        let mut cells = cells!(state);
+        let Some((taken, notice)) = cells.$take(None) else {
+            return false;
+        };
+        drop(cells);
+        // Before the task is run, which may take long: somebody else may go on with the queue.
+        announce!(state, notice);
+        $executor.run_task(taken);
+        true
+    }};
+}
 
 /// A share of an executor, which spawns tasks and runs them.
 #[derive(Drop)]
@@ -101,28 +118,13 @@ impl<H: Home> ExecutorIn<H> {
 
     /// Runs the task that was scheduled first, and says whether there was one.
     pub(crate) fn try_tick(&self) -> bool {
-        let found = cells!(self.home.state()).take_global(None);
-        self.run_found(found)
+        take_and_run!(self, take_global)
     }
 
     /// Runs the first task of the global queue, else that of the first run's queue that has one, and
     /// says whether there was one.
     pub(crate) fn try_tick_any(&self) -> bool {
-        let found = cells!(self.home.state()).take_any(None);
-        self.run_found(found)
-    }
-
-    // Runs the task that was found, and says whether there was one. No lock may be held.
-    #[inline(always)]
-    fn run_found(&self, found: Option<(Taken<()>, Notice)>) -> bool {
-        let Some((taken, notice)) = found else {
-            return false;
-        };
-        let state = self.home.state();
-        // Before the task is run, which may take long: somebody else may go on with the queue.
-        announce!(state, notice);
-        self.run_task(taken);
-        true
+        take_and_run!(self, take_any)
     }
 
     /// A future that runs one task, for which a sleeper's place is reserved here.

@@ -71,6 +71,40 @@ pub(crate) type CacheLine = [u64; 8];
 
 pub(crate) const APART: CacheLine = [0; 8];
 
+// What waits for no lock. It asks for no right to wait, so that it costs its caller no test.
+impl<W, R> ExecutorState<W, R> {
+    /// The right to wait.
+    pub(crate) fn rt(&self) -> &R {
+        &self.rt
+    }
+
+    /// The allocator.
+    pub(crate) fn alloc(&self) -> Global {
+        self.alloc
+    }
+
+    /// Spends the notice of a task that was queued or taken. Where somebody sleeps and nobody was
+    /// notified since, a sleeper is to be notified. It takes no lock.
+    pub(crate) fn exchange(&self, notice: Notice) -> Option<Pick> {
+        self.flag.exchange(notice)
+    }
+
+    /// Stores the flag for a change of the list of sleepers, under the lock under which it was
+    /// changed, and gives what else the change carries.
+    pub(crate) fn store<X>(&self, change: Change<X>, sleepers: &mut Sleepers<W>) -> X
+        ensures list { sleepers.new ≡ closed sleepers.old }
+        ensures carried { result ≡ change.carried }
+    {
+        self.flag.store(change, sleepers)
+    }
+
+    /// How many sleep. `None` where the lock is taken, for which it does not wait.
+    pub(crate) fn sleepers_in_use(&self) -> Option<usize> {
+        let guard = self.sleepers.try_lock()?;
+        Some(guard.sleepers.numbers())
+    }
+}
+
 impl<W: Wake, R: Wait + Clone + Drop> ExecutorState<W, R> {
     /// The state of an executor that has no tasks.
     pub(crate) fn new(rt: R, alloc: Global) -> Result<ExecutorState<W, R>, OutOfMemory> {
@@ -84,16 +118,6 @@ impl<W: Wake, R: Wait + Clone + Drop> ExecutorState<W, R> {
             rt,
             alloc,
         })
-    }
-
-    /// The right to wait.
-    pub(crate) fn rt(&self) -> &R {
-        &self.rt
-    }
-
-    /// The allocator.
-    pub(crate) fn alloc(&self) -> Global {
-        self.alloc
     }
 
     /// Waits for the table of tasks, which is locked until the guard is dropped. It comes with its
@@ -117,12 +141,6 @@ impl<W: Wake, R: Wait + Clone + Drop> ExecutorState<W, R> {
         sleepers!(self)
     }
 
-    /// Spends the notice of a task that was queued or taken. Where somebody sleeps and nobody was
-    /// notified since, a sleeper is to be notified. It takes no lock.
-    pub(crate) fn exchange(&self, notice: Notice) -> Option<Pick> {
-        self.flag.exchange(notice)
-    }
-
     /// Takes the waker of the sleeper that is to be notified.
     pub(crate) fn notify_sleeper(&self, pick: Pick) -> Option<Wakeup<W>> {
         self.sleepers().sleepers.notify(pick)
@@ -137,24 +155,9 @@ impl<W: Wake, R: Wait + Clone + Drop> ExecutorState<W, R> {
         }
     }
 
-    /// Stores the flag for a change of the list of sleepers, under the lock under which it was
-    /// changed, and gives what else the change carries.
-    pub(crate) fn store<X>(&self, change: Change<X>, sleepers: &mut Sleepers<W>) -> X
-        ensures list { sleepers.new ≡ closed sleepers.old }
-        ensures carried { result ≡ change.carried }
-    {
-        self.flag.store(change, sleepers)
-    }
-
     /// Reserves the place of one sleeper.
     pub(crate) fn reserve_sleeper(&self) -> Result<(), OutOfMemory> {
         self.sleepers().sleepers.reserve()
-    }
-
-    /// How many sleep. `None` where the lock is taken, for which it does not wait.
-    pub(crate) fn sleepers_in_use(&self) -> Option<usize> {
-        let guard = self.sleepers.try_lock()?;
-        Some(guard.sleepers.numbers())
     }
 
     /// Gives the place of one sleeper back.

@@ -32,7 +32,7 @@ pub struct TaskWaker<W, R> {
     mark: Option<AtomicBool>,
 }
 
-impl<W: Wake, R: Wait + Clone + Drop> TaskWaker<W, R> {
+impl<W, R> TaskWaker<W, R> {
     /// The waker that is lent to a poll of the task of this id.
     pub(crate) fn lent(state: Arc<ExecutorState<W, R>>, id: TaskId) -> TaskWaker<W, R>
         ensures state { result.state ≡ state }

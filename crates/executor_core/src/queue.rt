@@ -19,7 +19,7 @@ pub(crate) mod runner;
 
 use crate::queue::queues::Queues;
 use crate::task::cell::take_cell;
-use crate::task::{Again, Cells, Held, Notice, QueuedNumbers, Taken, TaskId};
+use crate::task::{Again, Cells, Notice, QueuedNumbers, Taken, TaskId};
 pub use ring::{Ring, steal};
 pub use runner::{RunnerError, RunnerKey};
 
@@ -223,11 +223,9 @@ fn take_out<P, T, W>(queues: &mut Queues<P, T, W>, id: TaskId) -> Taken<P>
     ensures state { queues.new.state ≡ queues.old.state }
 {
     let (future, cancelled) = take_cell(queues.cell_mut(id));
-    let held = Held { id, to_drop: false };
     Taken {
         id,
         future,
         cancelled,
-        held,
     }
 }

@@ -4,11 +4,12 @@ ghost use Rattle.async_executor.specs.Runs.Counts.{up_to, goes_on, more, anew, C
 
 use std::marker::Model;
 
-/// A count up to a limit. The last one of so many begins it anew, so it is below that limit.
+/// A count up to a limit. The last one of so many begins it anew, so it is below that limit. Each of the
+/// two fills a register, so that neither is packed and unpacked as a run moves it from step to step.
 #[derive(Debug, Clone, Copy, PartialEq, Eq)]
 pub(crate) struct Count {
-    counted: u32,
-    limit: u32,
+    counted: u64,
+    limit: u64,
 }
 
 impl Model for Count {
@@ -33,7 +34,10 @@ impl Count {
         requires { 0 < limit }
         ensures { result ≡ up_to limit }
     {
-        Count { counted: 0, limit }
+        Count {
+            counted: 0,
+            limit: u64::from(limit),
+        }
     }
 
     /// The same after one more, and whether that was the last of so many.

@@ -44,7 +44,6 @@ fn taken<P>(id: TaskId, future: P, cancelled: bool) -> Taken<P>
         id,
         future,
         cancelled,
-        held: Held { id, to_drop: false },
     }
 }
 

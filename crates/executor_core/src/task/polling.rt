@@ -67,14 +67,14 @@ pub fn run_taken<P, T, Q: Poller<P, T>>(taken: Taken<P>, poller: &mut Q) -> Ran<
         id,
         future,
         cancelled,
-        held,
     } = taken;
     if cancelled {
         poller.dispose(id, future);
-        let Held { id, to_drop: _ } = held;
         return Ran::Dropped(Held { id, to_drop: true });
     }
-    match poller.poll(id, future) {
+    let polled = poller.poll(id, future);
+    let held = Held { id, to_drop: false };
+    match polled {
         Polled::Pending(future) => Ran::Pending(held, future),
         Polled::Ready(output) => Ran::Ready(held, output),
     }

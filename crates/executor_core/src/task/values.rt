@@ -103,14 +103,11 @@ pub struct Held {
     pub(crate) to_drop: bool,
 }
 
-/// A task that was taken: its future is out of its cell.
+/// A task that was taken: its future is out of its cell. Its `Held` is made as it is run.
 pub struct Taken<P> {
     pub(crate) id: TaskId,
     pub(crate) future: P,
     pub(crate) cancelled: bool,
-    pub(crate) held: Held,
-    ghost own: { held.id ≡ id },
-    ghost undropped: { held.to_drop ≡ false },
 }
 
 impl<P> Taken<P> {

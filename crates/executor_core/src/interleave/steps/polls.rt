@@ -34,9 +34,7 @@ pub(crate) fn put_out<P: Drop, T: Copy>(
         id,
         future,
         cancelled,
-        held,
     } = taken;
-    let Held { id: _, to_drop: _ } = held;
     let n = id.number;
     let info = entries[n as usize].info.with_to_drop(cancelled);
     let out = Some(FutureOut::Unpolled(future));

@@ -24,9 +24,9 @@ loop-r-preserved g c =
       | in-Some w ↦
           let more = map_one_more (λ q. length q.entries) locals r w.in-Some.len (sym w.in-Some.is ∙ c.local_len.ensures) in
           ap (λ lens. before ++ lens) (w.lens-is ∙ w.push.ensures)
-              ∙ sym (append_assoc before c.loop-r.lens (w.in-Some.len ∷ []))
-              ∙ ap (λ xs. xs ++ w.in-Some.len ∷ []) c.loop-r.invariant
-              ∙ sym more
+          ∙ sym (append_assoc before c.loop-r.lens (w.in-Some.len ∷ []))
+          ∙ ap (λ xs. xs ++ w.in-Some.len ∷ []) c.loop-r.invariant
+          ∙ sym more
       | in_default w ↦
           let runners = min-le_left c.runners.result c.saturating_add.result in
           let within : r < length locals = omega (arith, c.loop-r-test.true, c.min-r-end.ensures, c.runners.ensures, runners) in
