@@ -40,8 +40,8 @@ is_there() {
             [ -e "crates/async_executor/src/$1.rt" ] || [ -e "crates/async_utilities/src/$1.rt" ] ;;
         [A-Z]*::[a-z]*) stands "fn ${1#*::}\b" ;;
         [A-Z]*) stands "(struct|enum|trait|type|const) $1\b" || stands "^ +$1(\(|,| \{|$)" ;;
-        *) stands "(fn|mod|ensures|pub) $1\b" || stands "codes \"$1\"" || grep -qw "$1" crates.txt ||
-            grep -q "^$1 " crates/bench/stdout ;;
+        *) [ -d "$1" ] || stands "(fn|mod|ensures|pub) $1\b" || stands "codes \"$1\"" || grep -qw "$1" crates.txt ||
+            grep -q "^$1 " bench/stdout ;;
     esac
 }
 
@@ -96,7 +96,7 @@ for page in README.md docs/PROVED.md docs/ARCHITECTURE.md docs/MEASURED.md "$cal
     fi
 done
 
-for crate in executor_core async_executor priority_executor async_utilities simulation; do
+for crate in executor_core async_executor priority_executor async_utilities simulation digests; do
     (cd crates/$crate/src && find . -name '*.rt') | sed 's/^\.\///; s/\.rt$//' |
         grep -vxE 'lib|main|tests(/.*)?' | sort > "$copy/wanted"
     quoted docs/ARCHITECTURE.md | grep -Fxf "$copy/wanted" | sort > "$copy/said"
@@ -181,7 +181,7 @@ cut -f2 "$copy/rows" > "$copy/said"
 same "EXSIM.md, the worked interleaving"
 
 sed -n 's/^bench | \([a-z0-9_]*\) .*/\1/p' docs/figures.txt | sort > "$copy/said"
-cut -d' ' -f1 crates/bench/stdout | grep -Fxf "$copy/said" | sort > "$copy/wanted"
+cut -d' ' -f1 bench/stdout | grep -Fxf "$copy/said" | sort > "$copy/wanted"
 same "figures.txt, the rows of bench"
 
 docs/figures.py --check > "$copy/figures"
