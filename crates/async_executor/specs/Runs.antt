@@ -2,6 +2,7 @@
 pub mod Counts
 pub mod Decisions
 pub mod Fairs
+pub mod Fixed
 pub mod Rows
 pub mod Steps
 pub mod Table

@@ -7,6 +7,8 @@ use Rattle.async_executor.specs.declared.machine.steps.Found.TheVariants.{Awake,
 use Rattle.async_executor.specs.declared.machine.steps.GoingToSleep.{GoingToSleep}
 use Rattle.async_executor.specs.declared.machine.steps.GoingToSleep.TheVariants.{Insert, Update}
 use Rattle.async_executor.specs.declared.machine.steps.Searching.{Searching}
+use Rattle.async_executor.specs.declared.ticker.tick.Slept.{Slept}
+use Rattle.async_executor.specs.declared.ticker.tick.Slept.TheVariants.{Again, Rested}
 
 module _ {A : Type 0} where
   -- one that is awake spends the task's notice, and another one keeps it and removes its number first
@@ -15,6 +17,21 @@ module _ {A : Type 0} where
       (searching.number ≡ 0) × (announcing ≡ record { actor = searching.actor; taken = taken }) × (given ≡ notice)
   IsFound searching taken notice (Asleep removing) =
       (0 < searching.number) × (removing ≡ record { actor = searching.actor; number = searching.number; taken = taken; notice = notice })
+
+  -- who goes the step, of one that found a task
+  abbrev pub actor_found : Found A → A
+  actor_found (Awake announcing given) = announcing.actor
+  actor_found (Asleep removing) = removing.actor
+
+  -- of one that goes to sleep
+  abbrev pub actor_going : GoingToSleep A → A
+  actor_going (Insert inserting) = inserting.actor
+  actor_going (Update updating) = updating.actor
+
+  -- and of one that went
+  abbrev pub actor_slept : Slept A → A
+  actor_slept (Again searching again) = searching.actor
+  actor_slept (Rested rested) = rested.actor
 
   -- one that is awake gets a number, and another one keeps its own
   abbrev pub IsGoingToSleep : Searching A → GoingToSleep A → Type 0

@@ -28,7 +28,7 @@ pub(crate) use announce;
 macro_rules! cells {
     ($state:expr) => {{
         let state = $state;
-        crate::lock::lock!(state.cells, state.rt())
+        crate::lock::lock!(state.parts.cells, state.rt())
     }};
 }
 
@@ -39,7 +39,7 @@ pub(crate) use cells;
 macro_rules! sleepers {
     ($state:expr) => {{
         let state = $state;
-        let guard = crate::lock::lock!(state.sleepers, state.rt());
+        let guard = crate::lock::lock!(state.parts.sleepers, state.rt());
         // Its contract has the law.
         guard.sleepers.is_notified();
         guard
@@ -53,15 +53,22 @@ pub(crate) use sleepers;
 ///
 /// No two of its locks are ever held together, and none while a waker is woken. What different
 /// threads write stands on cache lines of its own: the counts of the shares before the state, the
-/// cells with their lock, the sleepers with theirs, and the flag.
+/// flag, the cells with their lock, and the sleepers with theirs.
+///
+/// What is large stands in a box: the drop of an `Arc` clears room for all that it may be the last to
+/// hold, and each task drops a share of this as it ends.
 #[derive(Drop)]
 pub struct ExecutorState<W, R> {
-    before_cells: CacheLine,
+    before_flag: CacheLine,
+    flag: Flag,
+    pub(crate) parts: Box<Parts<W, R>>,
+}
+
+#[derive(Drop)]
+pub(crate) struct Parts<W, R> {
     pub(crate) cells: Mutex<Cells<(), (), W>>,
     before_sleepers: CacheLine,
     pub(crate) sleepers: Mutex<ClosedSleepers<W>>,
-    before_flag: CacheLine,
-    flag: Flag,
     rt: R,
     alloc: Global,
 }
@@ -75,12 +82,12 @@ pub(crate) const APART: CacheLine = [0; 8];
 impl<W, R> ExecutorState<W, R> {
     /// The right to wait.
     pub(crate) fn rt(&self) -> &R {
-        &self.rt
+        &self.parts.rt
     }
 
     /// The allocator.
     pub(crate) fn alloc(&self) -> Global {
-        self.alloc
+        self.parts.alloc
     }
 
     /// Spends the notice of a task that was queued or taken. Where somebody sleeps and nobody was
@@ -100,7 +107,7 @@ impl<W, R> ExecutorState<W, R> {
 
     /// How many sleep. `None` where the lock is taken, for which it does not wait.
     pub(crate) fn sleepers_in_use(&self) -> Option<usize> {
-        let guard = self.sleepers.try_lock()?;
+        let guard = self.parts.sleepers.try_lock()?;
         Some(guard.sleepers.numbers())
     }
 }
@@ -108,16 +115,21 @@ impl<W, R> ExecutorState<W, R> {
 impl<W: Wake, R: Wait + Clone + Drop> ExecutorState<W, R> {
     /// The state of an executor that has no tasks.
     pub(crate) fn new(rt: R, alloc: Global) -> Result<ExecutorState<W, R>, OutOfMemory> {
-        Ok(ExecutorState {
-            before_cells: APART,
+        let parts = Parts {
             cells: Mutex::new(Cells::new(alloc)?),
             before_sleepers: APART,
             sleepers: Mutex::new(ClosedSleepers::new(alloc)),
-            before_flag: APART,
-            flag: Flag::new(),
             rt,
             alloc,
-        })
+        };
+        match Box::new(alloc, parts) {
+            Ok(parts) => Ok(ExecutorState {
+                before_flag: APART,
+                flag: Flag::new(),
+                parts,
+            }),
+            Err(_) => Err(OutOfMemory),
+        }
     }
 
     /// Waits for the table of tasks, which is locked until the guard is dropped. It comes with its

@@ -2,6 +2,7 @@
 ghost use Rattle.std.specs.Prelude.{◌≡◌, false, IsTrue};
 ghost use Rattle.async_executor.specs.Answers.{is_ready};
 ghost use Rattle.async_executor.specs.Runs.{has_ended};
+ghost use Rattle.async_executor.specs.Runs.Fixed.{fixed};
 
 use crate::executor::TaskWaker;
 use crate::home::SharedHome;
@@ -120,6 +121,7 @@ where
     /// ```
     #[inline(always)]
     fn poll(&mut self, w: &W) -> Poll<G::Output>
+        ensures fixed { fixed self.new.inner.rest.runner ≡ fixed self.old.inner.rest.runner }
         ensures ended { has_ended self.old.inner.rest ≡ false → has_ended self.new.inner.rest ≡ is_ready result }
         ensures again { IsTrue (has_ended self.old.inner.rest) → (self.new.inner.rest ≡ self.old.inner.rest) × (is_ready result ≡ false) }
     {

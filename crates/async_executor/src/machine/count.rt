@@ -1,15 +1,14 @@
 //! How many tasks a run ran in its turn, or found since its last fair part.
-ghost use Rattle.std.specs.Prelude.{◌≡◌, ◌<◌, true, false, cond};
+ghost use Rattle.std.specs.Prelude.{◌≡◌, ◌<◌, not, cond};
 ghost use Rattle.async_executor.specs.Runs.Counts.{up_to, goes_on, more, anew, CountsEach};
 
 use std::marker::Model;
 
-/// A count up to a limit. The last one of so many begins it anew, so it is below that limit. Each of the
-/// two fills a register, so that neither is packed and unpacked as a run moves it from step to step.
+/// A count up to a limit. The last one of so many begins it anew, so it is below that limit.
 #[derive(Debug, Clone, Copy, PartialEq, Eq)]
 pub(crate) struct Count {
-    counted: u64,
-    limit: u64,
+    counted: u32,
+    limit: u32,
 }
 
 impl Model for Count {
@@ -34,23 +33,23 @@ impl Count {
         requires { 0 < limit }
         ensures { result ≡ up_to limit }
     {
-        Count {
-            counted: 0,
-            limit: u64::from(limit),
-        }
+        Count { counted: 0, limit }
     }
 
-    /// The same after one more, and whether that was the last of so many.
+    /// Counts one more where the count stands, so that it is not packed and unpacked, and says whether
+    /// that was the last of so many.
     #[inline(always)]
-    pub(in crate::machine) fn one_more(self) -> (Count, bool)
-        ensures counted { result ≡ cond (goes_on self) (more self, false) (anew self, true) }
-        ensures each { CountsEach self result.0 result.1 }
+    pub(in crate::machine) fn one_more(&mut self) -> bool
+        ensures counted { self.new ≡ cond (goes_on self.old) (more self.old) (anew self.old) }
+        ensures last { result ≡ not (goes_on self.old) }
+        ensures each { CountsEach self.old self.new result }
     {
-        let Count { counted, limit } = self;
-        let counted = counted + 1;
-        if counted < limit {
-            return (Count { counted, limit }, false);
+        let counted = self.counted + 1;
+        if counted < self.limit {
+            self.counted = counted;
+            return false;
         }
-        (Count { counted: 0, limit }, true)
+        self.counted = 0;
+        true
     }
 }

@@ -12,12 +12,13 @@
 //!
 //! The table of decisions is `specs/Runs/Table.antt`, keyed by the reply. `specs/Runs/Decisions.antt`
 //! has it keyed by what the machine waits for.
-ghost use Rattle.std.specs.Prelude.{◌≡◌, cond, Bool, true, false, Ok, Err, Some, None};
+ghost use Rattle.std.specs.Prelude.{◌≡◌, cond, Bool, true, false, Ok, Err, Some, None, MatchResult};
 ghost use Rattle.executor_core.specs.Limits.{is_lawful, default_limits};
 ghost use Rattle.async_executor.specs.Runs.{answers, asked, asked_in, has_ended, new_rest, store_asked, store_after, AskFirst, IsAsked, IsFitNext};
 ghost use Rattle.async_executor.specs.Runs.Counts.{goes_on, more, anew};
 ghost use Rattle.async_executor.specs.Runs.Decisions.{ask, run_rest, run_ended, searching, dropping, after_task, found, working, passing_on, leaving, resumed, Decides};
 ghost use Rattle.async_executor.specs.Runs.Fairs.{HasFound, FairGoesOn};
+ghost use Rattle.async_executor.specs.Runs.Fixed.{fixed, runner_begun};
 ghost use Rattle.async_executor.specs.Runs.Rows.{IsRow};
 ghost use Rattle.async_executor.specs.Runs.Steps.{leads, may_lead};
 ghost use Rattle.async_executor.specs.Runs.Tickers.{ticker_of, ticker_after, rest_ticker};
@@ -68,22 +69,25 @@ impl Runner {
     /// the next one.
     #[inline(always)]
     pub(in crate::machine) fn ran(self) -> Result<Runner, Runner>
-        ensures { result ≡ cond (goes_on self.count) (Ok (record self { count = more self.count })) (Err (record self { count = anew self.count })) }
+        ensures fixed { MatchResult result (λ runner. fixed runner ≡ fixed self) (λ runner. fixed runner ≡ fixed self) }
+        ensures ran { result ≡ cond (goes_on self.count) (Ok (record self { count = more self.count })) (Err (record self { count = anew self.count })) }
     {
-        let Runner { key, count, found } = self;
-        let (count, is_last) = count.one_more();
-        let runner = Runner { key, count, found };
-        if is_last { Err(runner) } else { Ok(runner) }
+        let mut runner = self;
+        if runner.count.one_more() {
+            return Err(runner);
+        }
+        Ok(runner)
     }
 
     /// The same after one task more was found, and whether it takes its fair part before that runs.
     #[inline(always)]
     pub(in crate::machine) fn found(self) -> (Runner, bool)
-        ensures { result ≡ cond (goes_on self.found) (record self { found = more self.found }, false) (record self { found = anew self.found }, true) }
+        ensures fixed { fixed result.0 ≡ fixed self }
+        ensures found { result ≡ cond (goes_on self.found) (record self { found = more self.found }, false) (record self { found = anew self.found }, true) }
     {
-        let Runner { key, count, found } = self;
-        let (found, is_fair) = found.one_more();
-        (Runner { key, count, found }, is_fair)
+        let mut runner = self;
+        let is_fair = runner.found.one_more();
+        (runner, is_fair)
     }
 }
 
@@ -143,6 +147,7 @@ impl RunRest {
     #[inline(always)]
     pub(crate) fn begin(self) -> Begun
         requires { has_ended self ≡ false }
+        ensures { runner_begun result ≡ self.runner }
     {
         let RunRest { runner, stage } = self;
         match stage {

@@ -10,9 +10,10 @@
 //! | `UnderWay` | runs the task | `Searching`, or `Yielding` once its turn is over |
 //! | `Unregistering` | ends the queue of its runner | `Departing`, with the notice of that |
 //! | `Releasing` | gives the place of a runner back that was never registered | it has ended |
-ghost use Rattle.std.specs.Prelude.{◌≡◌, ◌==◌, nat_lt, [], Bool, true, false, cond, Option, Some, None, IfOk, IfErr, OnOk};
+ghost use Rattle.std.specs.Prelude.{◌≡◌, ◌==◌, nat_lt, [], Bool, true, false, cond, Option, Some, None, IfOk, IfErr, OnOk, MatchResult};
 ghost use Rattle.executor_core.specs.Cells.Calls.{after_unregister, after_fair, after_release_runner};
 ghost use Rattle.async_executor.specs.Runs.{has_ended};
+ghost use Rattle.async_executor.specs.Runs.Fixed.{fixed, runner_polled, runner_started};
 
 use crate::machine::run::{RunRest, Runner};
 use crate::machine::steps::{Departing, Rested, Running, Searching, Yielding};
@@ -48,6 +49,7 @@ impl Registering {
         ring: Ring,
     ) -> Result<PollingOwn, (NotRegistered, Ring)>
         requires { ring.ids ≡ [] }
+        ensures runner { MatchResult result (λ polling. polling.runner ≡ self.runner) (λ refused. refused.0.runner ≡ self.runner) }
         ensures refused { IfErr result (λ refused. refused.1 ≡ ring) }
     {
         let Registering { runner } = self;
@@ -58,7 +60,9 @@ impl Registering {
     }
 
     /// There is no ring.
-    pub(crate) fn refused(self) -> NotRegistered {
+    pub(crate) fn refused(self) -> NotRegistered
+        ensures { result.runner ≡ self.runner }
+    {
         let Registering { runner } = self;
         NotRegistered { runner }
     }
@@ -72,7 +76,8 @@ pub(crate) struct NotRegistered {
 impl NotRegistered {
     /// Wakes the waker. The run tries again at its next poll. No lock may be held.
     pub(crate) fn wake<W: Wake>(self, w: &W) -> RunRest
-        ensures { has_ended result ≡ false }
+        ensures runner { result.runner ≡ self.runner }
+        ensures goes_on { has_ended result ≡ false }
     {
         let NotRegistered { runner } = self;
         w.wake();
@@ -97,7 +102,9 @@ pub(crate) enum OwnPolled<T> {
 impl PollingOwn {
     /// Polls it once. One that is ready is dropped. No lock may be held.
     #[inline(always)]
-    pub(crate) fn poll<W, G: Future<W>>(self, own: &mut Option<G>, w: &W) -> OwnPolled<G::Output> {
+    pub(crate) fn poll<W, G: Future<W>>(self, own: &mut Option<G>, w: &W) -> OwnPolled<G::Output>
+        ensures { runner_polled result ≡ self.runner }
+    {
         let PollingOwn { runner, number } = self;
         let polled = match own {
             Some(future) => future.poll(w),
@@ -127,7 +134,9 @@ pub(crate) enum Started {
 impl Running<Runner> {
     /// Counts the task.
     #[inline(always)]
-    pub(crate) fn start(self) -> Started {
+    pub(crate) fn start(self) -> Started
+        ensures { fixed (runner_started result) ≡ fixed self.actor }
+    {
         let Running { actor, taken } = self;
         let (runner, is_fair) = actor.found();
         if is_fair {
@@ -165,7 +174,9 @@ pub(crate) struct UnderWay {
 impl UnderWay {
     /// It was run. After the last one of a turn the run yields, so that others of its thread go on.
     #[inline(always)]
-    pub(crate) fn ran(self) -> Result<Searching<Runner>, Yielding<Runner>> {
+    pub(crate) fn ran(self) -> Result<Searching<Runner>, Yielding<Runner>>
+        ensures { MatchResult result (λ searching. fixed searching.actor ≡ fixed self.runner) (λ yielding. fixed yielding.actor ≡ fixed self.runner) }
+    {
         let UnderWay { runner } = self;
         match runner.ran() {
             Ok(actor) => Ok(Searching { actor, number: 0 }),
@@ -178,7 +189,8 @@ impl Rested<Runner> {
     /// What the run keeps until its next poll.
     #[inline(always)]
     pub(crate) fn keep(self) -> RunRest
-        ensures { has_ended result ≡ false }
+        ensures runner { result.runner ≡ self.actor }
+        ensures goes_on { has_ended result ≡ false }
     {
         let Rested { actor, number } = self;
         RunRest::of_joined(actor, number)
@@ -195,6 +207,7 @@ impl Unregistering {
     /// Ends it. There is a notice if tasks stood in it, which are queued globally now.
     pub(crate) fn make<W>(self, cells: &mut Cells<(), (), W>) -> (Option<Notice>, Departing<Runner>)
         ensures cells { cells.new ≡ after_unregister cells.old self.runner.key.number }
+        ensures runner { result.1.actor ≡ self.runner }
     {
         let Unregistering { runner, number } = self;
         let notice = cells.unregister(runner.key());
@@ -211,7 +224,8 @@ impl Unregistering {
 impl Departing<Runner> {
     /// The number was removed, and the notice of that was spent.
     pub(crate) fn departed(self) -> RunRest
-        ensures { has_ended result ≡ true }
+        ensures runner { result.runner ≡ self.actor }
+        ensures ended { has_ended result ≡ true }
     {
         let Departing { actor, number: _ } = self;
         RunRest::of_ended(actor)

@@ -15,7 +15,7 @@
 //! | `Rested` | answers pending | a poll begins anew |
 //! | `Departing` | removes its number, if it has one | it has ended |
 ghost use Rattle.std.specs.Prelude.{◌≡◌, ◌==◌, Option, Some, None, cond};
-ghost use Rattle.async_executor.specs.Steps.{IsFound, IsGoingToSleep};
+ghost use Rattle.async_executor.specs.Steps.{IsFound, IsGoingToSleep, actor_going};
 
 use executor_core::task::{Again, Notice, Taken, Wake};
 
@@ -143,7 +143,9 @@ pub(crate) enum GoingToSleep<A> {
 impl<A> GoingToSleep<A> {
     /// The copy was refused.
     #[inline(always)]
-    pub(crate) fn refused(self) -> Yielding<A> {
+    pub(crate) fn refused(self) -> Yielding<A>
+        ensures { result.actor ≡ actor_going self }
+    {
         match self {
             GoingToSleep::Insert(inserting) => inserting.refused(),
             GoingToSleep::Update(updating) => updating.refused(),

@@ -4,11 +4,13 @@
 //! poll of a task takes each lock once: the task that was polled is ended and the next one is taken
 //! in one change. Where the end leaves something to drop or to wake, that is done first, and the
 //! search is a change of its own.
-ghost use Rattle.std.specs.Prelude.{◌≡◌, [], true, false, Some, None, IsTrue, IfErr};
+ghost use Rattle.std.specs.Prelude.{◌≡◌, [], true, false, Some, None, IsTrue, IfErr, MatchResult};
 ghost use Rattle.executor_core.specs.Limits.{is_lawful};
 ghost use Rattle.async_executor.specs.RunError.{run_cause, run_future};
 ghost use Rattle.async_executor.specs.Answers.{is_ready};
 ghost use Rattle.async_executor.specs.Runs.{has_ended, ids_in, new_rest};
+ghost use Rattle.async_executor.specs.Runs.Fixed.{fixed};
+ghost use Rattle.async_executor.specs.Steps.{actor_going};
 ghost use Rattle.async_executor.specs.LeftOver.{IsHeldRight};
 
 use crate::changes;
@@ -135,7 +137,9 @@ impl<'x, 'y, H: Home, G: Drop> Driver<'x, 'y, H, G> {
     fn run_tasks(
         &mut self,
         running: Running<Runner>,
-    ) -> Result<GoingToSleep<Runner>, Yielding<Runner>> {
+    ) -> Result<GoingToSleep<Runner>, Yielding<Runner>>
+        ensures { MatchResult result (λ going. fixed (actor_going going) ≡ fixed running.actor) (λ yielding. fixed yielding.actor ≡ fixed running.actor) }
+    {
         let mut running = running;
         for _ in self.executor.state().rt().forever() {
             let (under_way, taken) = self.start(running);
@@ -162,7 +166,9 @@ impl<'x, 'y, H: Home, G: Drop> Driver<'x, 'y, H, G> {
 
     // Counts a task that was found, and takes the fair part that is due.
     #[inline(always)]
-    fn start(&self, running: Running<Runner>) -> (UnderWay, Taken<()>) {
+    fn start(&self, running: Running<Runner>) -> (UnderWay, Taken<()>)
+        ensures { fixed result.0.runner ≡ fixed running.actor }
+    {
         match running.start() {
             Started::Run(under_way, taken) => (under_way, taken),
             Started::Share(sharing) => {
@@ -208,7 +214,8 @@ fn work<H: Home, G: Drop>(
     searching: Searching<Runner>,
     w: &H::Waker,
 ) -> RunRest
-    ensures { has_ended result ≡ false }
+    ensures fixed { fixed result.runner ≡ fixed searching.actor }
+    ensures goes_on { has_ended result ≡ false }
 {
     let mut driver = Driver {
         executor,
@@ -247,7 +254,9 @@ fn register<H: Home, G: Drop>(
     executor: &ExecutorIn<H>,
     own: &mut Own<G>,
     registering: Registering,
-) -> Result<PollingOwn, NotRegistered> {
+) -> Result<PollingOwn, NotRegistered>
+    ensures { MatchResult result (λ polling. polling.runner ≡ registering.runner) (λ refused. refused.runner ≡ registering.runner) }
+{
     let Some(ring) = own.ring.take() else {
         return Err(registering.refused());
     };
@@ -264,7 +273,8 @@ fn register<H: Home, G: Drop>(
 // Ends the queue of a runner, passes on what stood in it and what the run was notified of, and gives
 // its places back. The own future was dropped before.
 fn end<H: Home>(executor: &ExecutorIn<H>, unregistering: Unregistering) -> RunRest
-    ensures { has_ended result ≡ true }
+    ensures runner { result.runner ≡ unregistering.runner }
+    ensures ended { has_ended result ≡ true }
 {
     let state = executor.state();
     let mut cells = state.cells();
@@ -287,7 +297,8 @@ fn poll_once<H: Home, G: Future<H::Waker>>(
     w: &H::Waker,
 ) -> (RunRest, Poll<G::Output>)
     requires { has_ended rest ≡ false }
-    ensures { has_ended result.0 ≡ is_ready result.1 }
+    ensures fixed { fixed result.0.runner ≡ fixed rest.runner }
+    ensures ended { has_ended result.0 ≡ is_ready result.1 }
 {
     let key = rest.key();
     let polling = match rest.begin() {
@@ -314,6 +325,7 @@ impl<H: Home, G: Future<H::Waker>> Future<H::Waker> for RunIn<'_, H, G> {
     /// where the copy is refused, the waker itself is woken. A run that was ready wakes it and is
     /// pending, and does nothing more.
     fn poll(&mut self, w: &H::Waker) -> Poll<G::Output>
+        ensures fixed { fixed self.new.rest.runner ≡ fixed self.old.rest.runner }
         ensures ended { has_ended self.old.rest ≡ false → has_ended self.new.rest ≡ is_ready result }
         ensures again { IsTrue (has_ended self.old.rest) → (self.new.rest ≡ self.old.rest) × (is_ready result ≡ false) }
     {

@@ -5,6 +5,7 @@
 //! dropped after that.
 ghost use Rattle.std.specs.Prelude.{◌≡◌, true, false, Some, None, IsTrue};
 ghost use Rattle.async_executor.specs.Answers.{is_ready};
+ghost use Rattle.async_executor.specs.Steps.{actor_found, actor_going, actor_slept};
 
 use crate::home::Home;
 use crate::machine::{
@@ -40,7 +41,9 @@ impl<'a, H: Home> TickIn<'a, H> {
 pub(crate) fn announce_found<A, W: Wake, R: Wait + Clone + Drop>(
     state: &ExecutorState<W, R>,
     found: Found<A>,
-) -> Running<A> {
+) -> Running<A>
+    ensures { result.actor ≡ actor_found found }
+{
     let (announcing, notice) = match found {
         Found::Awake(announcing, notice) => (announcing, notice),
         Found::Asleep(removing) => {
@@ -67,7 +70,9 @@ pub(crate) fn sleep<A, W: Wake, R: Wait + Clone + Drop>(
     state: &ExecutorState<W, R>,
     going: GoingToSleep<A>,
     w: &W,
-) -> Slept<A> {
+) -> Slept<A>
+    ensures { actor_slept result ≡ actor_going going }
+{
     let Ok(waker) = w.copy() else {
         return Slept::Rested(going.refused().wake(w));
     };

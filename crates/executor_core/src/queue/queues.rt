@@ -5,7 +5,7 @@
 //! brings when it registers; places for runners are reserved before.
 //!
 //! A runner finds its queue where it stood the last time: `positions` keeps that for each runner,
-//! and is only a hint. Where the queue stands there no more, since another runner left, it is looked
+//! and is only a hint. If the queue stands there no more, since another runner left, it is looked
 //! for.
 ghost use Rattle.std.specs.Prelude.{◌≡◌, ◌≢◌, ◌+◌, ◌-◌, ◌<◌, ◌≤◌, ◌^◌, ◌↔◌, ◌&&◌, ◌∷◌, ◌++◌, nat_lt, not, true, false, is_some, cond, [], Some, None, ◌==◌, map, drop, IfOk, IfErr, IsOk, IsErr, OnOk, OnErr, length, option_copied, option_map, unwrap_or, slice_get, slice_index_or, slice_set};
 ghost use Rattle.std.specs.List.{position, find, range_with_len};
@@ -44,7 +44,8 @@ pub(crate) struct Queues<P, T, W> {
     locals: Vec<LocalQueue>,
     next_runner: u64,
     free_places: usize,
-    // Where the queue of a runner stood the last time, by its number modulo the length.
+    // Where the queue of a runner stood the last time, by its number modulo the length, which is a power
+    // of two.
     positions: Vec<usize>,
 }
 
@@ -266,8 +267,9 @@ impl<P, T, W> Queues<P, T, W> {
         ensures { self.new ≡ self.old }
     {
         let runners = self.locals.len() + self.free_places + 1;
-        if runners.saturating_mul(2) > self.positions.len() {
-            self.positions.resize(runners.saturating_mul(4), 0)?;
+        let length = self.positions.len();
+        if runners.saturating_mul(2) > length {
+            self.positions.resize(length.saturating_mul(2).max(4), 0)?;
         }
         Ok(())
     }
@@ -354,10 +356,11 @@ impl<P, T, W> Queues<P, T, W> {
         ensures same { self.new ≡ self.old }
         ensures found { result ≡ position_of key.number self.old.state.lists.locals }
     {
-        if self.positions.is_empty() {
+        // The remainder by a power of two, without a division.
+        let place = key.number as usize & self.positions.len().wrapping_sub(1);
+        if place >= self.positions.len() {
             return self.look_for(key);
         }
-        let place = (key.number % self.positions.len() as u64) as usize;
         let hint = self.positions[place];
         if stands_at(&self.locals, hint, key.number) {
             return Some(hint);

@@ -54,6 +54,7 @@ pub enum Ran<P, T> {
 /// Polls the future of a taken task once, or, where the task is cancelled, drops it.
 ///
 /// The `Held` that comes back is the taken task's own: only from here does anyone get it.
+#[inline(always)]
 pub fn run_taken<P, T, Q: Poller<P, T>>(taken: Taken<P>, poller: &mut Q) -> Ran<P, T>
     requires polls { Q.polls poller.old + 1 < 2 ^ 64 }
     requires disposals { Q.disposals poller.old + 1 < 2 ^ 64 }

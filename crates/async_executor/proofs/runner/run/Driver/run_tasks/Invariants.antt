@@ -1,0 +1,8 @@
+use Rattle.std.proofs.Common.{◌≡◌}
+use Rattle.async_executor.specs.Runs.Fixed.{fixed}
+use Rattle.async_executor.proofs.runner.run.Driver.run_tasks.Given as goal
+
+abbrev pub invariant-loop : goal.invariant-loop
+invariant-loop g l =
+    (goal.iterator-loop g).can_next l.iterator' × (goal.iterator-loop g).is_finite l.iterator'
+    × (fixed l.running.actor ≡ fixed l.fn.running.actor)
