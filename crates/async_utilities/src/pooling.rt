@@ -1,16 +1,16 @@
 //! Threads that run the tasks of one executor until they are told to stop.
-ghost use Rattle.std.specs.Prelude.{◌≡◌, ◌+◌, ◌≤◌, ◌<◌, IfOk, OnOk, vec_len, vec_capacity};
+ghost use Rattle.std.specs.Prelude.{◌≡◌, ◌+◌, ◌-◌, ◌≤◌, ◌<◌, cond, is_ok, IfOk, OnOk, vec_len, vec_capacity};
 ghost use Rattle.async_utilities.specs.declared.pooling.PoolError.TheVariants.{OutOfMemory};
 
-use crate::blocking::{ThreadWaker, block_on};
+use crate::blocking::{ThreadWaker, poll_until_ready};
 use crate::signals::{Signal, Waiting};
-use async_executor::{Executor, Future, OutOfMemory, RunError, TaskWaker};
+use async_executor::{Executor, Future, OutOfMemory, RunError, TaskWaker, Wake};
 use std::alloc::{AllocError, Global};
-use std::sync::{Arc, Wait};
+use std::sync::{Arc, Mutex, Wait};
 use std::thread::{self, JoinHandle, Threads};
 use thiserror::Error;
 
-/// Why there is no pool, or why one of its threads stopped before it was told to.
+/// Why there is no pool, or why one of its threads ended before it was told to.
 ///
 /// Example: `uses::joins`, which lets it go.
 ///
@@ -126,23 +126,93 @@ impl Started {
     }
 }
 
-// Runs tasks until the signal is set.
+// What the threads of a new pool tell the one who makes it, who parks until all have told.
+#[derive(Drop)]
+struct Beginning {
+    told: Mutex<Told>,
+    waker: ThreadWaker,
+}
+
+// How many threads have not told yet whether they have all that they need, and the first refusal.
+#[derive(Drop)]
+struct Told {
+    pending: usize,
+    ended: Ended,
+}
+
+impl Told {
+    // One thread more has told.
+    fn add(&mut self, told: Ended)
+        ensures pending { self.new.pending ≡ self.old.pending - 1 }
+        ensures first { self.new.ended ≡ cond (is_ok self.old.ended) told self.old.ended }
+    {
+        self.pending = self.pending.saturating_sub(1);
+        if self.ended.is_ok() {
+            self.ended = told;
+        }
+    }
+}
+
+impl Beginning {
+    // That of so many threads.
+    fn new(alloc: Global, threads: usize) -> Result<Beginning, AllocError> {
+        let told = Told {
+            pending: threads,
+            ended: Ok(()),
+        };
+        Ok(Beginning {
+            told: Mutex::new(told),
+            waker: ThreadWaker::new(alloc)?,
+        })
+    }
+
+    // One thread more has all that it needs, or was refused it.
+    fn tell(&self, rt: &impl Wait, told: Ended) {
+        self.told.lock(rt).add(told);
+        self.waker.wake();
+    }
+
+    // Waits until all have told, and gives the first refusal.
+    fn wait(&self, rt: &impl Wait) -> Ended {
+        for _ in rt.forever() {
+            let told = self.told.lock(rt);
+            if told.pending == 0 {
+                return told.ended;
+            }
+            drop(told);
+            self.waker.park(rt);
+        }
+        unreachable!()
+    }
+}
+
+// Runs tasks until the signal is set. It tells once it has all that it needs. A refusal comes before.
 fn runs<F, R>(
     rt: &R,
     alloc: Global,
     executor: &Executor<F, ThreadWaker, R>,
     stopped: Waiting<ThreadWaker, R>,
+    beginning: &Beginning,
 ) -> Ended
 where
     F: Future<TaskWaker<ThreadWaker, R>> + Send,
     F::Output: Send,
     R: Wait + Clone + Drop + Send + Sync,
 {
-    match executor.run(stopped) {
-        Ok(run) => Ok(block_on(rt, alloc, run)?),
-        Err(RunError::OutOfMemory(_)) => Err(PoolError::OutOfMemory),
-        Err(RunError::Exhausted(_)) => Err(PoolError::Exhausted),
-    }
+    let mut run = match executor.run(stopped) {
+        Ok(run) => run,
+        Err(RunError::OutOfMemory(_)) => return Err(PoolError::OutOfMemory),
+        Err(RunError::Exhausted(_)) => return Err(PoolError::Exhausted),
+    };
+    let mut has_told = false;
+    poll_until_ready(rt, alloc, |w| {
+        if !has_told {
+            has_told = true;
+            beginning.tell(rt, Ok(()));
+        }
+        run.poll(w)
+    })?;
+    Ok(())
 }
 
 impl<F, R> Pool<F, R>
@@ -151,7 +221,8 @@ where
     F::Output: Send + 'static,
     R: Wait + Threads + Clone + Drop + Send + Sync + 'static,
 {
-    /// A new executor, and so many threads that run its tasks.
+    /// A new executor, and so many threads that run its tasks. It waits until each thread has the memory
+    /// that it needs, so none of them ends before it is told to.
     ///
     /// # Errors
     ///
@@ -175,21 +246,32 @@ where
             alloc,
             rt,
         };
+        let Ok(beginning) = Arc::new(alloc, Beginning::new(alloc, count)?) else {
+            return Err(PoolError::OutOfMemory);
+        };
         for _ in 0..count {
-            pool.start()?;
+            pool.start(&beginning)?;
         }
+        beginning.wait(&pool.rt)?;
         Ok(pool)
     }
 
-    // Starts one thread more.
-    fn start(&mut self) -> Result<(), PoolError>
+    // Starts one thread more, which tells how it begins.
+    fn start(&mut self, beginning: &Arc<Beginning>) -> Result<(), PoolError>
         ensures { OnOk result (vec_len self.new.started.threads ≡ vec_len self.old.started.threads + 1) }
     {
         self.started.reserve()?;
         let executor = Arc::try_clone(&self.executor)?;
         let stopped = self.stop.waiting()?;
+        let beginning = Arc::try_clone(beginning)?;
         let (rt, alloc) = (self.rt.clone()?, self.alloc);
-        let work = move || runs(&rt, alloc, &executor, stopped);
+        let work = move || {
+            let ended = runs(&rt, alloc, &executor, stopped, &beginning);
+            if ended.is_err() {
+                beginning.tell(&rt, ended);
+            }
+            ended
+        };
         match thread::spawn(&self.rt, work) {
             Ok(thread) => {
                 self.started.add(thread);
@@ -212,7 +294,7 @@ where
     }
 
     /// Tells the threads to stop, waits for them, and says what came of each, in the order in which
-    /// they were started.
+    /// they were started. Each began with all that it needs, so it is `Ok`.
     pub fn join(self) -> Vec<Ended>
         ensures { vec_len result ≡ vec_len self.started.threads }
     {

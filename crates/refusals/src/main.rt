@@ -49,7 +49,7 @@ fn main(rt: HostRuntime) -> io::Result<ExitCode> {
     }
     let wrong = outcome.wrong.saturating_add(refused.wrong);
     println!(rt;
-        "refused: Cells::spawn {}, Cells::reserve_runner {}, Ring::new {}, Sleepers::reserve {}, Core::reserve {}, World::new {}, World::new_with {}, World::run {}, World::step {}, Executor::new {}, Executor::new_with {}, Executor::spawn {}, Executor::spawn_many {}, Executor::tick {}, Executor::run {}, block_on {}, JoinAll::new {}, Signal::new {}, Signal::waiting {}, bounded {}, Sender::copy {}, Receiver::copy {}, Timer::new {}, Timer::after {}, Timer::timeout {}, Timer::block_on {}, Pool::new {}, threads {}, lists {}, steps {}, orders {}; wrong: {}",
+        "refused: Cells::spawn {}, Cells::reserve_runner {}, Ring::new {}, Sleepers::reserve {}, Core::reserve {}, World::new {}, World::new_with {}, World::run {}, World::step {}, Executor::new {}, Executor::new_with {}, Executor::spawn {}, Executor::spawn_many {}, Executor::tick {}, Executor::run {}, block_on {}, JoinAll::new {}, Signal::new {}, Signal::waiting {}, bounded {}, Sender::copy {}, Receiver::copy {}, Timer::new {}, Timer::after {}, Timer::timeout {}, Timer::block_on {}, Pool::new {}, lists {}, steps {}, orders {}; wrong: {}",
         outcome.cells_spawn,
         outcome.cells_reserve_runner,
         outcome.ring_new,
@@ -77,7 +77,6 @@ fn main(rt: HostRuntime) -> io::Result<ExitCode> {
         refused.timeout,
         refused.driver,
         refused.pool,
-        refused.thread,
         refused.list,
         outcome.steps,
         outcome.orders,

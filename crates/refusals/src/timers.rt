@@ -117,7 +117,7 @@ fn pool<R: Wait + Threads + Clone + Drop + Send + Sync + 'static>(
     Pool::new(rt.clone().ok()?, alloc, 1).ok()
 }
 
-/// Starts a pool and stops it. Its thread says what it was refused.
+/// Starts a pool and stops it. What its thread was refused was an answer of `new`.
 pub fn start_pool<R: Wait + Threads + Clone + Drop + Send + Sync + 'static>(
     rt: &R,
     alloc: Global,
@@ -127,12 +127,6 @@ pub fn start_pool<R: Wait + Threads + Clone + Drop + Send + Sync + 'static>(
         return refused.expect(false);
     };
     for ended in pool.join() {
-        match ended {
-            Ok(()) => {}
-            Err(error) => {
-                refused.expect(error == PoolError::OutOfMemory);
-                count(&mut refused.thread);
-            }
-        }
+        refused.expect(ended.is_ok());
     }
 }

@@ -21,7 +21,6 @@ pub struct Refused {
     pub timeout: u32,
     pub driver: u32,
     pub pool: u32,
-    pub thread: u32,
     pub list: u32,
     pub wrong: u32,
 }
@@ -42,7 +41,6 @@ impl Refused {
             timeout: 0,
             driver: 0,
             pool: 0,
-            thread: 0,
             list: 0,
             wrong: 0,
         }
