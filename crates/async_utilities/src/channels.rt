@@ -49,6 +49,12 @@ impl<T: Drop, S: Wake, V: Wake, R: Wait + Drop> Shared<T, S, V, R> {
 /// # Errors
 ///
 /// `OutOfMemory` if memory for it is refused.
+///
+/// Example: `uses::sends_to_a_task`, `uses::answers_in_order`.
+///
+/// ```text
+/// let (client, jobs) = bounded::<u32, ThreadWaker, ThreadWaker, R>(right, alloc, 4).ok()?;
+/// ```
 pub fn bounded<T: Drop, S: Wake, V: Wake, R: Wait + Drop>(
     rt: R,
     alloc: Global,
@@ -92,6 +98,12 @@ pub enum NoMessage {
 }
 
 /// Sends messages. A channel whose senders are all dropped is closed: what is inside still comes out.
+///
+/// Example: `uses::fans_out`.
+///
+/// ```text
+/// type Requests<R> = Sender<u32, TaskWaker<ThreadWaker, R>, ThreadWaker, R>;
+/// ```
 pub struct Sender<T: Drop, S: Wake, V: Wake, R: Wait + Drop> {
     shared: Arc<Shared<T, S, V, R>>,
     number: u64,
@@ -104,6 +116,12 @@ impl<T: Drop, S: Wake, V: Wake, R: Wait + Drop> Sender<T, S, V, R> {
     /// # Errors
     ///
     /// `OutOfMemory` if memory for its place among those that wait is refused.
+    ///
+    /// Example: `uses::fans_out`.
+    ///
+    /// ```text
+    /// requests: requests.copy().ok()?,
+    /// ```
     pub fn copy(&self) -> Result<Sender<T, S, V, R>, OutOfMemory> {
         let shared = Arc::try_clone(&self.shared)?;
         let number = shared.state().senders.join()?;
@@ -138,6 +156,14 @@ impl<T: Drop, S: Wake, V: Wake, R: Wait + Drop> Sender<T, S, V, R> {
     /// is room. If the copy is refused, the waker itself is woken, and nothing more is kept.
     ///
     /// Who stops polling before it is ready drops the sender, or polls a `Send` and drops that.
+    ///
+    /// Example: `uses::fans_out`.
+    ///
+    /// ```text
+    /// let Poll::Ready(_) = self.requests.poll_send(w, &mut self.left) else {
+    ///     return Poll::Pending;
+    /// };
+    /// ```
     pub fn poll_send(&mut self, w: &S, message: &mut Option<T>) -> Poll<Result<(), T>> {
         let Some(first) = message.take() else {
             return Poll::Ready(Ok(()));
@@ -195,6 +221,12 @@ impl<T: Drop, S: Wake, V: Wake, R: Wait + Drop> Sender<T, S, V, R> {
     }
 
     /// A future that sends this message, or gives it back if there is no receiver.
+    ///
+    /// Example: `uses::send_below`, which `uses::sends_to_a_task` calls.
+    ///
+    /// ```text
+    /// block_on(rt, alloc, sender.send(number)).ok()?.ok()?;
+    /// ```
     pub fn send(&mut self, message: T) -> Send<'_, T, S, V, R> {
         Send {
             sender: self,
@@ -250,6 +282,12 @@ impl<T: Drop, S: Wake, V: Wake, R: Wait + Drop> Drop for Send<'_, T, S, V, R> {
 
 /// Receives messages, in the order in which they were sent. A channel whose receivers are all dropped
 /// is closed: no message is taken any more.
+///
+/// Example: `uses::sends_to_a_task`.
+///
+/// ```text
+/// type Arrivals<R> = Receiver<u32, ThreadWaker, TaskWaker<ThreadWaker, R>, R>;
+/// ```
 pub struct Receiver<T: Drop, S: Wake, V: Wake, R: Wait + Drop> {
     shared: Arc<Shared<T, S, V, R>>,
     number: u64,
@@ -295,6 +333,14 @@ impl<T: Drop, S: Wake, V: Wake, R: Wait + Drop> Receiver<T, S, V, R> {
     /// itself is woken, and nothing more is kept.
     ///
     /// Who stops polling before it is ready drops the receiver, or polls a `Receive` and drops that.
+    ///
+    /// Example: `uses::sends_to_a_task`.
+    ///
+    /// ```text
+    /// match self.arrivals.poll_receive(w) {
+    ///     Poll::Ready(None) => return Poll::Ready(self.total),
+    ///     Poll::Pending => return Poll::Pending,
+    /// ```
     pub fn poll_receive(&mut self, w: &V) -> Poll<Option<T>> {
         match self.try_receive() {
             Ok(message) => return Poll::Ready(Some(message)),
@@ -342,6 +388,12 @@ impl<T: Drop, S: Wake, V: Wake, R: Wait + Drop> Receiver<T, S, V, R> {
     }
 
     /// A future of the next message, or of None if there is none and no sender.
+    ///
+    /// Example: `uses::take_jobs`, which `uses::answers_in_order` calls.
+    ///
+    /// ```text
+    /// let Some(job) = block_on(rt, alloc, jobs.receive()).ok()? else {
+    /// ```
     pub fn receive(&mut self) -> Receive<'_, T, S, V, R> {
         Receive { receiver: self }
     }

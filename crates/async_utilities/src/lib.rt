@@ -1,8 +1,8 @@
-//! What programs need beside an executor: a thread that waits for a future, small futures, joins, a
-//! signal, a channel, timers, and a pool of threads.
+//! What programs need beside an executor: a thread that waits for a future, a waker that does nothing,
+//! small futures, joins, a signal, a channel, timers, and a pool of threads.
 //!
 //! It stands on what `async_executor` makes public. Its futures are for wakers of any type, and its
-//! waker serves any future.
+//! wakers serve any future.
 #![tactic(auto)]
 
 pub mod blocking;
@@ -11,6 +11,7 @@ pub mod combining;
 pub(crate) mod due;
 pub mod immediate;
 pub mod joining;
+pub mod noop;
 pub mod pooling;
 pub mod signals;
 pub mod timers;
@@ -20,6 +21,7 @@ pub use channels::{NoMessage, Receive, Receiver, Send, Sender, Unsent, bounded};
 pub use combining::{Change, Either, Map, Or, Zip};
 pub use immediate::{Never, Ready, YieldNow};
 pub use joining::JoinAll;
+pub use noop::NoopWaker;
 pub use pooling::{Pool, PoolError};
 pub use signals::{Signal, Waiting};
 pub use timers::{After, Reading, TimedOut, Timeout, Timer, TimerError, TimerFailed};

@@ -1,5 +1,5 @@
 //! Callers of executors that live for as long as the program does.
-use crate::added;
+use crate::common::added;
 use crate::futures::{Nobody, Sum};
 use async_executor::{
     Executor, Future, LocalExecutor, Poll, StaticExecutor, StaticLocalExecutor, Task,

@@ -1,12 +1,41 @@
 //! Threads that run the tasks of one executor, and park while none is scheduled.
-use crate::futures::{Counted, Sum};
-use crate::{added, executor, two_outputs, two_tasks};
-use async_executor::{Executor, Future, Poll, Task, Wake};
+use crate::common::{added, executor, two_outputs, two_tasks};
+use crate::futures::Sum;
+use async_executor::{Executor, Future, Poll, Task, TaskWaker, Wake};
 use async_utilities::ThreadWaker;
-use std::alloc::Global;
+use std::alloc::{AllocError, Global};
 use std::sync::atomic::{AtomicU64, Ordering};
 use std::sync::{Arc, Wait};
 use std::thread::{self, Threads};
+
+/// A `Sum` that counts among the futures that are left until it is dropped.
+struct Counted {
+    sum: Sum,
+    left: Arc<AtomicU64>,
+}
+
+impl Counted {
+    fn new(sum: Sum, left: &Arc<AtomicU64>) -> Result<Counted, AllocError> {
+        let left = Arc::try_clone(left)?;
+        left.fetch_add(1, Ordering::SeqCst);
+        Ok(Counted { sum, left })
+    }
+}
+
+impl<W: Wake, R: Wait + Clone + Drop> Future<TaskWaker<W, R>> for Counted {
+    type Output = u64;
+
+    fn poll(&mut self, w: &TaskWaker<W, R>) -> Poll<u64> {
+        self.sum.poll(w)
+    }
+}
+
+impl Drop for Counted {
+    fn drop(self) {
+        let Counted { sum: _, left } = self;
+        left.fetch_sub(1, Ordering::SeqCst);
+    }
+}
 
 /// What the threads share: the executor, how many futures are left, and where the threads park.
 #[derive(Drop)]

@@ -1,6 +1,6 @@
 //! Threads that run the tasks of one executor, each by a run, until they are told to stop.
+use crate::common::{added, executor, two_tasks};
 use crate::futures::Sum;
-use crate::{added, executor, two_tasks};
 use async_executor::{Executor, Run};
 use async_utilities::{JoinAll, Pool, Signal, ThreadWaker, Waiting, Zip, block_on};
 use std::alloc::Global;

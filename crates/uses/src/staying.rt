@@ -44,8 +44,8 @@ fn spawned<R: Wait + Clone + Drop>(
     executor.spawn(Add { total, number }).ok()
 }
 
-// One that has no task yet.
-pub(crate) fn local_executor<R: Wait + Clone + Drop>(
+/// A local executor that has no task yet.
+pub fn local_executor<R: Wait + Clone + Drop>(
     rt: &R,
     alloc: Global,
 ) -> Option<LocalExecutor<Sum, Nobody, R>> {
