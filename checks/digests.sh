@@ -1,0 +1,220 @@
+#!/bin/sh
+# Compares the program digests with sha256sum, byte for byte: what both write on standard output and on
+# standard error, and their exit status.
+#
+# Both are run under the name sha256sum, since a message begins with the program's name. They get 2,000
+# small files, names of all kinds, files that cannot be read, standard input, and a sparse file of 1 GB,
+# on 1, 2 and 4 threads. Then digests gets what is its own: bad arguments, an output that takes no more,
+# and requests for memory that are refused; and it is measured how much memory it takes at most.
+#
+# The program is the one that the gate built, or is built by `rt run` if a source is newer; PROGRAM names
+# another one. The library of fail_nth.c refuses the Nth request for memory, for N = 1, 2, .. until none is
+# refused.
+# Usage: checks/digests.sh, anywhere. RT names the command rt. Its last line counts the comparisons.
+set -eu
+rt=${RT:-rt}
+top=$(cd "$(dirname "$0")/.." && pwd)
+work=$(mktemp -d)
+trap 'rm -rf "$work"' EXIT
+trap 'exit 1' INT TERM
+passed=0
+failed=0
+export LC_ALL=C.UTF-8
+
+pass() {
+    echo "$1"
+    passed=$((passed + 1))
+}
+
+fail() {
+    echo "$1"
+    failed=$((failed + 1))
+}
+
+program=${PROGRAM:-$top/crates/digests/out/digests}
+if [ -z "${PROGRAM:-}" ] && { [ ! -x "$program" ] ||
+    find "$top"/crates/*/src -name '*.rt' -newer "$program" | grep -q .; }; then
+    (cd "$top/crates/digests" && "$rt" run < /dev/null) > "$work/log" 2>&1 ||
+        { cat "$work/log"; echo "0 passed, 1 failed"; exit 1; }
+fi
+mkdir "$work/ours" "$work/theirs" "$work/files"
+ln -s "$program" "$work/ours/sha256sum"
+ln -s "$(command -v sha256sum)" "$work/theirs/sha256sum"
+cd "$work/files"
+
+# Runs one of the two, ours or theirs, on the standard input that the variable input names, and keeps what
+# it wrote.
+run() {
+    whose=$1
+    shift
+    (
+        if [ "$input" = closed ]; then exec <&-; else exec < "$input"; fi
+        exec env PATH="$work/$whose:$PATH" sha256sum "$@"
+    ) > "$work/$whose.out" 2> "$work/$whose.err" &&
+        echo 0 > "$work/$whose.status" || echo $? > "$work/$whose.status"
+}
+
+# Compares both on these files, on each number of threads.
+compare() {
+    what=$1
+    shift
+    run theirs -- "$@"
+    for threads in 1 2 4; do
+        run ours -j "$threads" -- "$@"
+        if cmp -s "$work/ours.out" "$work/theirs.out" && cmp -s "$work/ours.err" "$work/theirs.err" &&
+            cmp -s "$work/ours.status" "$work/theirs.status"; then
+            pass "$what, -j $threads: the same"
+        else
+            fail "$what, -j $threads: not the same"
+            diff "$work/ours.out" "$work/theirs.out" | head -n 5 || :
+            diff "$work/ours.err" "$work/theirs.err" | head -n 5 || :
+        fi
+    done
+}
+
+echo 'what stands on standard input' > "$work/text"
+input=$work/text
+
+mkdir small
+seq 2000 | (cd small && split -l 1 -a 4 - file)
+compare "2,000 small files" small/*
+
+: > empty
+echo one > one
+echo two > 'a b'
+echo three > 'back\slash'
+echo four > 'line
+feed'
+printf 'five' > "$(printf 'carriage\rreturn')"
+echo six > "it's"
+echo seven > 'é'
+mkdir folder
+compare "files whose names have escapes" empty one 'a b' 'back\slash' 'line
+feed' "$(printf 'carriage\rreturn')" "it's" 'é' empty one
+compare "files that cannot be read" one absent empty folder folder/absent one/absent /proc/self/mem two
+compare "an absent file of each kind of name" '' 'no such' 'back\absent' 'line
+absent' "$(printf 'tab\tabsent')" "$(printf 'bell\001\007 end\n\047\n')" "isn't" "isn't \"so\"" "isn't#" '#first' \
+    'not#first' '~first' 'not~first' '{' '}' '{}' 'a{' "'" "#'" "a'b
+c" 'a=b' 'a:b' "a:'b" 'a*' 'a?' 'a[' 'a]' 'a^' 'a|b' 'a&b' 'a;b' 'a<b' 'a>b' 'a(b' 'a)b' 'a$b' 'a`b' \
+    'a!b' 'a"b' 'a,b' 'a%b' 'a@b' 'a+b' 'a-b' 'é' "é'" -- -j --progress "$(printf '\177')" "$(printf '\302\205')" \
+    "$(printf 'a\342\200\250')" "$(printf 'a\342\200\251\342\200\213')" "$(printf '\360\237\230\200')" \
+    "$(seq -s / 2000)"
+if [ "$(id -u)" != 0 ]; then
+    echo hidden > hidden
+    chmod 000 hidden
+    compare "a file without a right to read it" one hidden one
+fi
+
+compare "standard input" -
+compare "no file"
+compare "standard input between files" one - empty
+compare "standard input twice" - one -
+input=$work/files/folder
+compare "a folder on standard input" - one
+input=closed
+compare "a closed standard input" one - empty
+compare "a closed standard input and no file"
+compare "a closed standard input that is not read" one empty
+input=$work/text
+
+truncate -s 1G large
+compare "a sparse file of 1 GB before small ones" large small/fileaaa?
+
+# Runs ours alone, and compares what came with this status, this standard error and this output.
+expect() {
+    what=$1 status=$2 err=$3 out=$4
+    if [ "$(cat "$work/ours.status")" = "$status" ] && [ "$(cat "$work/ours.err")" = "$err" ] &&
+        [ "$(cat "$work/ours.out")" = "$out" ]; then
+        pass "$what: status $status, '$err'"
+    else
+        fail "$what: status $(cat "$work/ours.status"), '$(cat "$work/ours.err")', not status $status, '$err'"
+    fi
+}
+
+# Bad arguments: the status, the message, and the arguments.
+refuse() {
+    message=$1
+    shift
+    run ours "$@"
+    expect "$*" 2 "sha256sum: $message" ''
+}
+refuse '-j 0: no number from 1 to 256' -j 0 one
+refuse '-j 257: no number from 1 to 256' one -j 257
+refuse '-j two: no number from 1 to 256' -jtwo one
+refuse "-j 'a b': no number from 1 to 256" -j 'a b' one
+refuse "-j '': no number from 1 to 256" -j '' one
+refuse '-j: a number from 1 to 256 is missing' one -j
+refuse 'unknown option --tag' --tag one
+refuse 'unknown option -z' one -z
+
+line=$(sha256sum one)
+run ours "$(printf 'a\303b\nc\377')" one
+expect 'a name that is not UTF-8' 1 "sha256sum: 'a'\$'\303''b'\$'\n''c'\$'\377': the name is not UTF-8" "$line"
+run ours one -j4
+expect 'an option behind a file' 0 '' "$line"
+run ours --progress one
+expect 'progress' 0 '1 of 1 files, 0 MiB' "$line"
+
+# A standard output that takes no more.
+env PATH="$work/ours:$PATH" sha256sum one 2> "$work/ours.err" >&- && echo 0 > "$work/ours.status" ||
+    echo $? > "$work/ours.status"
+: > "$work/ours.out"
+expect 'a closed standard output' 3 'sha256sum: write error: Bad file descriptor' ''
+env PATH="$work/ours:$PATH" sha256sum one 2> "$work/ours.err" > /dev/full &&
+    echo 0 > "$work/ours.status" || echo $? > "$work/ours.status"
+expect 'a full standard output' 3 'sha256sum: write error: No space left on device' ''
+mkfifo pipe
+: < pipe &
+{
+    exec 3> pipe
+    wait
+    env PATH="$work/ours:$PATH" sha256sum one 2> "$work/ours.err" >&3 &&
+        echo 0 > "$work/ours.status" || echo $? > "$work/ours.status"
+    exec 3>&-
+}
+expect 'a pipe that nobody reads' 3 'sha256sum: write error: Broken pipe' ''
+
+# Each request for memory is refused in turn. What was written before is right.
+"$(dirname "$("$rt" doc)")/toolchain/bin/clang" --target=x86_64-unknown-linux-gnu -shared -fPIC \
+    -O1 -nostdlib -fuse-ld=lld -o "$work/fail_nth.so" "$top/checks/fail_nth.c"
+sha256sum one empty 'a b' > "$work/whole"
+for n in $(seq 1 999); do
+    timeout 60 env PATH="$work/ours:$PATH" LD_PRELOAD="$work/fail_nth.so" FAIL_ALLOC="$n" \
+        sha256sum -j 2 one empty 'a b' 3> "$work/refused" > "$work/ours.out" 2> "$work/ours.err" &&
+        status=0 || status=$?
+    [ -s "$work/refused" ] || break
+    case "$status $(cat "$work/ours.err")" in
+        "0 ") said=$(wc -c < "$work/whole") ;;
+        "4 sha256sum: memory exhausted" | "5 sha256sum: no thread is to be had")
+            said=$(wc -c < "$work/ours.out")
+            ;;
+        *) said=none ;;
+    esac
+    if [ "$said" != none ] && head -c "$said" "$work/whole" | cmp -s - "$work/ours.out"; then
+        pass "request $n for memory: status $status, '$(cat "$work/ours.err")'"
+    else
+        fail "request $n for memory: status $status, '$(cat "$work/ours.err")'"
+    fi
+done
+
+# How much memory it has taken at most, in KiB, on four threads, once it has written the lines of these
+# files and waits for standard input.
+most_memory() {
+    timeout 100 python3 -B -c 'import re, subprocess, sys
+run = subprocess.Popen(sys.argv[1:] + ["-"], stdin=subprocess.PIPE, stdout=subprocess.PIPE)
+for _ in sys.argv[4:]:
+    run.stdout.readline()
+print(re.search(r"VmHWM:\s*(\d+)", open(f"/proc/{run.pid}/status").read())[1])
+run.communicate()' "$program" -j 4 "$@"
+}
+for files in one 'small/*' large 'large small/* large'; do
+    memory=$(most_memory $files)
+    if [ "$memory" -le 8192 ]; then
+        pass "$files: at most $memory KiB of memory"
+    else
+        fail "$files: $memory KiB of memory, more than 8192"
+    fi
+done
+
+echo "$passed passed, $failed failed"
+[ "$failed" = 0 ] && [ "$passed" != 0 ]

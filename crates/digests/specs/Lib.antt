@@ -1,0 +1,3 @@
+pub mod Digests
+pub mod Lines
+pub mod Statuses

@@ -1,0 +1,219 @@
+//! The command line, word by word.
+//!
+//! It is gone through twice, once for the options and once for the files, and a word is read when its
+//! turn comes. So no list of files is kept, however many there are.
+ghost use Rattle.std.specs.Prelude.{◌≡◌, ◌≤◌, IfSome, length};
+
+use crate::failure::Failure;
+use crate::quoting::push_quoted;
+use crate::source::is_input;
+use crate::system::System;
+use std::alloc::{AllocError, Global};
+use std::env::FillError;
+
+/// How many threads there may be at most.
+pub const MOST_THREADS: usize = 256;
+
+// For how many bytes a word has room at first.
+const WORD_LEN: usize = 256;
+
+/// What the options say.
+#[derive(Clone, Copy)]
+pub struct Options {
+    /// How many threads there are to be, if it is said.
+    pub threads: Option<usize>,
+    /// Whether to show progress wherever standard error goes.
+    pub progress: bool,
+    /// Whether to say what the options are, and nothing else.
+    pub help: bool,
+    /// How many files there are.
+    pub files: usize,
+    /// Whether one of them is standard input.
+    pub names_input: bool,
+}
+
+impl Options {
+    /// Reads the whole command line.
+    ///
+    /// # Errors
+    ///
+    /// `Failure`, for the first word that is no option and no file, or if memory is refused.
+    pub fn read<R: System>(rt: &R, alloc: Global) -> Result<Options, Failure> {
+        let mut options = Options {
+            threads: None,
+            progress: false,
+            help: false,
+            files: 0,
+            names_input: false,
+        };
+        let mut words = Words::new(rt, alloc);
+        for _ in 0..usize::MAX {
+            match words.next()? {
+                Some(Word::File(name)) => options.add_file(&name),
+                Some(Word::Threads(count)) => options.threads = Some(count),
+                Some(Word::Progress) => options.progress = true,
+                Some(Word::Help) => options.help = true,
+                None => break,
+            }
+        }
+        Ok(options)
+    }
+
+    /// Whether standard input is read.
+    pub fn reads_input(&self) -> bool {
+        self.files == 0 || self.names_input
+    }
+
+    // Counts a file.
+    fn add_file(&mut self, name: &[u8]) {
+        self.files = self.files.saturating_add(1);
+        self.names_input = self.names_input || is_input(name);
+    }
+}
+
+/// A word of the command line, or two that belong together.
+#[derive(Drop)]
+pub enum Word {
+    /// A file to digest; `-` is standard input.
+    File(Vec<u8>),
+    /// How many threads there are to be: 1 to 256.
+    Threads(usize),
+    /// Show progress.
+    Progress,
+    /// Say what the options are.
+    Help,
+}
+
+// What a word is.
+enum Kind {
+    File,
+    EndOfOptions,
+    Threads,
+    ThreadsAndNumber,
+    Progress,
+    Help,
+    Unknown,
+}
+
+fn kind_of(word: &[u8]) -> Kind
+    ensures { result ≡ Kind.ThreadsAndNumber → 2 ≤ length word.now }
+{
+    match word {
+        b"--" => Kind::EndOfOptions,
+        b"-j" => Kind::Threads,
+        b"--progress" => Kind::Progress,
+        b"--help" => Kind::Help,
+        [b'-', b'j', ..] => Kind::ThreadsAndNumber,
+        [b'-', _, ..] => Kind::Unknown,
+        _ => Kind::File,
+    }
+}
+
+/// The words of the command line that are left, first to last.
+#[derive(Drop)]
+pub struct Words<'a, R: System> {
+    rt: &'a R,
+    alloc: Global,
+    index: usize,
+    has_options: bool,
+}
+
+impl<'a, R: System> Words<'a, R> {
+    /// All words behind the program's name.
+    pub fn new(rt: &'a R, alloc: Global) -> Words<'a, R> {
+        Words {
+            rt,
+            alloc,
+            index: 1,
+            has_options: true,
+        }
+    }
+
+    /// The next word, unless there is none.
+    ///
+    /// # Errors
+    ///
+    /// `Failure`, if it is no option and no file, or memory is refused.
+    pub fn next(&mut self) -> Result<Option<Word>, Failure> {
+        let Some(word) = self.read()? else {
+            return Ok(None);
+        };
+        if !self.has_options {
+            return Ok(Some(Word::File(word)));
+        }
+        match kind_of(&word) {
+            Kind::File => Ok(Some(Word::File(word))),
+            Kind::EndOfOptions => {
+                self.has_options = false;
+                Ok(self.read()?.map(Word::File))
+            }
+            Kind::Threads => match self.read()? {
+                Some(number) => self.threads(&number),
+                None => Err(Failure::NoNumber),
+            },
+            Kind::ThreadsAndNumber => self.threads(&word[2..]),
+            Kind::Progress => Ok(Some(Word::Progress)),
+            Kind::Help => Ok(Some(Word::Help)),
+            Kind::Unknown => Err(Failure::UnknownOption(quoted(self.alloc, &word)?)),
+        }
+    }
+
+    // The word of this number of threads.
+    fn threads(&self, number: &[u8]) -> Result<Option<Word>, Failure> {
+        match number_of(number) {
+            Some(count) => Ok(Some(Word::Threads(count))),
+            None => Err(Failure::BadNumber(quoted(self.alloc, number)?)),
+        }
+    }
+
+    // The bytes of the next word.
+    fn read(&mut self) -> Result<Option<Vec<u8>>, AllocError> {
+        let word = read_argument(self.rt, self.alloc, self.index)?;
+        self.index = self.index.saturating_add(1);
+        Ok(word)
+    }
+}
+
+// A number of threads, if it is one.
+fn number_of(text: &[u8]) -> Option<usize>
+    ensures { IfSome result (λ count. (1 ≤ count) × (count ≤ MOST_THREADS)) }
+{
+    let count: usize = std::str::from_utf8(text).ok()?.parse().ok()?;
+    if 1 <= count && count <= MOST_THREADS {
+        Some(count)
+    } else {
+        None
+    }
+}
+
+fn quoted(alloc: Global, word: &[u8]) -> Result<String, AllocError> {
+    let mut text = String::new(alloc);
+    push_quoted(&mut text, word)?;
+    Ok(text)
+}
+
+/// The argument at this place, if there is one. That at 0 is the program's name.
+///
+/// # Errors
+///
+/// `AllocError` if memory is refused.
+pub fn read_argument<R: System>(
+    rt: &R,
+    alloc: Global,
+    index: usize,
+) -> Result<Option<Vec<u8>>, AllocError> {
+    let mut word = Vec::new(alloc);
+    let mut room = WORD_LEN;
+    for _ in 0..usize::BITS {
+        word.resize(room, 0u8)?;
+        match rt.arg(index, word.as_mut_slice()) {
+            Ok(len) => {
+                word.truncate(len);
+                return Ok(Some(word));
+            }
+            Err(FillError::NotPresent) => return Ok(None),
+            Err(FillError::TooLong) => room = room.saturating_mul(2),
+        }
+    }
+    Err(AllocError)
+}

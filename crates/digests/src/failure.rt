@@ -1,0 +1,125 @@
+//! Why the program stops before all files are digested, and its exit status then.
+ghost use Rattle.std.specs.Prelude.{◌≡◌, ◌<◌};
+ghost use Rattle.digests.specs.Statuses.{status_of};
+
+use crate::cause::Cause;
+use async_executor::{Cancelled, OutOfMemory, RunError, SpawnError};
+use async_utilities::{PoolError, TimerError, TimerFailed};
+use std::alloc::{AllocError, AllocFailed};
+use std::io;
+use thiserror::Error;
+
+/// Why the program stops.
+#[derive(Debug, Drop, Error)]
+pub enum Failure {
+    /// An option that there is not, in quotes where it needs them.
+    #[error("unknown option {0}")]
+    UnknownOption(String),
+    /// What stands in the place of a number of threads, in quotes where it needs them.
+    #[error("-j {0}: no number from 1 to 256")]
+    BadNumber(String),
+    /// `-j` is the last argument.
+    #[error("-j: a number from 1 to 256 is missing")]
+    NoNumber,
+    /// Standard output takes no more.
+    #[error("write error: {0}")]
+    Output(Cause),
+    /// A request for memory was refused.
+    #[error("memory exhausted")]
+    OutOfMemory,
+    /// The system starts no more threads.
+    #[error("no thread is to be had")]
+    NoThread,
+    /// The clock is not to be read.
+    #[error("clock: {0}")]
+    Clock(Cause),
+    /// A number of a task or of a run is not left.
+    #[error("no number is left")]
+    Exhausted,
+    /// A task gave no answer.
+    #[error("a task was cancelled")]
+    Cancelled,
+}
+
+impl Failure {
+    /// The exit status: none that a program has which went through all files.
+    pub fn status(&self) -> u8
+        ensures value { result ≡ status_of self.now }
+        ensures distinct { 1 < result }
+    {
+        match self {
+            Failure::UnknownOption(_) | Failure::BadNumber(_) | Failure::NoNumber => 2,
+            Failure::Output(_) => 3,
+            Failure::OutOfMemory => 4,
+            Failure::NoThread => 5,
+            Failure::Clock(_) | Failure::Exhausted | Failure::Cancelled => 6,
+        }
+    }
+}
+
+impl From<AllocError> for Failure {
+    fn from(_error: AllocError) -> Failure {
+        Failure::OutOfMemory
+    }
+}
+
+impl<T: Drop> From<AllocFailed<T>> for Failure {
+    fn from(_error: AllocFailed<T>) -> Failure {
+        Failure::OutOfMemory
+    }
+}
+
+impl From<OutOfMemory> for Failure {
+    fn from(_error: OutOfMemory) -> Failure {
+        Failure::OutOfMemory
+    }
+}
+
+impl From<PoolError> for Failure {
+    fn from(error: PoolError) -> Failure {
+        match error {
+            PoolError::OutOfMemory => Failure::OutOfMemory,
+            PoolError::Exhausted => Failure::Exhausted,
+            PoolError::NoThread => Failure::NoThread,
+        }
+    }
+}
+
+impl From<TimerError> for Failure {
+    fn from(error: TimerError) -> Failure {
+        match error {
+            TimerError::OutOfMemory => Failure::OutOfMemory,
+            TimerError::Clock(error) => Failure::Clock(Cause(error)),
+        }
+    }
+}
+
+impl<G: Drop> From<TimerFailed<G>> for Failure {
+    fn from(failed: TimerFailed<G>) -> Failure {
+        Failure::from(failed.error)
+    }
+}
+
+impl<G: Drop> From<RunError<G>> for Failure {
+    fn from(error: RunError<G>) -> Failure {
+        match error {
+            RunError::OutOfMemory(_) => Failure::OutOfMemory,
+            RunError::Exhausted(_) => Failure::Exhausted,
+        }
+    }
+}
+
+impl<G: Drop> From<SpawnError<G>> for Failure {
+    fn from(error: SpawnError<G>) -> Failure {
+        match error {
+            SpawnError::OutOfMemory(_) => Failure::OutOfMemory,
+            SpawnError::Exhausted(_) => Failure::Exhausted,
+        }
+    }
+}
+
+impl From<Cancelled> for Failure {
+    fn from(_error: Cancelled) -> Failure {
+        Failure::Cancelled
+    }
+}

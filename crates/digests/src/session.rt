@@ -1,0 +1,188 @@
+//! A run of the program: the files of the command line in, their lines out, in the same order.
+ghost use Rattle.std.specs.Prelude.{◌≡◌, ◌≤◌};
+ghost use Rattle.digests.specs.Statuses.{exit_status};
+
+use crate::arguments::{MOST_THREADS, Options, Word, Words, read_argument};
+use crate::failure::Failure;
+use crate::file_digest::{FileDigest, Shared};
+use crate::printer::{Printer, say};
+use crate::source::open_input;
+use crate::system::System;
+use crate::window::Window;
+use async_utilities::Pool;
+use std::alloc::Global;
+use std::io::Stdin;
+use std::sync::Arc;
+use std::{io, thread};
+
+// How many threads there are if neither the command line nor the system says how many.
+const DEFAULT_THREADS: usize = 4;
+
+/// What the program is run on.
+#[derive(Clone, Copy)]
+pub struct Standard {
+    /// Standard input.
+    pub input: Stdin,
+    /// Whether standard error is a terminal.
+    pub is_terminal: bool,
+}
+
+/// Digests the files of the command line, and gives the exit status.
+pub fn run<R: System + Send + Sync + 'static>(rt: &R, alloc: Global, standard: Standard) -> u8 {
+    let name = program_name(rt, alloc);
+    let program = match &name {
+        Some(name) => name.as_str(),
+        None => "digests",
+    };
+    let outcome = start(rt, alloc, program, standard);
+    if let Err(failure) = &outcome {
+        say(rt, program, failure);
+    }
+    exit_status(&outcome)
+}
+
+// The exit status, if each file was read, or not, or the program stopped before.
+fn exit_status(outcome: &Result<bool, Failure>) -> u8
+    ensures { result ≡ exit_status outcome.now }
+{
+    match outcome {
+        Ok(true) => 0,
+        Ok(false) => 1,
+        Err(failure) => failure.status(),
+    }
+}
+
+// The name that the program was called by, if it is text and there is memory for it.
+fn program_name<R: System + Send + Sync + 'static>(rt: &R, alloc: Global) -> Option<String> {
+    let name = read_argument(rt, alloc, 0).ok()??;
+    String::from_utf8(name).ok()
+}
+
+// Goes by the options. Whether each file was read.
+fn start<R: System + Send + Sync + 'static>(
+    rt: &R,
+    alloc: Global,
+    program: &str,
+    standard: Standard,
+) -> Result<bool, Failure> {
+    let options = Options::read(rt, alloc)?;
+    let mut printer = Printer::new(rt, alloc, program);
+    if options.help {
+        printer.help()?;
+        return Ok(true);
+    }
+    if options.progress || standard.is_terminal {
+        printer.show_progress(options.files.max(1), standard.is_terminal)?;
+    }
+    let files = Given {
+        input: input_for(&options, standard.input),
+        has_files: options.files > 0,
+    };
+    let threads = options.threads.unwrap_or_else(|| default_threads(rt));
+    let shared = Arc::new(alloc, Shared::new(rt.clone()?, alloc, threads)?)?;
+    let result = digest_all(alloc, &shared, threads, files, &mut printer);
+    printer.end(&shared);
+    result?;
+    printer.close(files.input);
+    Ok(printer.all_read)
+}
+
+// Standard input, if it is read: else it is left alone, since a terminal stops who reads it in the
+// background.
+fn input_for(options: &Options, input: Stdin) -> io::Result<Stdin> {
+    if options.reads_input() {
+        open_input(input)
+    } else {
+        Ok(input)
+    }
+}
+
+fn default_threads<R: System + Send + Sync + 'static>(rt: &R) -> usize
+    ensures some { 1 ≤ result }
+    ensures most { result ≤ MOST_THREADS }
+{
+    match thread::available_parallelism(rt) {
+        Ok(count) => count.get().min(MOST_THREADS),
+        Err(_) => DEFAULT_THREADS,
+    }
+}
+
+// Standard input, and whether the command line names files.
+#[derive(Clone, Copy)]
+struct Given {
+    input: io::Result<Stdin>,
+    has_files: bool,
+}
+
+// Starts the threads, has all files digested, and waits for the threads. That of main is one of them,
+// since it runs tasks while it awaits one: so all is done even if no other thread gets its memory.
+fn digest_all<R: System + Send + Sync + 'static>(
+    alloc: Global,
+    shared: &Arc<Shared<R>>,
+    threads: usize,
+    files: Given,
+    printer: &mut Printer<'_, R>,
+) -> Result<(), Failure> {
+    let others = threads.saturating_sub(1);
+    let pool: Pool<FileDigest<R>, R> = Pool::new(shared.rt.clone()?, alloc, others)?;
+    let mut window = Window::new(alloc, files.input, pool.executor(), Arc::try_clone(shared)?)?;
+    if files.has_files {
+        digest_files(alloc, &mut window, printer)?;
+    } else {
+        window.spawn(Vec::from_slice(alloc, b"-")?)?;
+    }
+    for _ in shared.rt.forever() {
+        if !print_first(&mut window, printer)? {
+            break;
+        }
+    }
+    drop(window);
+    for ended in pool.join() {
+        ended?;
+    }
+    Ok(())
+}
+
+// Spawns a task for each file, and prints what came of the first ones where there is no room.
+fn digest_files<R: System + Send + Sync + 'static>(
+    alloc: Global,
+    window: &mut Window<'_, R>,
+    printer: &mut Printer<'_, R>,
+) -> Result<(), Failure> {
+    let mut words = Words::new(printer.rt, alloc);
+    for _ in 0..usize::MAX {
+        match words.next()? {
+            Some(Word::File(name)) => add(window, printer, name)?,
+            Some(Word::Threads(_) | Word::Progress | Word::Help) => {}
+            None => break,
+        }
+    }
+    Ok(())
+}
+
+fn add<R: System + Send + Sync + 'static>(
+    window: &mut Window<'_, R>,
+    printer: &mut Printer<'_, R>,
+    name: Vec<u8>,
+) -> Result<(), Failure> {
+    for _ in printer.rt.forever() {
+        if window.has_room(&name) || !print_first(window, printer)? {
+            break;
+        }
+    }
+    window.spawn(name)
+}
+
+// Prints what came of the first file that is under way. Whether there is one.
+fn print_first<R: System + Send + Sync + 'static>(
+    window: &mut Window<'_, R>,
+    printer: &mut Printer<'_, R>,
+) -> Result<bool, Failure> {
+    match window.next(&mut printer.progress)? {
+        Some(answer) => {
+            printer.write(&answer)?;
+            Ok(true)
+        }
+        None => Ok(false),
+    }
+}

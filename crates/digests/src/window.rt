@@ -1,0 +1,94 @@
+//! The tasks that are under way, in the order of the files.
+use crate::failure::Failure;
+use crate::file_digest::{Answer, FileDigest, Shared};
+use crate::progress::Progress;
+use crate::source::{Source, is_input};
+use crate::system::System;
+use async_executor::{Executor, Task};
+use async_utilities::{ThreadWaker, block_on};
+use std::alloc::Global;
+use std::collections::VecDeque;
+use std::io;
+use std::io::Stdin;
+use std::sync::Arc;
+
+/// How many tasks are under way at most.
+pub const WINDOW: usize = 64;
+
+/// The executor of the tasks of files.
+pub type Files<R> = Executor<FileDigest<R>, ThreadWaker, R>;
+
+/// A task of a file.
+pub type FileTask<R> = Task<FileDigest<R>, ThreadWaker, R>;
+
+/// The tasks that are under way, the first one first. There is room for 64.
+#[derive(Drop)]
+pub struct Window<'a, R: System + Send + Sync + 'static> {
+    executor: &'a Files<R>,
+    shared: Arc<Shared<R>>,
+    tasks: VecDeque<FileTask<R>>,
+    alloc: Global,
+    input: io::Result<Stdin>,
+}
+
+impl<'a, R: System + Send + Sync + 'static> Window<'a, R> {
+    /// No task yet.
+    ///
+    /// # Errors
+    ///
+    /// `Failure` if memory is refused.
+    pub fn new(
+        alloc: Global,
+        input: io::Result<Stdin>,
+        executor: &'a Files<R>,
+        shared: Arc<Shared<R>>,
+    ) -> Result<Window<'a, R>, Failure> {
+        Ok(Window {
+            executor,
+            shared,
+            tasks: VecDeque::with_capacity(alloc, WINDOW)?,
+            alloc,
+            input,
+        })
+    }
+
+    /// Whether there is room for the task of this file. That of standard input comes alone: a thread that
+    /// reads it may wait for long, and all lines before it are to be written then.
+    pub fn has_room(&self, name: &[u8]) -> bool {
+        if is_input(name) {
+            self.tasks.is_empty()
+        } else {
+            self.tasks.len() < WINDOW
+        }
+    }
+
+    /// Opens this file, and spawns its task behind all others.
+    ///
+    /// # Errors
+    ///
+    /// `Failure` if memory is refused.
+    pub fn spawn(&mut self, name: Vec<u8>) -> Result<(), Failure> {
+        let source = Source::open(&self.shared.rt, self.input, &name);
+        let digest = FileDigest::new(name, source, Arc::try_clone(&self.shared)?);
+        let task = self.executor.spawn(digest)?;
+        self.tasks.push_back(task)?;
+        Ok(())
+    }
+
+    /// Awaits the first task, and runs tasks meanwhile.
+    ///
+    /// # Errors
+    ///
+    /// `Failure` if memory is refused.
+    pub fn next(&mut self, progress: &mut Option<Progress<R>>) -> Result<Option<Answer>, Failure> {
+        let Some(task) = self.tasks.pop_front() else {
+            return Ok(None);
+        };
+        let rt = &self.shared.rt;
+        let answer = match progress {
+            Some(progress) => progress.wait(self.executor, task, &self.shared)?,
+            None => block_on(rt, self.alloc, self.executor.run(task)?)?,
+        };
+        Ok(Some(answer?))
+    }
+}
