@@ -7,7 +7,7 @@ ghost use Rattle.std.specs.Prelude.{◌≡◌, IfErr};
 ghost use Rattle.executor_core.specs.SpawnError.{refused_future};
 ghost use Rattle.async_executor.specs.LeftOver.{IsHeldRight, IsLeftRight, IsEndRight};
 
-use crate::home::{Home, OutIn, OutputIn, store};
+use crate::home::{Home, OutIn, OutputIn, Shareable, store};
 use crate::left_over::{EndThenSearch, LeftOver, finished};
 use crate::state::{ExecutorState, cells};
 use crate::store::Store;
@@ -20,7 +20,7 @@ use std::sync::Arc;
 
 /// Makes a task of this future and keeps the future. Its place is made before the task is queued.
 /// Where that is refused, all is as before.
-pub(crate) fn spawn<H: Home>(
+pub(crate) fn spawn<H: Shareable>(
     home: &H,
     future: H::Future,
 ) -> Result<(TaskId, Notice), SpawnError<H::Future>>

@@ -23,23 +23,27 @@ pub trait Home: Drop {
 
     type Runtime: Wait + Clone + Drop;
 
-    /// The first share, of an executor that has no tasks.
-    fn new(rt: Self::Runtime, alloc: Global) -> Result<Self, OutOfMemory>;
-
-    /// Another share.
-    fn share(&self) -> Result<Self, OutOfMemory>;
-
     /// What the executor shares with the wakers of its tasks.
     fn state(&self) -> &ExecutorState<Self::Waker, Self::Runtime>;
-
-    /// A share of the state alone.
-    fn share_state(&self) -> Result<StateIn<Self>, OutOfMemory>;
 
     /// The store, if nobody has it.
     fn try_store(&self) -> Option<StoreGuard<'_, StoreIn<Self>>>;
 
     /// Waits for a store that somebody has.
     fn wait_for_store(&self) -> StoreGuard<'_, StoreIn<Self>>;
+}
+
+/// A home of which further shares are made. A call that is generic in a home is proved, where it is
+/// called, against all that its traits have, and few calls need a share: so these stand apart.
+pub trait Shareable: Home {
+    /// The first share, of an executor that has no tasks.
+    fn new(rt: Self::Runtime, alloc: Global) -> Result<Self, OutOfMemory>;
+
+    /// Another share.
+    fn share(&self) -> Result<Self, OutOfMemory>;
+
+    /// A share of the state alone.
+    fn share_state(&self) -> Result<StateIn<Self>, OutOfMemory>;
 }
 
 /// Waits for the store of a home, which nobody else has until the guard is dropped. It is no function

@@ -17,7 +17,7 @@ mod closing;
 mod many;
 
 use crate::changes;
-use crate::home::{Home, OutIn, OutputIn};
+use crate::home::{Home, OutIn, OutputIn, Shareable};
 use crate::left_over::LeftOver;
 use crate::poller::TaskPoller;
 use crate::runner::{RunError, RunIn};
@@ -58,7 +58,7 @@ pub struct ExecutorIn<H: Home> {
     ghost lawful: { is_lawful limits ≡ true },
 }
 
-impl<H: Home> ExecutorIn<H> {
+impl<H: Shareable> ExecutorIn<H> {
     /// An executor without tasks, with the limits of one to which none are handed in.
     pub(crate) fn new(rt: H::Runtime, alloc: Global) -> Result<ExecutorIn<H>, OutOfMemory>
         ensures { IfOk result (λ executor. executor.limits ≡ default_limits) }
@@ -89,6 +89,21 @@ impl<H: Home> ExecutorIn<H> {
         }
     }
 
+    /// Schedules the future as a new task, behind all that are scheduled.
+    pub(crate) fn spawn(&self, future: H::Future) -> Result<TaskIn<H>, SpawnError<H::Future>>
+        ensures ok { IfOk result (λ task. task.answered ≡ false) }
+        ensures refused { IfErr result (λ e. refused_future e ≡ future) }
+    {
+        let Ok(home) = self.home.share() else {
+            return Err(SpawnError::OutOfMemory(future));
+        };
+        let (id, notice) = changes::spawn(&self.home, future)?;
+        announce!(self.home.state(), notice);
+        Ok(TaskIn::new(home, id))
+    }
+}
+
+impl<H: Home> ExecutorIn<H> {
     /// Whether the future of every task was dropped.
     pub(crate) fn is_empty(&self) -> bool {
         self.home.state().cells().is_empty()
@@ -101,19 +116,6 @@ impl<H: Home> ExecutorIn<H> {
         if let Some(notice) = woken {
             announce!(state, notice);
         }
-    }
-
-    /// Schedules the future as a new task, behind all that are scheduled.
-    pub(crate) fn spawn(&self, future: H::Future) -> Result<TaskIn<H>, SpawnError<H::Future>>
-        ensures ok { IfOk result (λ task. task.answered ≡ false) }
-        ensures refused { IfErr result (λ e. refused_future e ≡ future) }
-    {
-        let Ok(home) = self.home.share() else {
-            return Err(SpawnError::OutOfMemory(future));
-        };
-        let (id, notice) = changes::spawn(&self.home, future)?;
-        announce!(self.home.state(), notice);
-        Ok(TaskIn::new(home, id))
     }
 
     /// Runs the task that was scheduled first, and says whether there was one.

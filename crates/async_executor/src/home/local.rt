@@ -1,5 +1,5 @@
 //! The home of executors that stay on the thread that made them.
-use crate::home::{Home, Lent, StoreGuard};
+use crate::home::{Home, Lent, Shareable, StoreGuard};
 use crate::state::ExecutorState;
 use crate::store::Store;
 use crate::waker::TaskWaker;
@@ -29,6 +29,24 @@ impl<F: Future<TaskWaker<W, R>>, W: Wake, R: Wait + Clone + Drop> Home for Local
 
     type Runtime = R;
 
+    fn state(&self) -> &ExecutorState<W, R> {
+        &self.local.state
+    }
+
+    #[inline(always)]
+    fn try_store(&self) -> Option<StoreGuard<'_, Store<F, Arc<ExecutorState<W, R>>, F::Output>>> {
+        Some(self.wait_for_store())
+    }
+
+    // Nobody else has it.
+    #[inline(always)]
+    fn wait_for_store(&self) -> StoreGuard<'_, Store<F, Arc<ExecutorState<W, R>>, F::Output>> {
+        let meanwhile = Store::new(self.local.state.alloc());
+        StoreGuard::Lent(Lent::of(&self.local.store, meanwhile))
+    }
+}
+
+impl<F: Future<TaskWaker<W, R>>, W: Wake, R: Wait + Clone + Drop> Shareable for LocalHome<F, W, R> {
     fn new(rt: R, alloc: Global) -> Result<Self, OutOfMemory> {
         let Ok(state) = Arc::new(alloc, ExecutorState::new(rt, alloc)?) else {
             return Err(OutOfMemory);
@@ -45,23 +63,7 @@ impl<F: Future<TaskWaker<W, R>>, W: Wake, R: Wait + Clone + Drop> Home for Local
         Ok(LocalHome { local })
     }
 
-    fn state(&self) -> &ExecutorState<W, R> {
-        &self.local.state
-    }
-
     fn share_state(&self) -> Result<Arc<ExecutorState<W, R>>, OutOfMemory> {
         Ok(Arc::try_clone(&self.local.state)?)
-    }
-
-    #[inline(always)]
-    fn try_store(&self) -> Option<StoreGuard<'_, Store<F, Arc<ExecutorState<W, R>>, F::Output>>> {
-        Some(self.wait_for_store())
-    }
-
-    // Nobody else has it.
-    #[inline(always)]
-    fn wait_for_store(&self) -> StoreGuard<'_, Store<F, Arc<ExecutorState<W, R>>, F::Output>> {
-        let meanwhile = Store::new(self.local.state.alloc());
-        StoreGuard::Lent(Lent::of(&self.local.store, meanwhile))
     }
 }

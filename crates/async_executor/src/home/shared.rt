@@ -1,5 +1,5 @@
 //! The home of executors whose parts may go to other threads.
-use crate::home::{Home, StoreGuard};
+use crate::home::{Home, Shareable, StoreGuard};
 use crate::lock::wait_for;
 use crate::state::{APART, CacheLine, ExecutorState};
 use crate::store::Store;
@@ -29,6 +29,25 @@ impl<F: Future<TaskWaker<W, R>>, W: Wake, R: Wait + Clone + Drop> Home for Share
 
     type Runtime = R;
 
+    fn state(&self) -> &ExecutorState<W, R> {
+        &self.shared.state
+    }
+
+    #[inline(always)]
+    fn try_store(&self) -> Option<StoreGuard<'_, Store<F, Arc<ExecutorState<W, R>>, F::Output>>> {
+        let store = self.shared.store.try_lock()?;
+        Some(StoreGuard::Locked(store))
+    }
+
+    // Inline, so that who has the guard knows of which kind it is.
+    #[inline(always)]
+    fn wait_for_store(&self) -> StoreGuard<'_, Store<F, Arc<ExecutorState<W, R>>, F::Output>> {
+        StoreGuard::Locked(wait_for(&self.shared.store, self.shared.state.rt()))
+    }
+}
+
+impl<F: Future<TaskWaker<W, R>>, W: Wake, R: Wait + Clone + Drop> Shareable
+    for SharedHome<F, W, R> {
     fn new(rt: R, alloc: Global) -> Result<Self, OutOfMemory> {
         let Ok(state) = Arc::new(alloc, ExecutorState::new(rt, alloc)?) else {
             return Err(OutOfMemory);
@@ -50,23 +69,7 @@ impl<F: Future<TaskWaker<W, R>>, W: Wake, R: Wait + Clone + Drop> Home for Share
         Ok(SharedHome { shared })
     }
 
-    fn state(&self) -> &ExecutorState<W, R> {
-        &self.shared.state
-    }
-
     fn share_state(&self) -> Result<Arc<ExecutorState<W, R>>, OutOfMemory> {
         Ok(Arc::try_clone(&self.shared.state)?)
-    }
-
-    #[inline(always)]
-    fn try_store(&self) -> Option<StoreGuard<'_, Store<F, Arc<ExecutorState<W, R>>, F::Output>>> {
-        let store = self.shared.store.try_lock()?;
-        Some(StoreGuard::Locked(store))
-    }
-
-    // Inline, so that who has the guard knows of which kind it is.
-    #[inline(always)]
-    fn wait_for_store(&self) -> StoreGuard<'_, Store<F, Arc<ExecutorState<W, R>>, F::Output>> {
-        StoreGuard::Locked(wait_for(&self.shared.store, self.shared.state.rt()))
     }
 }

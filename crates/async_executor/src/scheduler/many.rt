@@ -4,7 +4,7 @@ ghost use Rattle.std.specs.Iterator.{IsFinite};
 ghost use Rattle.executor_core.specs.SpawnError.{refused_future};
 ghost use Rattle.async_executor.specs.SpawnMany.{spawn_cause, spawned, SpawnsInTurn, AddsHandles};
 
-use crate::home::Home;
+use crate::home::{Home, Shareable};
 use crate::scheduler::ExecutorIn;
 use crate::task::TaskIn;
 use executor_core::queue::RunnerError;
@@ -66,7 +66,7 @@ pub trait Handle<H: Home>: Drop {
         ensures { answered result ≡ task.answered };
 }
 
-impl<H: Home> ExecutorIn<H> {
+impl<H: Shareable> ExecutorIn<H> {
     /// Schedules each future that the iterator gives as a new task, and puts its handle at the end
     /// of the Vec. No lock is held while the iterator is asked.
     pub(crate) fn spawn_many<T: Handle<H>, I: Iterator<Item = H::Future>>(
