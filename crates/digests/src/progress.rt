@@ -3,11 +3,12 @@ use crate::failure::Failure;
 use crate::file_digest::{Answer, Shared};
 use crate::system::System;
 use crate::window::{FileTask, Files};
-use async_executor::{Cancelled, Future, Poll};
+use async_executor::{Cancelled, Executor, Future, Poll, TaskWaker};
 use async_utilities::{After, ThreadWaker, Timer};
 use std::alloc::Global;
+use std::sync::Wait;
 use std::sync::atomic::Ordering;
-use std::time::Duration;
+use std::time::{Clock, Duration};
 
 // How long a line stays as it is, in milliseconds.
 const INTERVAL: u64 = 200;
@@ -65,7 +66,7 @@ impl<R: System + Send + Sync + 'static> Progress<R> {
                 task: &mut task,
                 due: &mut self.due,
             };
-            if let Some(answer) = self.timer.block_on(executor.run(either)?)? {
+            if let Some(answer) = await_in_time(&self.timer, executor, either)? {
                 self.done = self.done.saturating_add(1);
                 return Ok(answer);
             }
@@ -100,6 +101,20 @@ impl<R: System + Send + Sync + 'static> Progress<R> {
             eprintln!(&shared.rt; "{done} of {files} files, {mib} MiB")
         };
     }
+}
+
+// Awaits a future, runs tasks meanwhile, and has times come.
+fn await_in_time<F, G, R>(
+    timer: &Timer<ThreadWaker, R, R>,
+    executor: &Executor<F, ThreadWaker, R>,
+    future: G,
+) -> Result<G::Output, Failure>
+where
+    F: Future<TaskWaker<ThreadWaker, R>>,
+    G: Future<ThreadWaker>,
+    R: Wait + Clock + Clone + Drop,
+{
+    Ok(timer.block_on(executor.run(future)?)?)
 }
 
 // The answer of a task, unless a time comes before it.

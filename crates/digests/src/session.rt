@@ -4,11 +4,11 @@ ghost use Rattle.digests.specs.Statuses.{exit_status};
 
 use crate::arguments::{MOST_THREADS, Options, Word, Words, read_argument};
 use crate::failure::Failure;
-use crate::file_digest::{FileDigest, Shared};
+use crate::file_digest::Shared;
 use crate::printer::{Printer, say};
 use crate::source::open_input;
 use crate::system::System;
-use crate::window::Window;
+use crate::window::{Files, Window};
 use async_utilities::Pool;
 use std::alloc::Global;
 use std::io::Stdin;
@@ -124,21 +124,40 @@ fn digest_all<R: System + Send + Sync + 'static>(
     printer: &mut Printer<'_, R>,
 ) -> Result<(), Failure> {
     let others = threads.saturating_sub(1);
-    let pool: Pool<FileDigest<R>, R> = Pool::new(shared.rt.clone()?, alloc, others)?;
-    let mut window = Window::new(alloc, files.input, pool.executor(), Arc::try_clone(shared)?)?;
+    let pool = Pool::new(shared.rt.clone()?, alloc, others)?;
+    digest_by(alloc, pool.executor(), shared, files, printer)?;
+    for ended in pool.join() {
+        ended?;
+    }
+    Ok(())
+}
+
+// Has all files digested by the tasks of this executor.
+fn digest_by<R: System + Send + Sync + 'static>(
+    alloc: Global,
+    executor: &Files<R>,
+    shared: &Arc<Shared<R>>,
+    files: Given,
+    printer: &mut Printer<'_, R>,
+) -> Result<(), Failure> {
+    let mut window = Window::new(alloc, files.input, executor, Arc::try_clone(shared)?)?;
     if files.has_files {
         digest_files(alloc, &mut window, printer)?;
     } else {
         window.spawn(Vec::from_slice(alloc, b"-")?)?;
     }
-    for _ in shared.rt.forever() {
-        if !print_first(&mut window, printer)? {
+    print_rest(&mut window, printer)
+}
+
+// Prints what came of the files that are under way.
+fn print_rest<R: System + Send + Sync + 'static>(
+    window: &mut Window<'_, R>,
+    printer: &mut Printer<'_, R>,
+) -> Result<(), Failure> {
+    for _ in printer.rt.forever() {
+        if !print_first(window, printer)? {
             break;
         }
-    }
-    drop(window);
-    for ended in pool.join() {
-        ended?;
     }
     Ok(())
 }

@@ -65,12 +65,18 @@ pub fn lasts<R: Wait + Clone + Drop>(
 /// Runs tasks of a new executor on this thread by a tick, by themselves, and by a run.
 pub fn keeps<R: Wait + Clone + Drop>(rt: &R, alloc: Global) -> Option<bool> {
     let server = StaticLocalExecutor::new(rt.clone().ok()?, alloc).ok()?;
+    run_two(&server)?;
+    let mut run = server.run(server.spawn(Sum::of(3, 4)).ok()?).ok()?;
+    run.poll(&Nobody);
+    Some(run.poll(&Nobody) == Poll::Ready(Ok(7)))
+}
+
+// Runs a task by a tick, and one by itself.
+fn run_two<R: Wait + Clone + Drop>(server: &StaticLocalExecutor<Sum, Nobody, R>) -> Option<()> {
     server.spawn(Sum::of(1, 2)).ok()?.detach();
     server.tick().ok()?.poll(&Nobody);
     server.try_tick();
     server.spawn(Sum::of(5, 6)).ok()?.detach();
     server.try_tick_any();
-    let mut run = server.run(server.spawn(Sum::of(3, 4)).ok()?).ok()?;
-    run.poll(&Nobody);
-    Some(run.poll(&Nobody) == Poll::Ready(Ok(7)))
+    Some(())
 }

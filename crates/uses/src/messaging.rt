@@ -1,7 +1,7 @@
 //! A channel from a thread to a task: the thread parks while there is no room, and the task is
 //! pending while there is no message.
 use crate::common::executor;
-use async_executor::{Future, Poll, TaskWaker, Wake};
+use async_executor::{Executor, Future, Poll, TaskWaker, Wake};
 use async_utilities::{Receiver, Sender, ThreadWaker, block_on, bounded};
 use std::alloc::Global;
 use std::sync::Wait;
@@ -54,6 +54,18 @@ pub fn send_below<V: Wake, R: Wait + Drop>(
     Some(())
 }
 
+/// Runs a future as a task on this thread, which parks while nothing is scheduled, and gives its output.
+pub fn runs_here<F, R>(rt: &R, alloc: Global, future: F) -> Option<F::Output>
+where
+    F: Future<TaskWaker<ThreadWaker, R>> + Send,
+    F::Output: Send,
+    R: Wait + Clone + Drop + Send + Sync,
+{
+    let executor: Executor<F, ThreadWaker, R> = executor(rt, alloc)?;
+    let run = executor.run(executor.spawn(future).ok()?).ok()?;
+    block_on(rt, alloc, run).ok()?.ok()
+}
+
 /// Has one thread send twenty numbers, with room for four, and a task that another thread runs add
 /// them. Gives the sum, if all were sent.
 pub fn sends_to_a_task<R: Wait + Threads + Clone + Drop + Send + Sync>(
@@ -64,14 +76,12 @@ pub fn sends_to_a_task<R: Wait + Threads + Clone + Drop + Send + Sync>(
     let (sender, arrivals) = bounded::<u32, ThreadWaker, TaskWaker<ThreadWaker, R>, R>(
         right, alloc, ROOM,
     ).ok()?;
-    let executor = executor(rt, alloc)?;
-    let task = executor.spawn(Adder { arrivals, total: 0 }).ok()?;
-    let run = executor.run(task).ok()?;
+    let adder = Adder { arrivals, total: 0 };
     let (sent, total) = thread::join(
         rt,
         move || send_below(rt, alloc, sender, 20),
-        move || block_on(rt, alloc, run),
+        move || runs_here(rt, alloc, adder),
     );
     sent?;
-    total.ok()?.ok()
+    total
 }

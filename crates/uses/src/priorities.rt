@@ -93,15 +93,24 @@ fn served<'a, R: Wait + Clone + Drop + Send + Sync>(
     let mut request = executor.spawn(1, Job::Serve { accepted }).ok()?;
     let accept = Job::Accept { left: 3, accepted };
     executor.spawn(0, accept).ok()?.detach();
-    for _ in rt.forever() {
-        if executor.tick().ok()?.poll(&Nobody) == Poll::Pending {
-            break;
-        }
-    }
+    run_by_ticks(rt, executor)?;
     match request.poll(&Nobody) {
         Poll::Ready(Ok(accepted)) => Some(accepted),
         Poll::Ready(Err(_)) | Poll::Pending => None,
     }
+}
+
+// Runs tasks by ticks until none is scheduled.
+fn run_by_ticks<R: Wait + Clone + Drop + Send + Sync>(
+    rt: &R,
+    executor: &PriorityExecutor<Job<'_>, Nobody, R, 2>,
+) -> Option<()> {
+    for _ in rt.forever() {
+        if executor.tick().ok()?.poll(&Nobody) == Poll::Pending {
+            return Some(());
+        }
+    }
+    None
 }
 
 /// An accept loop goes before the requests, by ticks of the executor: all connections are accepted

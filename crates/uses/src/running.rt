@@ -1,7 +1,7 @@
 //! Tasks that one thread runs to their end, and executors that go before that.
 use crate::common::{executor, output_of, run_all};
 use crate::futures::{Nobody, Sum};
-use async_executor::{Cancelled, Future, Poll, Task, TaskWaker};
+use async_executor::{Cancelled, Executor, Future, Poll, Task, TaskWaker};
 use std::alloc::Global;
 use std::sync::Wait;
 
@@ -62,10 +62,15 @@ pub fn empties<R: Wait + Clone + Drop + Send + Sync>(
     run.poll(&Nobody);
     run_all(rt, &executor);
     let is_left = !executor.is_empty();
+    run_any(rt, &executor);
+    Some((is_left, executor.is_empty()))
+}
+
+// Runs tasks of any queue until nothing is scheduled.
+fn run_any<R: Wait + Clone + Drop + Send + Sync>(rt: &R, executor: &Executor<Sum, Nobody, R>) {
     for _ in rt.forever() {
         if !executor.try_tick_any() {
             break;
         }
     }
-    Some((is_left, executor.is_empty()))
 }

@@ -1,5 +1,6 @@
 //! Tasks that are given a time.
-use async_executor::{Executor, TaskWaker};
+use crate::common::executor;
+use async_executor::{Executor, Future, TaskWaker, Wake};
 use async_utilities::{Never, ThreadWaker, Timeout, Timer};
 use std::alloc::Global;
 use std::sync::Wait;
@@ -7,20 +8,35 @@ use std::time::{Clock, Duration};
 
 type Wanted<R> = Timeout<Never<u64>, TaskWaker<ThreadWaker, R>, R>;
 
-/// Gives ten milliseconds to a task that never ends, and says whether it was too late. One thread
-/// drives the executor and the timer.
+/// Runs a future as a task, and gives its output. One thread drives the executor and the timer.
+pub fn runs_in_time<F, W, R>(
+    rt: &R,
+    alloc: Global,
+    timer: &Timer<W, R, R>,
+    wanted: F,
+) -> Option<F::Output>
+where
+    F: Future<TaskWaker<ThreadWaker, R>> + Send,
+    F::Output: Send,
+    W: Wake,
+    R: Wait + Clock + Clone + Drop + Send + Sync,
+{
+    let executor: Executor<F, ThreadWaker, R> = executor(rt, alloc)?;
+    let task = executor.spawn(wanted).ok()?;
+    let run = executor.run(task).ok()?;
+    let answer = timer.block_on(run).ok()?.ok()?;
+    Some(answer)
+}
+
+/// Gives ten milliseconds to a task that never ends, and says whether it was too late.
 pub fn times_out<R: Wait + Clock + Clone + Drop + Send + Sync>(
     rt: &R,
     alloc: Global,
 ) -> Option<bool> {
     let timer = Timer::new(rt.clone().ok()?, rt.clone().ok()?, alloc).ok()?;
-    let executor: Executor<Wanted<R>, ThreadWaker, R> = Executor::new(
-        rt.clone().ok()?,
-        alloc,
-    ).ok()?;
     let wanted = timer.timeout(Duration::from_millis(10), Never::new()).ok()?;
-    let task = executor.spawn(wanted).ok()?;
-    let run = executor.run(task).ok()?;
-    let answer = timer.block_on(run).ok()?.ok()?;
+    let answer = runs_in_time::<Wanted<R>, TaskWaker<ThreadWaker, R>, R>(
+        rt, alloc, &timer, wanted,
+    )?;
     Some(answer.is_err())
 }
