@@ -57,11 +57,12 @@ words() {
         printf '%s\n' --extern "$library=$folder/$library.rlib"
     done
     printf '%s\n' --antt-project "$kit/rattle/logic/antt-project.json" \
-        --logic-built "$kit/logic_built"
+        --logic-built "$kit/logic_built" --incremental "$room/kept"
 }
 
 # Lays out guards of this crate, those that the file left lists, in the room, and tries them. What
-# was tried, as lines 'FUNCTION GUARD', is taken from that file.
+# was tried, as lines 'FUNCTION GUARD', is taken from that file. A further round takes the lemmas and
+# the types of the crate from what the one before it kept.
 try_round() {
     rm -rf "$room/crates/$1"
     mkdir -p "$room/crates/$1"
@@ -105,6 +106,8 @@ try_crates() {
         mkdir "$copy/$crate.taken" 2> /dev/null || continue
         words "$crate" > "$room/words"
         mv "$copy/$crate.asked" "$room/left"
+        rm -rf "$room/kept"
+        mkdir "$room/kept"
         while [ -s "$room/left" ]; do
             start=$(date +%s)
             try_round "$crate"
