@@ -3,12 +3,10 @@
 Each function that an edit changes gets the body that the edit makes of its own, and takes it if the
 number of the edit is chosen. The crates of tests become one, the suite. Of their tests those stay
 that an edit names, and each edit has a copy of its test, of the edit's name, which chooses that
-number first. With the line 'alone: yes' an edit changes more than bodies: of those given beside
-others only the tests are kept.
+number first. All code is first written as the edits need it, which does the same.
 Usage: choose.py all COPY EDIT.., which also keeps every test that the gate leaves out, or choose.py
-beside COPY EDIT.., or choose.py alone COPY EDIT, which applies it as it is, or choose.py program COPY
-EDIT.., which leaves the tests. COPY is a copy of the repository, and EDIT a file. With status 1 it
-says why one cannot be applied.
+beside COPY EDIT.., or choose.py program COPY EDIT.., which leaves the tests. COPY is a copy of the
+repository, and EDIT a file. With status 1 it says why one cannot be applied.
 """
 import os
 import re
@@ -126,10 +124,9 @@ def copies_of(test, function, path, edits, is_kept):
 def main(way, copy, *paths):
     edits = [(number, Edit(path)) for number, path in enumerate(paths, 1)]
     try:
-        if way == "alone":
-            edits[0][1].apply(copy)
-        else:
-            add_bodies(copy, [(number, edit) for number, edit in edits if not edit.is_alone])
+        for _, edit in edits:
+            edit.rewrite(copy)
+        add_bodies(copy, edits)
     except Unapplied as why:
         sys.exit(str(why))
     if way != "program":

@@ -2,7 +2,8 @@
 
 An edit is a file of the lines 'crate: NAME', 'file: PATH', 'old: TEXT' and 'new: TEXT', with more
 that its check reads. The old text stands once in the file; \\n in a text is a line's end. Further
-lines change more places, in turn.
+lines change more places, in turn. A line 'same: TEXT' in place of 'new: TEXT' writes the code in
+another way that does the same, before anything else is changed.
 Usage: edits.py apply EDIT REPOSITORY, which changes its files as they stand, or none, with status 1,
 where an old text does not stand once; edits.py lines EDIT REPOSITORY, the first and the last line of
 its first old text; edits.py functions FILE, for each line the number of the function that it is a
@@ -33,22 +34,24 @@ class Edit:
     def __init__(self, path):
         self.path = path
         self.name = os.path.basename(path)
+        self.rewrites = []
         self.changes = []
         self.said = {}
         for line in read(path).splitlines():
             key, text = line.partition(": ")[::2]
             self.said[key] = text.replace("\\n", "\n")
-            if key == "new":
-                self.changes.append(tuple(self.said[it] for it in ("file", "old", "new")))
+            if key in ("same", "new"):
+                places = self.changes if key == "new" else self.rewrites
+                places.append(tuple(self.said[it] for it in ("file", "old", key)))
         self.crate = self.said["crate"]
         self.function = self.said.get("function")
         self.test = self.said.get("test")
         self.is_alone = self.said.get("alone") == "yes"
 
-    def texts(self, repository):
-        """The files that it changes, as it leaves them."""
+    def texts(self, repository, changes):
+        """The files that these changes change, as they leave them."""
         texts = {}
-        for file, old, new in self.changes:
+        for file, old, new in changes:
             path = f"{repository}/crates/{self.crate}/{file}"
             text = texts.get(path) or read(path)
             times = text.count(old)
@@ -57,13 +60,18 @@ class Edit:
             texts[path] = text.replace(old, new)
         return texts
 
+    def rewrite(self, repository):
+        """Writes the code as it needs it, which does the same."""
+        for path, text in self.texts(repository, self.rewrites).items():
+            write(path, text)
+
     def apply(self, repository):
-        for path, text in self.texts(repository).items():
+        for path, text in self.texts(repository, [*self.rewrites, *self.changes]).items():
             write(path, text)
 
     def bodies(self, repository):
         """The bodies that it changes, as (path, number of the function, body): it changes no more."""
-        for path, text in self.texts(repository).items():
+        for path, text in self.texts(repository, self.changes).items():
             before = read(path)
             functions, changed = functions_of(before), functions_of(text)
             if frame(before, functions) != frame(text, changed):
