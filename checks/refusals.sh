@@ -57,6 +57,7 @@ calls() {
 # none.
 read_case() {
     out=$(said "$1")
+    printf '%s\n' "$out" | grep -q "^case=$1 run=ended status=0 " || give_up "refusals, $1: $out"
     line=$(printf '%s\n' "$out" | grep '^refused: .*; wrong: 0$') || give_up "refusals, $1: $out"
     is_refused=$(printf '%s\n' "$out" | grep -cx 'request refused' || :)
     call=$(calls 1)
