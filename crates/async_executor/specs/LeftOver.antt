@@ -2,7 +2,7 @@ use Rattle.std.specs.Prelude.{◌≡◌, true, false}
 use Rattle.executor_core.specs.declared.task.polling.Ran.{Ran}
 use Rattle.executor_core.specs.declared.task.polling.Ran.TheVariants.{Pending, Ready, Dropped}
 use Rattle.async_executor.specs.declared.left_over.EndThenSearch.{EndThenSearch}
-use Rattle.async_executor.specs.declared.left_over.EndThenSearch.TheVariants.{Searched, Left}
+use Rattle.async_executor.specs.declared.left_over.EndThenSearch.TheVariants.{Searched, InVain, Left}
 use Rattle.async_executor.specs.declared.left_over.LeftOver.{LeftOver}
 use Rattle.async_executor.specs.declared.left_over.LeftOver.TheVariants.{Refused, Woken, ToDrop, Finished}
 
@@ -23,4 +23,5 @@ module _ {W T : Type 0} where
 
   abbrev pub IsEndRight : EndThenSearch W T → Type 0
   IsEndRight (Searched notice found) = Unit {0}
+  IsEndRight (InVain awaiter) = Unit {0}
   IsEndRight (Left left) = IsLeftRight left

@@ -8,7 +8,7 @@ ghost use Rattle.executor_core.specs.SpawnError.{refused_future};
 ghost use Rattle.async_executor.specs.LeftOver.{IsHeldRight, IsLeftRight, IsEndRight};
 
 use crate::home::{Home, OutIn, OutputIn, Shareable, store};
-use crate::left_over::{EndThenSearch, LeftOver, finished};
+use crate::left_over::{EndThenSearch, LeftOver, finished, in_vain};
 use crate::state::{ExecutorState, cells};
 use crate::store::Store;
 use crate::waker::{LentWake, TaskWaker};
@@ -46,12 +46,14 @@ pub(crate) fn spawn<H: Shareable>(
 }
 
 /// Takes the future of the task out, with the waker to poll it with.
+#[inline(always)]
 pub(crate) fn take<H: Home>(home: &H, id: TaskId) -> OutIn<H> {
     let mut store = store!(home);
     store.get().take(id)
 }
 
-/// Takes a task for a runner, and its future out.
+/// Takes a task for a runner, and then its future out. A search in vain does not ask for the store.
+#[inline(always)]
 pub(crate) fn search<H: Home>(
     home: &H,
     key: RunnerKey,
@@ -59,9 +61,11 @@ pub(crate) fn search<H: Home>(
     again: Option<Again>,
     out: &mut OutIn<H>,
 ) -> Option<(Taken<()>, Notice)> {
-    let mut store = store!(home);
     let found = cells!(home.state()).search(key, word, again);
-    store.get().take_found(&found, out);
+    if let Some((taken, _)) = &found {
+        // Nobody else takes the future of a task that was taken.
+        *out = take(home, taken.id());
+    }
     found
 }
 
@@ -105,8 +109,25 @@ pub(crate) fn end_then_search<H: Home>(
             store.take_found(&found, out);
             EndThenSearch::Searched(notice, found)
         }
+        // No task is taken before the awaiter of the last one is woken, which may take long. If there
+        // is none, that wake need not come first: what it queues is found as the run goes to sleep.
+        Err(left) if is_unscheduled(&cells) => in_vain(left),
         Err(left) => EndThenSearch::Left(left),
     }
+}
+
+// Whether no queue has a task, so that a search is in vain.
+#[inline(always)]
+fn is_unscheduled<W>(cells: &Cells<(), (), W>) -> bool {
+    if cells.global_len() > 0 {
+        return false;
+    }
+    for position in 0..cells.runners() {
+        if cells.local_len(position) != Some(0) {
+            return false;
+        }
+    }
+    true
 }
 
 /// Ends the handle of a task that has ended. The output comes out where there is one, and a waker
@@ -174,6 +195,7 @@ pub type Out<F, W, R> = Option<(F, TaskWaker<W, R>)>;
 
 // It waits for nothing, so it asks for no right to wait, and costs its caller no test.
 impl<F: Drop, W: Drop, R: Drop, T: Drop> Store<F, Arc<ExecutorState<W, R>>, T> {
+    #[inline(always)]
     pub(crate) fn take(&mut self, id: TaskId) -> Out<F, W, R> {
         let (future, state) = self.take_future(id)?;
         Some((future, TaskWaker::lent(state, id)))

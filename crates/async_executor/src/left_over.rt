@@ -1,6 +1,6 @@
 //! What the end of a task leaves to do once no lock is held.
 ghost use Rattle.std.specs.Prelude.{IfErr};
-ghost use Rattle.async_executor.specs.LeftOver.{IsLeftRight};
+ghost use Rattle.async_executor.specs.LeftOver.{IsEndRight, IsLeftRight};
 
 use executor_core::task::{Held, Notice, Taken, Wakeup};
 
@@ -21,6 +21,8 @@ pub enum LeftOver<W, T> {
 pub enum EndThenSearch<W, T> {
     /// The task was ended, with a notice where it was queued. This is what the search found.
     Searched(Option<Notice>, Option<(Taken<()>, Notice)>),
+    /// The task was ended, and the search was in vain. The awaiter is to be woken.
+    InVain(Wakeup<W>),
     /// The end leaves something to do first, so nothing was searched.
     Left(LeftOver<W, T>),
 }
@@ -36,5 +38,21 @@ pub(crate) fn finished<W, T>(
     match (unwanted, awaiter) {
         (None, None) => Ok(None),
         (unwanted, awaiter) => Err(LeftOver::Finished(unwanted, awaiter)),
+    }
+}
+
+/// What came of an end that leaves this, if no task is scheduled. What is dropped may schedule one, so
+/// a search comes after that.
+#[inline(always)]
+pub(crate) fn in_vain<W, T>(left: LeftOver<W, T>) -> EndThenSearch<W, T>
+    requires { IsLeftRight left }
+    ensures { IsEndRight result }
+{
+    match left {
+        LeftOver::Finished(unwanted, awaiter) => match (unwanted, awaiter) {
+            (None, Some(awaiter)) => EndThenSearch::InVain(awaiter),
+            (unwanted, awaiter) => EndThenSearch::Left(LeftOver::Finished(unwanted, awaiter)),
+        },
+        left => EndThenSearch::Left(left),
     }
 }

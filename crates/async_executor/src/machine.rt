@@ -19,7 +19,7 @@ mod tick;
 pub(crate) use run::Runner;
 pub use run::{RunAction, RunMachine, RunNext, RunReply, RunRest};
 pub(crate) use run_steps::{
-    Begun, Dropped, NotRegistered, OwnPolled, PollingOwn, Registering, Started, UnderWay,
+    Begun, Dropped, NotRegistered, OwnPolled, PollingOwn, Registering, Sharing, Started, UnderWay,
     Unregistering,
 };
 pub(crate) use steps::{Departing, Found, GoingToSleep, Rested, Running, Searching, Yielding};

@@ -42,6 +42,7 @@ impl<F: Future<TaskWaker<W, R>>, W: Drop, R: Drop> Poller<(), F::Output>
 
     /// Polls the future once, and drops it where it is ready. Another task's future is not there,
     /// and so it is not ready.
+    #[inline(always)]
     fn poll(&mut self, id: TaskId, _future: ()) -> Polled<(), F::Output> {
         self.polls += 1;
         let Some((future, waker)) = &mut *self.out else {

@@ -117,26 +117,32 @@ impl<H: Home> Future<H::Waker> for TaskIn<H> {
 }
 
 impl<H: Home> Drop for TaskIn<H> {
+    #[inline(always)]
     fn drop(self) {
         let TaskIn { home, id, answered } = self;
-        if answered {
-            return;
+        if !answered {
+            drop_unanswered(&home, id);
         }
-        let state = home.state();
-        let mut cells = cells!(state);
-        if cells.is_ended(id) {
-            drop(cells);
-            detach_ended(&home, id);
-            return;
-        }
-        let (notice, _, awaiter) = cells.drop_handle(id);
-        // With the lock given up: a sleeper that is woken, or the awaiter's drop, may use the executor.
-        drop(cells);
-        if let Some(notice) = notice {
-            announce!(state, notice);
-        }
-        drop(awaiter);
     }
+}
+
+// Cancels the task of a handle that has not answered, and ends the handle.
+#[inline(never)]
+fn drop_unanswered<H: Home>(home: &H, id: TaskId) {
+    let state = home.state();
+    let mut cells = cells!(state);
+    if cells.is_ended(id) {
+        drop(cells);
+        detach_ended(home, id);
+        return;
+    }
+    let (notice, _, awaiter) = cells.drop_handle(id);
+    // With the lock given up: a sleeper that is woken, or the awaiter's drop, may use the executor.
+    drop(cells);
+    if let Some(notice) = notice {
+        announce!(state, notice);
+    }
+    drop(awaiter);
 }
 
 /// The answer without the error's name.

@@ -85,6 +85,7 @@ impl<P, T, W> Cells<P, T, W> {
     ///
     /// A runner that is not registered takes the global front. It takes no memory, and visits each
     /// other queue once at most.
+    #[inline(always)]
     pub fn search(
         &mut self,
         key: RunnerKey,

@@ -149,7 +149,7 @@ impl Running<Runner> {
 /// To take a fair part of the global queue, so that tasks there are not left behind those of the
 /// run's own queue.
 pub(crate) struct Sharing {
-    runner: Runner,
+    pub(in crate::machine) runner: Runner,
     taken: Taken<()>,
 }
 

@@ -3,7 +3,7 @@
 //! No lock is held while a future is polled or dropped, or a waker is copied, woken or dropped. One
 //! poll of a task takes each lock once: the task that was polled is ended and the next one is taken
 //! in one change. Where the end leaves something to drop or to wake, that is done first, and the
-//! search is a change of its own.
+//! search is a change of its own, unless no task was scheduled then.
 ghost use Rattle.std.specs.Prelude.{◌≡◌, [], true, false, Some, None, IsTrue, IfErr, MatchResult};
 ghost use Rattle.executor_core.specs.Limits.{is_lawful};
 ghost use Rattle.async_executor.specs.RunError.{run_cause, run_future};
@@ -11,14 +11,14 @@ ghost use Rattle.async_executor.specs.Answers.{is_ready};
 ghost use Rattle.async_executor.specs.Runs.{has_ended, ids_in, new_rest};
 ghost use Rattle.async_executor.specs.Runs.Fixed.{fixed};
 ghost use Rattle.async_executor.specs.Steps.{actor_going};
-ghost use Rattle.async_executor.specs.LeftOver.{IsHeldRight};
+ghost use Rattle.async_executor.specs.LeftOver.{IsHeldRight, IsLeftRight};
 
 use crate::changes;
 use crate::home::{Home, OutIn, OutputIn};
-use crate::left_over::EndThenSearch;
+use crate::left_over::{EndThenSearch, LeftOver};
 use crate::machine::{
     Begun, Dropped, GoingToSleep, NotRegistered, OwnPolled, PollingOwn, Registering, RunMachine,
-    RunRest, Runner, Running, Searching, Started, UnderWay, Unregistering, Yielding,
+    RunRest, Runner, Running, Searching, Sharing, Started, UnderWay, Unregistering, Yielding,
 };
 use crate::runner::words::Words;
 use crate::scheduler::{ExecutorIn, poll_taken};
@@ -142,7 +142,10 @@ impl<'x, 'y, H: Home, G: Drop> Driver<'x, 'y, H, G> {
     {
         let mut running = running;
         for _ in self.executor.state().rt().forever() {
-            let (under_way, taken) = self.start(running);
+            let (under_way, taken) = match running.start() {
+                Started::Run(under_way, taken) => (under_way, taken),
+                Started::Share(sharing) => self.share(sharing),
+            };
             let id = taken.id();
             let ran = poll_taken::<H>(taken, &mut self.out);
             let searching = match under_way.ran() {
@@ -164,18 +167,14 @@ impl<'x, 'y, H: Home, G: Drop> Driver<'x, 'y, H, G> {
         unreachable!()
     }
 
-    // Counts a task that was found, and takes the fair part that is due.
-    #[inline(always)]
-    fn start(&self, running: Running<Runner>) -> (UnderWay, Taken<()>)
-        ensures { fixed result.0.runner ≡ fixed running.actor }
+    // Takes the fair part that is due.
+    #[cold]
+    #[inline(never)]
+    fn share(&self, sharing: Sharing) -> (UnderWay, Taken<()>)
+        ensures { fixed result.0.runner ≡ fixed sharing.runner }
     {
-        match running.start() {
-            Started::Run(under_way, taken) => (under_way, taken),
-            Started::Share(sharing) => {
-                let mut cells = cells!(self.executor.state());
-                sharing.make(&mut cells)
-            }
-        }
+        let mut cells = cells!(self.executor.state());
+        sharing.make(&mut cells)
     }
 
     // Ends the task and searches for the next one.
@@ -196,13 +195,30 @@ impl<'x, 'y, H: Home, G: Drop> Driver<'x, 'y, H, G> {
                 announce!(self.executor.state(), notice);
                 found
             }
-            EndThenSearch::Left(left) => {
-                // Its drop and its wake come before the search, which they may queue something for.
-                self.out = None;
-                self.executor.finish(id, left);
-                changes::search(home, self.key, word, None, &mut self.out)
+            // What it schedules is found once the run's waker stands in the list.
+            EndThenSearch::InVain(awaiter) => {
+                awaiter.wake();
+                None
             }
+            EndThenSearch::Left(left) => self.finish_then_search(id, left, word),
         }
+    }
+
+    // Does what the end of a task has left to do, and searches for the next one with this word.
+    #[cold]
+    #[inline(never)]
+    fn finish_then_search(
+        &mut self,
+        id: TaskId,
+        left: LeftOver<H::Waker, OutputIn<H>>,
+        word: u64,
+    ) -> Option<(Taken<()>, Notice)>
+        requires { IsLeftRight left }
+    {
+        // Its drop and its wake come before the search, which they may queue something for.
+        self.out = None;
+        self.executor.finish(id, left);
+        changes::search(self.executor.home(), self.key, word, None, &mut self.out)
     }
 }
 
@@ -226,6 +242,7 @@ fn work<H: Home, G: Drop>(
     let state = executor.state();
     let mut searching = searching;
     let mut again = None;
+    let mut is_listed = false;
     for _ in state.rt().forever() {
         let going = match driver.search(again) {
             None => searching.empty(),
@@ -237,11 +254,12 @@ fn work<H: Home, G: Drop>(
                 }
             }
         };
-        match sleep(state, going, w) {
+        match sleep(state, going, w, is_listed) {
             // A task that was queued before the waker stood in the list woke nobody for it.
             Slept::Again(next, change) => {
                 searching = next;
                 again = Some(change);
+                is_listed = true;
             }
             Slept::Rested(rested) => return rested.keep(),
         }

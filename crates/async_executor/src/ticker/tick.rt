@@ -65,14 +65,26 @@ pub(crate) enum Slept<A> {
 }
 
 /// Puts a copy of the waker into the list, in place of an earlier one, and stores the flag where the
-/// list was changed. Where the copy is refused, the waker itself is woken.
+/// list was changed. Where the copy is refused, the waker itself is woken. If this poll has put a copy
+/// there, one that was not notified since sleeps on by that.
+#[inline(always)]
 pub(crate) fn sleep<A, W: Wake, R: Wait + Clone + Drop>(
     state: &ExecutorState<W, R>,
     going: GoingToSleep<A>,
     w: &W,
+    is_listed: bool,
 ) -> Slept<A>
     ensures { actor_slept result ≡ actor_going going }
 {
+    let going = match going {
+        GoingToSleep::Update(updating) if is_listed => {
+            if notified_number(state) != updating.number() {
+                return Slept::Rested(updating.asleep());
+            }
+            GoingToSleep::Update(updating)
+        }
+        going => going,
+    };
     let Ok(waker) = w.copy() else {
         return Slept::Rested(going.refused().wake(w));
     };
@@ -111,6 +123,13 @@ pub(crate) fn sleep<A, W: Wake, R: Wait + Clone + Drop>(
             }
         },
     }
+}
+
+// The number of the sleeper that was notified, or 0.
+#[inline(always)]
+fn notified_number<W: Wake, R: Wait + Clone + Drop>(state: &ExecutorState<W, R>) -> usize {
+    let guard = sleepers!(state);
+    guard.sleepers.notified()
 }
 
 // Takes the sleeper of this number out of the list, and stores the flag before the list's lock is
@@ -158,6 +177,7 @@ impl<H: Home> Future<H::Waker> for TickIn<'_, H> {
         let state = executor.state();
         let mut searching = self.rest.begin();
         let mut again = None;
+        let mut is_listed = false;
         for _ in state.rt().forever() {
             let found = cells!(state).take_global(again);
             if let Some((taken, notice)) = found {
@@ -167,11 +187,12 @@ impl<H: Home> Future<H::Waker> for TickIn<'_, H> {
                 state.release_sleeper();
                 return Poll::Ready(());
             }
-            match sleep(state, searching.empty(), w) {
+            match sleep(state, searching.empty(), w, is_listed) {
                 // A task that was queued before the waker stood in the list woke nobody for it.
                 Slept::Again(next, change) => {
                     searching = next;
                     again = Some(change);
+                    is_listed = true;
                 }
                 Slept::Rested(rested) => {
                     self.rest = rested.keep();

@@ -388,6 +388,7 @@ impl<P, T, W> Queues<P, T, W> {
 // What a runner does.
 impl<P, T, W> Queues<P, T, W> {
     // Takes the task that the runner's search with this word finds.
+    #[inline(always)]
     pub(crate) fn search(&mut self, key: RunnerKey, word: u64) -> Option<TaskId>
         ensures found { result ≡ (search key.number word self.old.state.lists).0 }
         ensures slots { self.new.slots ≡ self.old.slots }

@@ -148,6 +148,7 @@ impl<P, T, W> Cells<P, T, W> {
     ///
     /// The output waits for the handle, or comes back where no handle will give it. It takes no
     /// memory.
+    #[inline(always)]
     pub fn end_ready(&mut self, held: Held, output: T) -> EndReady<T, W>
         requires { held.to_drop ≡ false }
         ensures table { self.new ≡ after_end_ready self.old held.id output }
