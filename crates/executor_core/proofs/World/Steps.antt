@@ -64,7 +64,7 @@ module _ {P T : Type 0} (a : Inside P T) (sound : IsWorld (execution_of a) a.cor
 
 -- what holds of every world
 pub promises : {P T : Type 0} {w : Execution T} {table : Table P T (Unit {0})} {entries : List (TaskEntry P)} {rings : List (Option IdRing)} {room : ℕ} → IsWorld w table entries rings room → OnePlace w.log (all_queues w) → KeepsPromises w
-promises {w = w} sound one = record { one_place = one; in_order = sound.agree.order; few_polls = few_polls sound.agree; flag_law = sound.notices.flag_law; covered = sound.notices.covered; runs_covered = sound.notices.runs_covered; tickers = sound.tickers; closing = λ on. closing_kept sound.agree one (sound.closing on) }
+promises {w = w} sound one = record { one_place = one; in_order = sound.agree.order; few_polls = few_polls sound.agree; no_notice_lost = sound.notices; tickers = sound.tickers; closing = λ on. closing_kept sound.agree one (sound.closing on) }
 
 module _ {P T : Type 0} (step : Step P T) (old : Execution T) where
   pub step_full : old.accepted ≡ old.limit → StepTo old step reply.LogFull old
