@@ -1,15 +1,9 @@
 -- What a contract sees of a ring.
-use Rattle.std.specs.Prelude.{ℕ, List, refl}
-use Rattle.std.specs.Coded.{Coded, code_by, coded×, coded_ℕ, coded_list}
+pub mod Coding
+use Rattle.std.specs.Prelude.{ℕ, List}
 use Rattle.executor_core.specs.declared.task.id.TaskId.{TaskId}
 
 -- the ids from the front on, and how many have room
 pub record IdRing : Type 0 where
   pub ids : List TaskId
   pub capacity : ℕ
-
-abbrev pub task_id_code : Coded TaskId
-task_id_code = code_by (ℕ × ℕ) (coded× coded_ℕ coded_ℕ) (λ id. (id.number, id.slot)) (λ q. record { number = q.0; slot = q.1 }) (λ _. refl)
-
-abbrev pub id_ring_code : Coded IdRing
-id_ring_code = code_by (List TaskId × ℕ) (coded× (coded_list task_id_code) coded_ℕ) (λ r. (r.ids, r.capacity)) (λ q. record { ids = q.0; capacity = q.1 }) (λ _. refl)

@@ -4,8 +4,9 @@ pub mod View
 use Rattle.std.specs.Prelude.{◌≡◌, ◌≢◌, ℕ, List, [], ◌∷◌, Option, Some, None, refl, slice_index_or, slice_set}
 use Rattle.std.specs.List.{All}
 use Rattle.std.specs.Coded.{Coded, code_by, coded×, coded_list, coded_option}
-use Rattle.executor_core.specs.Cells.{Slotted, slotted_code}
-use Rattle.executor_core.specs.Ring.{task_id_code}
+use Rattle.executor_core.specs.Cells.{Slotted}
+use Rattle.executor_core.specs.Cells.Coding.{slotted_code}
+use Rattle.executor_core.specs.Ring.Coding.{task_id_code}
 use Rattle.executor_core.specs.declared.task.cell.Cell.{Cell}
 use Rattle.executor_core.specs.declared.task.cell.Numbered.{Numbered}
 use Rattle.executor_core.specs.declared.task.id.TaskId.{TaskId}

@@ -91,7 +91,8 @@ pub struct World<P, T> {
 }
 
 impl<P, T> Model for World<P, T> {
-    ghost use Rattle.executor_core.specs.World.{Execution, execution_code};
+    ghost use Rattle.executor_core.specs.World.{Execution};
+    ghost use Rattle.executor_core.specs.World.Coding.{execution_code};
 
     ghost Value = { Execution T };
 

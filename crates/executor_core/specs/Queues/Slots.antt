@@ -1,8 +1,7 @@
 -- What a contract sees of the queues and of the slots of the cells, through which the global queue is linked.
-use Rattle.std.specs.Prelude.{List, Option, refl}
-use Rattle.std.specs.Coded.{Coded, code_by, coded×, coded_list, coded_option}
-use Rattle.executor_core.specs.Queues.State.{QueueState, queue_state_code}
-use Rattle.executor_core.specs.Slots.{numbered_code}
+pub mod Coding
+use Rattle.std.specs.Prelude.{List, Option}
+use Rattle.executor_core.specs.Queues.State.{QueueState}
 use Rattle.executor_core.specs.declared.task.cell.Cell.{Cell}
 use Rattle.executor_core.specs.declared.task.cell.Numbered.{Numbered}
 
@@ -10,15 +9,6 @@ use Rattle.executor_core.specs.declared.task.cell.Numbered.{Numbered}
 pub record QueuedSlots (P T W : Type 0) : Type 0 where
   pub slots : List (Option (Numbered (Cell P T W)))
   pub state : QueueState
-
-abbrev pub queued_slots_code : {P T W : Type 0} → Coded P → Coded T → Coded W → Coded (QueuedSlots P T W)
-queued_slots_code {P} {T} {W} p t w =
-    code_by
-    (List (Option (Numbered (Cell P T W))) × QueueState)
-    (coded× (coded_list (coded_option (numbered_code p t w))) queue_state_code)
-    (λ s. (s.slots, s.state))
-    (λ q. record { slots = q.0; state = q.1 })
-    (λ _. refl)
 
 -- these queues in place of its own
 abbrev pub with_state : {P T W : Type 0} → QueueState → QueuedSlots P T W → QueuedSlots P T W

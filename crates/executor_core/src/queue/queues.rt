@@ -50,7 +50,8 @@ pub(crate) struct Queues<P, T, W> {
 }
 
 impl<P, T, W> Model for Queues<P, T, W> {
-    ghost use Rattle.executor_core.specs.Queues.Slots.{QueuedSlots, queued_slots_code};
+    ghost use Rattle.executor_core.specs.Queues.Slots.{QueuedSlots};
+    ghost use Rattle.executor_core.specs.Queues.Slots.Coding.{queued_slots_code};
 
     ghost Value = { QueuedSlots P T W };
 

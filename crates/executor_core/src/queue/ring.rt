@@ -17,7 +17,8 @@ pub struct Ring {
 }
 
 impl Model for Ring {
-    ghost use Rattle.executor_core.specs.Ring.{IdRing, id_ring_code};
+    ghost use Rattle.executor_core.specs.Ring.{IdRing};
+    ghost use Rattle.executor_core.specs.Ring.Coding.{id_ring_code};
 
     ghost Value = { IdRing };
 

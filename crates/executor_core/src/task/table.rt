@@ -45,7 +45,8 @@ pub struct Cells<P, T, W> {
 }
 
 impl<P, T, W> Model for Cells<P, T, W> {
-    ghost use Rattle.executor_core.specs.Cells.{Table, table_code};
+    ghost use Rattle.executor_core.specs.Cells.{Table};
+    ghost use Rattle.executor_core.specs.Cells.Coding.{table_code};
 
     ghost Value = { Table P T W };
 
