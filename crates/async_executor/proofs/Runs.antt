@@ -4,7 +4,7 @@ use Rattle.std.proofs.lemmas.Bool.{cases_Bool, eqb-true, eq-eqb, ltb-true, lt-lt
 use Rattle.std.specs.Prelude.{◌==◌}
 use Rattle.executor_core.specs.declared.interleave.ticker.Phase.TheVariants as phase
 use Rattle.executor_core.specs.declared.interleave.ticker.Ticker.{Ticker}
-use Rattle.executor_core.specs.World.Tickers as seen
+use Rattle.executor_core.specs.World.Phases as seen
 use Rattle.executor_core.specs.declared.task.values.Taken.{Taken}
 use Rattle.async_executor.specs.Ticks.{Asked, AskStart, AskSearch, AskInsert, AskUpdate, AskStore, AskRemove, AskStoreRemoved, AskExchange, AskNotify, AskWake, AskRun, is_return}
 use Rattle.async_executor.specs.Ticks as ticks

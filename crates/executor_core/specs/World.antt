@@ -6,9 +6,11 @@ pub mod Coding
 pub mod Entries
 pub mod Log
 pub mod Order
+pub mod Phases
 pub mod Promises
 pub mod Runners
 pub mod Steps
+pub mod Takes
 pub mod Tickers
 pub mod View
 use Rattle.std.specs.Prelude.{ℕ, Bool, List, Option}

@@ -1,6 +1,7 @@
 -- Which steps of a run a reply stands for.
 use Rattle.std.specs.Prelude.{Bool, true, cond, Some, None}
-use Rattle.executor_core.specs.World.Tickers.{at_rest, in_leaving, is_awake, polled, ended, left}
+use Rattle.executor_core.specs.World.Phases.{at_rest, in_leaving, is_awake}
+use Rattle.executor_core.specs.World.Tickers.{polled, ended, left}
 use Rattle.executor_core.specs.declared.interleave.ticker.Ticker.{Ticker}
 use Rattle.async_executor.specs.Runs.Counts.{Counted, goes_on}
 use Rattle.async_executor.specs.Ticks.Courses.{Seeking, Departing, ends}

@@ -1,6 +1,7 @@
 -- Which steps of a ticker a reply stands for.
 use Rattle.std.specs.Prelude.{Bool, true, false, ◌&&◌, cond, is_some}
-use Rattle.executor_core.specs.World.Tickers.{at_rest, in_search, in_sleep, in_wake, in_store, in_leaving, is_awake, is_run, polled, searched, slept, rested, woke, dropped, ended, stored, left}
+use Rattle.executor_core.specs.World.Phases.{at_rest, in_search, in_sleep, in_wake, in_store, in_leaving, is_awake, is_run}
+use Rattle.executor_core.specs.World.Tickers.{polled, searched, slept, rested, woke, dropped, ended, stored, left}
 use Rattle.executor_core.specs.declared.interleave.ticker.Ticker.{Ticker}
 use Rattle.async_executor.specs.declared.machine.tick.TickState.{TickState}
 use Rattle.async_executor.specs.declared.machine.tick.TickState.TheVariants.{Leaving}

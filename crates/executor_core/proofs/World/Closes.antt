@@ -18,7 +18,8 @@ use Rattle.executor_core.specs.World.Log.{spawned, dropped, cancelled, held}
 use Rattle.executor_core.specs.World.Promises.{NoNoticeLost, holds}
 use Rattle.executor_core.specs.World.Runners.{RunnersTied}
 use Rattle.executor_core.specs.World.Steps.{row, counted, purpose_of, take_reply, taking, notice_reply, some_held, some_busy, closing, may_close, close_row, leak_row, ByRisingSlot, drain_row}
-use Rattle.executor_core.specs.World.Tickers.{at_rest, is_over, in_store, is_run, needs_queue, is_new_run, notices_in, ticker_or, forgotten}
+use Rattle.executor_core.specs.World.Phases.{at_rest, is_over, in_store, is_run, needs_queue, notices_in, ticker_or}
+use Rattle.executor_core.specs.World.Tickers.{is_new_run, forgotten}
 use Rattle.executor_core.specs.World.View.{execution_of, IsWorld, HasRoom}
 use Rattle.executor_core.proofs.RisingLemmas.{passing}
 use Rattle.executor_core.proofs.World.Agreement.{out_is}

@@ -5,7 +5,8 @@ use Rattle.std.specs.List.{list_any}
 use Rattle.std.specs.Prelude.{sum_by, count_by, slice_get, slice_set}
 use Rattle.executor_core.specs.Sleepers.{SleeperList}
 use Rattle.executor_core.specs.World.Promises.{numbers_of, NumbersTied, HolderStores}
-use Rattle.executor_core.specs.World.Tickers.{at_rest, is_over, is_awake, has_ended, gave_up, in_wake, in_store, ticker_or, forgotten}
+use Rattle.executor_core.specs.World.Phases.{at_rest, is_over, is_awake, has_ended, gave_up, in_wake, in_store, ticker_or}
+use Rattle.executor_core.specs.World.Tickers.{forgotten}
 use Rattle.executor_core.specs.declared.interleave.ticker.Phase.{Phase}
 use Rattle.executor_core.specs.declared.interleave.ticker.Phase.TheVariants.{Rest, Search, Sleep, Wake, Store, Leaving, Forgotten, Ended}
 use Rattle.executor_core.specs.declared.interleave.ticker.Ticker.{Ticker}

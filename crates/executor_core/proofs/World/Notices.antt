@@ -11,7 +11,8 @@ use Rattle.executor_core.specs.Sleepers.{SleeperList, SleeperLaw, is_notified}
 use Rattle.executor_core.specs.Sleepers.Calls.{no_sleepers, all_unnotified, after_notify}
 use Rattle.executor_core.specs.World.{Execution}
 use Rattle.executor_core.specs.World.Promises.{some_notified, kept_notices, notices_out, some_search, is_obliged, holder_spends, holds, HolderStores, only_runs, all_queues, CoversQueued, FlagLaw, Covered, RunsCovered, NoNoticeLost}
-use Rattle.executor_core.specs.World.Tickers.{is_run, forgotten, in_store, notices_in, has_to_search, has_to_spend, ticker_or, new_ticker}
+use Rattle.executor_core.specs.World.Phases.{is_run, in_store, notices_in, has_to_search, has_to_spend, ticker_or, new_ticker}
+use Rattle.executor_core.specs.World.Tickers.{forgotten}
 use Rattle.executor_core.proofs.World.Forgotten.{forgotten_same, sum_by-forgotten, any-forgotten}
 use Rattle.executor_core.proofs.ListLemmas.{sum_by-set, sum_by-at, any-at, any-set_true, any-set_same, any-push, get-set_same, get-set_other, get-push_last, get-push_other, get_past}
 use Rattle.executor_core.specs.declared.interleave.ticker.Ticker.{Ticker}

@@ -8,7 +8,8 @@ use Rattle.executor_core.specs.Sleepers.{is_notified_number}
 use Rattle.executor_core.specs.World.{Execution}
 use Rattle.executor_core.specs.World.Log.{cancelled, idle, woken, dropped, outputs}
 use Rattle.executor_core.specs.World.Promises.{queues}
-use Rattle.executor_core.specs.World.Tickers.{is_awake, is_run, has_ended, stored, runner_of}
+use Rattle.executor_core.specs.World.Phases.{is_awake, is_run, has_ended}
+use Rattle.executor_core.specs.World.Tickers.{stored, runner_of}
 use Rattle.executor_core.specs.World.Steps.{row, Spawns, spawn_row, wake_row, cancel_row, drop_handle_row, ready_row, detach_row, dropped_row, exchange_row, notify_row, handle_row, tick_row, run_row, poll_row, sleep_row, yield_row, remove_row, store_row, drop_row, fair_row, unregister_row, Makes, enabled, Does, StepTo, FoldTo, logged, informed, noticed, queued_where, notice_reply, end_reply, return_reply, take_reply, take_row, take_any_row, give_row, placed_where, taking, drain_row, with_queues, found_row, found_by, search_to_row, some_held, some_busy, idle_ones, ticker}
 use Rattle.executor_core.specs.World.Order.{new_task, noticed_task, requeued_task, taken_task, woken_task, woken_idle, queued_by, taken_by, queued, taken, searcher, IsAlone, line, LoneStep, LoneOrder}
 use Rattle.executor_core.specs.declared.interleave.entry.TaskInfo.{TaskInfo}

@@ -14,7 +14,8 @@ use Rattle.executor_core.specs.Ring.{IdRing}
 use Rattle.executor_core.specs.World.{Execution}
 use Rattle.executor_core.specs.World.Runners.{new_ring, RunnersTied}
 use Rattle.executor_core.specs.World.Steps.{ticker, notice_reply, register_row, fair_row, unregister_row}
-use Rattle.executor_core.specs.World.Tickers.{at_rest, waits, in_store, has_ended, has_to_search, notices_in, is_run, runner_or, runner_of, has_queue, is_new_run, is_over, may_register as may_register_run, ticker_or, left}
+use Rattle.executor_core.specs.World.Phases.{at_rest, waits, in_store, has_ended, has_to_search, notices_in, is_run, is_over, ticker_or}
+use Rattle.executor_core.specs.World.Tickers.{runner_or, runner_of, has_queue, is_new_run, may_register as may_register_run, left}
 use Rattle.executor_core.specs.World.View.{execution_of, IsWorld}
 use Rattle.executor_core.proofs.ListLemmas.{length-slice_set}
 use Rattle.executor_core.proofs.QueueLemmas.{registered-entries, fair-permutes, unregistered-permutes}

@@ -10,7 +10,8 @@ use Rattle.executor_core.specs.Cells.Law.{queues_of}
 use Rattle.executor_core.specs.Queues.{RunnerQueue, is_runner, is_registered, entries_at, set_entries, with_entries, unregistered_at}
 use Rattle.executor_core.specs.Ring.{IdRing}
 use Rattle.executor_core.specs.World.Runners.{new_ring, RunTied, QueueTied, RunnersTied}
-use Rattle.executor_core.specs.World.Tickers.{waits, is_run, runner_of, is_new_run, needs_queue, new_ticker}
+use Rattle.executor_core.specs.World.Phases.{waits, is_run, needs_queue, new_ticker}
+use Rattle.executor_core.specs.World.Tickers.{runner_of, is_new_run}
 use Rattle.executor_core.proofs.ListLemmas.{set-here, length-slice_set, get-set_same, get-set_other, get-push_last, get-push_other, length-push, any-push, sum_by-set, sum_by-at}
 use Rattle.executor_core.specs.declared.interleave.ticker.Ticker.{Ticker}
 

@@ -24,7 +24,7 @@ use Rattle.executor_core.proofs.World.Entries.{infos-push, length-infos, entry_o
 use Rattle.executor_core.proofs.World.Agreement.{number_agrees_by, cell_or_none}
 use Rattle.executor_core.proofs.World.Notices.{notices_opening}
 use Rattle.executor_core.proofs.World.Runners.{runners_opening}
-use Rattle.executor_core.specs.World.Tickers.{notices_in}
+use Rattle.executor_core.specs.World.Phases.{notices_in}
 use Rattle.executor_core.proofs.World.Steps.{stepped, stepped_sound}
 use Rattle.executor_core.proofs.World.Tickers.{tied_opening}
 use Rattle.executor_core.specs.declared.plain_core.Core.{Core}

@@ -17,7 +17,8 @@ use Rattle.executor_core.specs.World.{Execution}
 use Rattle.executor_core.specs.World.Agreement.{Agree}
 use Rattle.executor_core.specs.World.Promises.{kept_notices, notices_out, holds, holder_spends, FlagLaw, NoNoticeLost, NumbersTied, TickersTied}
 use Rattle.executor_core.specs.World.Steps.{row, counted, noticed, taking, ticker, take_reply, purpose_of, with_ticker, with_queues as with_queues_row, found_by, found_row, search_to_row, placed, ticker_row, tick_row, run_row, poll_row, search_row, insert_row, update_row, yield_row, removed_reply, remove_row, store_row, drop_row, Makes}
-use Rattle.executor_core.specs.World.Tickers.{is_awake, is_run, is_over, waits as is_waiting, at_rest, in_search, in_sleep, in_wake, in_store, in_leaving, has_ended, gave_up, needs_queue, has_queue, is_new_run, may_search, may_go, notices_in, has_to_search, ticker_or, new_ticker, after_task, polled, searched, slept, rested, woke, dropped, ended, after_store, stored}
+use Rattle.executor_core.specs.World.Phases.{is_awake, is_run, is_over, waits as is_waiting, at_rest, in_search, in_sleep, in_wake, in_store, in_leaving, has_ended, gave_up, needs_queue, notices_in, has_to_search, ticker_or, new_ticker}
+use Rattle.executor_core.specs.World.Tickers.{has_queue, is_new_run, may_search, may_go, after_task, polled, searched, slept, rested, woke, dropped, ended, after_store, stored}
 use Rattle.executor_core.specs.World.Entries.{infos, out_entry}
 use Rattle.executor_core.specs.World.Runners.{new_ring, RunnersTied}
 use Rattle.executor_core.specs.World.View.{execution_of, IsWorld}

@@ -10,7 +10,7 @@ use Rattle.executor_core.specs.Numbers.{times}
 use Rattle.executor_core.specs.Sleepers.{SleeperList, SleeperLaw, has_place}
 use Rattle.executor_core.specs.Sleepers.Calls.{no_sleepers, after_notify, after_reserve, after_release, next_number}
 use Rattle.executor_core.specs.World.Promises.{numbers_of, holds, NumbersTied, HolderStores}
-use Rattle.executor_core.specs.World.Tickers.{is_awake, in_wake, in_store, has_ended, gave_up, ticker_or, new_ticker}
+use Rattle.executor_core.specs.World.Phases.{is_awake, in_wake, in_store, has_ended, gave_up, ticker_or, new_ticker}
 use Rattle.executor_core.proofs.ListLemmas.{get-set_same, get-set_other, get-push_last, get-push_other, get_past, sum_by-set, sum_by-at, count_most, count_fewer}
 use Rattle.executor_core.proofs.SleeperNumberLemmas.{one-other}
 use Rattle.executor_core.proofs.SleeperUseLemmas.{next_fresh, insert_counts, insert_len, remove_counts, remove_len}

@@ -4,7 +4,7 @@ use Rattle.executor_core.specs.Queues.{local_entries}
 use Rattle.executor_core.specs.World.{Execution}
 use Rattle.executor_core.specs.World.Log.{is_drop, spawned, dropped, held, owed, outputs, handle_finished}
 use Rattle.executor_core.specs.World.Steps.{info, drain_row, handle_row}
-use Rattle.executor_core.specs.World.Tickers.{is_over}
+use Rattle.executor_core.specs.World.Phases.{is_over}
 use Rattle.executor_core.specs.declared.interleave.event.Event.{Event}
 use Rattle.executor_core.specs.declared.interleave.reply.Reply.TheVariants as reply
 use Rattle.executor_core.specs.declared.interleave.ticker.Ticker.{Ticker}

@@ -6,7 +6,7 @@ use Rattle.executor_core.specs.Numbers.{times}
 use Rattle.executor_core.specs.Queues.{QueueLists, all_entries}
 use Rattle.executor_core.specs.Sleepers.{SleeperList, is_notified}
 use Rattle.executor_core.specs.World.{Execution}
-use Rattle.executor_core.specs.World.Tickers.{is_awake, is_run, in_wake, in_store, has_ended, gave_up, notices_in, has_to_search, has_to_spend, ticker_or}
+use Rattle.executor_core.specs.World.Phases.{is_awake, is_run, in_wake, in_store, has_ended, gave_up, notices_in, has_to_search, has_to_spend, ticker_or}
 use Rattle.executor_core.specs.World.Log.{cancelled, held, dropped, owed, outputs, given, polls, wakes}
 use Rattle.executor_core.specs.declared.interleave.ticker.Ticker.{Ticker}
 use Rattle.executor_core.specs.declared.interleave.event.Purpose.TheVariants.{ToPoll, ToDrop}

@@ -3,7 +3,8 @@ use Rattle.std.specs.Prelude.{◌≡◌, ℕ, ◌<◌, true, List, [], length, O
 use Rattle.executor_core.specs.Cells.{Table}
 use Rattle.executor_core.specs.Queues.{RunnerQueue, is_registered}
 use Rattle.executor_core.specs.Ring.{IdRing}
-use Rattle.executor_core.specs.World.Tickers.{is_run, is_new_run, needs_queue}
+use Rattle.executor_core.specs.World.Phases.{is_run, needs_queue}
+use Rattle.executor_core.specs.World.Tickers.{is_new_run}
 use Rattle.executor_core.specs.declared.interleave.ticker.Ticker.{Ticker}
 
 -- an empty ring with a run's places

@@ -8,10 +8,8 @@ use Rattle.executor_core.specs.World.{Execution}
 use Rattle.executor_core.specs.World.Promises.{queues, floating_notices, holds}
 use Rattle.executor_core.specs.Sleepers.{is_notified, is_notified_number}
 use Rattle.executor_core.specs.Sleepers.Calls.{no_sleepers, closed, last_of, all_unnotified, after_notify, after_reserve, after_release, next_number, after_insert, after_update, after_remove}
-use Rattle.executor_core.specs.World.Tickers.{at_rest, in_search, in_sleep, in_wake, has_ended, is_over, notices_in, ticker_or, is_awake, is_run, runner_of, has_queue, may_register, may_search, may_go, new_ticker, polled, searched, slept, rested, woke, dropped as dropped_ticker, ended, stored, left, forgotten}
-use Rattle.executor_core.specs.Cells.{Table}
-use Rattle.executor_core.specs.Cells.Calls.{IsTaken}
-use Rattle.executor_core.specs.declared.task.values.Taken.{Taken}
+use Rattle.executor_core.specs.World.Phases.{at_rest, in_search, in_sleep, in_wake, has_ended, is_over, notices_in, ticker_or, is_awake, is_run, new_ticker}
+use Rattle.executor_core.specs.World.Tickers.{runner_of, has_queue, may_register, may_search, may_go, polled, searched, slept, rested, woke, dropped as dropped_ticker, ended, stored, left, forgotten}
 use Rattle.executor_core.specs.Queues.{QueueLists, search_global, search, search_any, fair, fair_count, registered, unregistered, entries_of, local_entries, emptied}
 use Rattle.executor_core.specs.declared.interleave.entry.TaskInfo.{TaskInfo}
 use Rattle.executor_core.specs.declared.interleave.ticker.Ticker.{Ticker}
@@ -243,11 +241,6 @@ module _ {T : Type 0} where
 abbrev pub found_by : Option ℕ → ℕ → QueueLists ℕ → Option ℕ × QueueLists ℕ
 found_by None word q = search_global q
 found_by (Some r) word q = search r word q
-
--- the task is the one that was found
-pub record TakesTask {P T W : Type 0} (table : Table P T W) (found : Option ℕ) (task : Taken P) : Type 0 where
-  pub taken : IsTaken table task
-  pub number : found ≡ Some task.id.number
 
 -- the rows of the tickers
 module _ {T : Type 0} where

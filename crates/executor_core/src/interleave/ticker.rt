@@ -22,7 +22,8 @@
 
 ghost use Rattle.std.specs.Prelude.{◌≡◌, ◌||◌, not, nat_lt, map, slice_get, slice_set};
 ghost use Rattle.std.specs.List.{list_any};
-ghost use Rattle.executor_core.specs.World.Tickers.{at_rest, is_over, is_awake, is_run, has_ended, notices_in, ticker_or, new_ticker, after_task, polled, searched, slept, rested, woke, dropped, ended, stored, left, forgotten};
+ghost use Rattle.executor_core.specs.World.Phases.{at_rest, is_over, is_awake, is_run, has_ended, notices_in, ticker_or, new_ticker};
+ghost use Rattle.executor_core.specs.World.Tickers.{after_task, polled, searched, slept, rested, woke, dropped, ended, stored, left, forgotten};
 
 /// Which step of a ticker comes next.
 #[derive(Debug, Clone, Copy, PartialEq)]

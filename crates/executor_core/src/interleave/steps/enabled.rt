@@ -3,7 +3,8 @@ ghost use Rattle.std.specs.Prelude.{◌≡◌, ◌&&◌, ◌||◌, not, is_some}
 ghost use Rattle.executor_core.specs.World.Log.{held};
 ghost use Rattle.executor_core.specs.World.Promises.{holds};
 ghost use Rattle.executor_core.specs.World.Steps.{info, ticker, some_held, may_close, enabled};
-ghost use Rattle.executor_core.specs.World.Tickers.{at_rest, is_awake, has_queue, is_new_run, may_register, may_search, may_go};
+ghost use Rattle.executor_core.specs.World.Phases.{at_rest, is_awake};
+ghost use Rattle.executor_core.specs.World.Tickers.{has_queue, is_new_run, may_register, may_search, may_go};
 
 use crate::interleave::World;
 use crate::interleave::entry::{find_info, some_out};

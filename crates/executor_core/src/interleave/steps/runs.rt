@@ -3,7 +3,8 @@
 //! A run takes its ring, its sleeper's place and its runner's place as it is made. It registers its
 //! runner before its first poll, and unregisters it before its drop.
 ghost use Rattle.std.specs.Prelude.{◌≡◌, ◌≢◌, ◌&&◌, true, false, None, slice_index_or, slice_set};
-ghost use Rattle.executor_core.specs.World.Tickers.{at_rest, has_queue, may_register};
+ghost use Rattle.executor_core.specs.World.Phases.{at_rest};
+ghost use Rattle.executor_core.specs.World.Tickers.{has_queue, may_register};
 ghost use Rattle.executor_core.specs.World.Steps.{ticker, row, Makes, run_row, register_row, fair_row, unregister_row};
 
 use crate::interleave::World;

@@ -9,8 +9,10 @@ ghost use Rattle.executor_core.specs.Cells.Law.{queues_of};
 ghost use Rattle.executor_core.specs.Sleepers.{SleeperLaw, is_notified_number};
 ghost use Rattle.executor_core.specs.Sleepers.Calls.{after_remove};
 ghost use Rattle.executor_core.specs.World.Promises.{holds};
-ghost use Rattle.executor_core.specs.World.Tickers.{at_rest, in_search, in_sleep, in_wake, is_awake, is_new_run, may_search, may_go};
-ghost use Rattle.executor_core.specs.World.Steps.{ticker, row, Makes, tick_row, found_by, TakesTask, poll_row, search_row, sleep_row, insert_row, update_row, yield_row, remove_row, store_row, drop_row};
+ghost use Rattle.executor_core.specs.World.Phases.{at_rest, in_search, in_sleep, in_wake, is_awake};
+ghost use Rattle.executor_core.specs.World.Tickers.{is_new_run, may_search, may_go};
+ghost use Rattle.executor_core.specs.World.Steps.{ticker, row, Makes, tick_row, found_by, poll_row, search_row, sleep_row, insert_row, update_row, yield_row, remove_row, store_row, drop_row};
+ghost use Rattle.executor_core.specs.World.Takes.{TakesTask};
 
 use crate::interleave::World;
 use crate::interleave::reply::{Reply, reply_of_removal};

@@ -2,7 +2,7 @@ use Rattle.std.proofs.Common.{◌≡◌, ℕ, ◌+◌, ◌<◌, ◌≤◌, List,
 use Rattle.std.proofs.lemmas.List.{take_all}
 use Rattle.std.proofs.lemmas.List.Sums.{sum_by_more, sum_by-take-le}
 use Rattle.std.specs.Prelude.{sum_by}
-use Rattle.executor_core.specs.World.Tickers.{notices_in}
+use Rattle.executor_core.specs.World.Phases.{notices_in}
 use Rattle.executor_core.specs.declared.interleave.ticker.Ticker.{Ticker}
 use Rattle.executor_core.proofs.World.Room.{notices_fit}
 use Rattle.executor_core.proofs.interleave.World.notices.Goals as goal

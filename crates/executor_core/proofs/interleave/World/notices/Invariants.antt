@@ -1,6 +1,6 @@
 use Rattle.std.proofs.Common.{◌≡◌, ◌+◌, take}
 use Rattle.std.specs.Prelude.{sum_by}
-use Rattle.executor_core.specs.World.Tickers.{notices_in}
+use Rattle.executor_core.specs.World.Phases.{notices_in}
 use Rattle.executor_core.proofs.interleave.World.notices.Given as goal
 
 abbrev pub invariant-loop-ticker : goal.invariant-loop-ticker

@@ -1,6 +1,6 @@
 use Rattle.std.proofs.Common.{◌∙◌, ◌+◌, cond, sym, ap}
 use Rattle.std.specs.Prelude.{nat_lt}
-use Rattle.executor_core.specs.World.Tickers.{has_ended}
+use Rattle.executor_core.specs.World.Phases.{has_ended}
 use Rattle.executor_core.proofs.World.Room.{count_fits, notice_fits}
 use Rattle.executor_core.proofs.World.TickerSteps.{store_on, store_ended}
 use Rattle.executor_core.proofs.interleave.World.store.Goals as goal

@@ -1,6 +1,6 @@
 use Rattle.std.proofs.Common.{◌≡◌, ◌||◌, not, false, take}
 use Rattle.std.specs.List.{list_any}
-use Rattle.executor_core.specs.World.Tickers.{at_rest, is_over}
+use Rattle.executor_core.specs.World.Phases.{at_rest, is_over}
 use Rattle.executor_core.proofs.interleave.ticker.some_busy.Given as goal
 
 abbrev pub invariant-loop-ticker : goal.invariant-loop-ticker
