@@ -3,20 +3,22 @@
 //!
 //! A change polls nothing of a task, drops nothing and wakes nobody: what is to be dropped or woken is
 //! part of its answer.
-ghost use Rattle.std.specs.Prelude.{◌≡◌, IfErr};
+ghost use Rattle.std.specs.Prelude.{◌≡◌, false, IfErr};
 ghost use Rattle.executor_core.specs.SpawnError.{refused_future};
 ghost use Rattle.async_executor.specs.LeftOver.{IsHeldRight, IsLeftRight, IsEndRight};
 
 use crate::home::{Home, OutIn, OutputIn, Shareable, store};
-use crate::left_over::{EndThenSearch, LeftOver, finished, in_vain};
+use crate::left_over::{EndThenSearch, LeftOver, finished};
+use crate::runner::Words;
 use crate::state::{ExecutorState, cells};
 use crate::store::Store;
 use crate::waker::{LentWake, TaskWaker};
 use executor_core::queue::RunnerKey;
 use executor_core::task::{
-    Again, Cells, EndPending, EndReady, Notice, PollHandle, Ran, SpawnError, Taken, TaskId,
+    Cells, EndPending, EndReady, Held, Notice, PollHandle, Ran, SpawnError, Taken, TaskId,
+    Wakeup,
 };
-use std::sync::Arc;
+use std::sync::{Arc, MutexGuard};
 
 /// Makes a task of this future and keeps the future. Its place is made before the task is queued.
 /// Where that is refused, all is as before.
@@ -45,28 +47,18 @@ pub(crate) fn spawn<H: Shareable>(
     }
 }
 
+/// Makes room for so many tasks more, if there is memory for it: else each spawn makes its own.
+pub(crate) fn reserve<H: Home>(home: &H, tasks: usize) {
+    let mut store = store!(home);
+    let _places = store.get().reserve_places(tasks);
+    let _cells = cells!(home.state()).reserve(tasks);
+}
+
 /// Takes the future of the task out, with the waker to poll it with.
 #[inline(always)]
 pub(crate) fn take<H: Home>(home: &H, id: TaskId) -> OutIn<H> {
     let mut store = store!(home);
     store.get().take(id)
-}
-
-/// Takes a task for a runner, and then its future out. A search in vain does not ask for the store.
-#[inline(always)]
-pub(crate) fn search<H: Home>(
-    home: &H,
-    key: RunnerKey,
-    word: u64,
-    again: Option<Again>,
-    out: &mut OutIn<H>,
-) -> Option<(Taken<()>, Notice)> {
-    let found = cells!(home.state()).search(key, word, again);
-    if let Some((taken, _)) = &found {
-        // Nobody else takes the future of a task that was taken.
-        *out = take(home, taken.id());
-    }
-    found
 }
 
 /// Ends a task that was run, and keeps its future or its output, where the handle wants it. There is
@@ -86,7 +78,8 @@ pub(crate) fn end<H: Home>(
     store.get().end(&mut cells, id, ran, out)
 }
 
-/// Ends a task that was run, and takes the next one for a runner, and its future out.
+/// Ends a task that was run, and takes the next one for a runner, and its future out. The search takes
+/// one word.
 #[inline(always)]
 pub(crate) fn end_then_search<H: Home>(
     home: &H,
@@ -94,26 +87,14 @@ pub(crate) fn end_then_search<H: Home>(
     ran: Ran<(), OutputIn<H>>,
     out: &mut OutIn<H>,
     key: RunnerKey,
-    word: u64,
+    words: &mut Words,
 ) -> EndThenSearch<H::Waker, OutputIn<H>>
     requires { IsHeldRight ran }
     ensures { IsEndRight result }
 {
-    let mut guard = store!(home);
-    let store = guard.get();
-    let mut cells = cells!(home.state());
-    match store.end(&mut cells, id, ran, out) {
-        Ok(notice) => {
-            let found = cells.search(key, word, None);
-            drop(cells);
-            store.take_found(&found, out);
-            EndThenSearch::Searched(notice, found)
-        }
-        // No task is taken before the awaiter of the last one is woken, which may take long. If there
-        // is none, that wake need not come first: what it queues is found as the run goes to sleep.
-        Err(left) if is_unscheduled(&cells) => in_vain(left),
-        Err(left) => EndThenSearch::Left(left),
-    }
+    let mut store = store!(home);
+    let cells = cells!(home.state());
+    store.get().end_then_search(cells, id, ran, out, key, words)
 }
 
 // Whether no queue has a task, so that a search is in vain.
@@ -152,42 +133,29 @@ pub(crate) fn take_ended<H: Home>(
 // Ends the handle of a task that has ended, where the store was not free.
 #[cold]
 #[inline(never)]
-fn wait_and_take_ended<H: Home>(home: &H, id: TaskId) -> (Option<OutputIn<H>>, Option<H::Waker>) {
+pub(crate) fn wait_and_take_ended<H: Home>(home: &H, id: TaskId) -> (Option<OutputIn<H>>, Option<H::Waker>) {
     let mut store = store!(home);
     let mut cells = cells!(home.state());
     store.get().take_ended(&mut cells, id)
 }
 
-/// Asks the handle of a task for its output, and leaves the waker where there is no answer.
+/// Leaves this waker at the handle of a task, in place of an earlier one, which comes out. Where the
+/// handle has an answer, this one comes back.
 #[inline(always)]
-pub(crate) fn poll_handle<H: Home>(
+pub(crate) fn await_handle<H: Home>(
     home: &H,
     id: TaskId,
     waker: H::Waker,
-) -> PollHandle<Option<OutputIn<H>>, H::Waker> {
+) -> Result<Option<H::Waker>, H::Waker> {
     let mut cells = cells!(home.state());
     if cells.is_ended(id) {
-        drop(cells);
-        return poll_handle_of_ended(home, id, waker);
+        return Err(waker);
     }
     match cells.poll_handle(id, waker) {
-        PollHandle::Pending(before) => PollHandle::Pending(before),
-        PollHandle::Cancelled(waker) => PollHandle::Cancelled(waker),
+        PollHandle::Pending(before) => Ok(before),
+        PollHandle::Cancelled(waker) => Err(waker),
         PollHandle::Output((), _) => unreachable!(),
     }
-}
-
-// Asks the handle of a task that has ended, since its waker was copied.
-#[cold]
-#[inline(never)]
-fn poll_handle_of_ended<H: Home>(
-    home: &H,
-    id: TaskId,
-    waker: H::Waker,
-) -> PollHandle<Option<OutputIn<H>>, H::Waker> {
-    let (output, left) = wait_and_take_ended(home, id);
-    drop(left);
-    PollHandle::Output(output, waker)
 }
 
 /// The future of a task while it is out, with the waker that it is polled with.
@@ -199,14 +167,6 @@ impl<F: Drop, W: Drop, R: Drop, T: Drop> Store<F, Arc<ExecutorState<W, R>>, T> {
     pub(crate) fn take(&mut self, id: TaskId) -> Out<F, W, R> {
         let (future, state) = self.take_future(id)?;
         Some((future, TaskWaker::lent(state, id)))
-    }
-
-    // Takes the future of a task that was found out, where none is out any more.
-    #[inline(always)]
-    fn take_found(&mut self, found: &Option<(Taken<()>, Notice)>, out: &mut Out<F, W, R>) {
-        if let Some((taken, _)) = found {
-            *out = self.take(taken.id());
-        }
     }
 
     // Ends the handle of a task that has ended. Its output comes out, and a waker that was left.
@@ -232,37 +192,106 @@ impl<F: Drop, W: Drop, R: Drop, T: Drop> Store<F, Arc<ExecutorState<W, R>>, T> {
         ensures { IfErr result (λ left. IsLeftRight left) }
     {
         match ran {
-            Ran::Pending(held, ()) => {
-                // The wake comes before the end, which queues the task again if it was woken meanwhile.
-                let wake = match self.put_back(id, out) {
-                    Ok(wake) => wake,
-                    Err(wake) => {
-                        return Err(match wake.make(id, cells) {
-                            Some(notice) => LeftOver::Woken(held, notice),
-                            None => LeftOver::Refused(held),
-                        });
-                    }
-                };
-                if let Some(notice) = wake.make(id, cells) {
-                    return Err(LeftOver::Woken(held, notice));
-                }
-                match cells.end_pending(held, ()) {
-                    EndPending::Back(notice) => Ok(notice),
-                    EndPending::Drop((), held) => Err(LeftOver::ToDrop(held)),
-                }
-            }
+            Ran::Pending(held, ()) => self.end_pending(cells, id, held, out),
             Ran::Ready(held, output) => {
-                // The table says whether a handle wants the output. Nobody else sees it before both
-                // agree: the store is locked.
-                let EndReady { awaiter, unwanted } = cells.end_ready(held, ());
-                let unwanted = match unwanted {
-                    Some(()) => Some(output),
-                    None => self.keep_output(id, output),
-                };
+                let (unwanted, awaiter) = self.end_ready(cells, id, held, output);
                 finished(unwanted, awaiter)
             }
             Ran::Dropped(held) => finished(None, cells.end_dropped(held)),
         }
+    }
+
+    // Ends a task that was run, and takes the next one for a runner, and its future out.
+    #[inline(always)]
+    fn end_then_search(
+        &mut self,
+        cells: MutexGuard<'_, Cells<(), (), W>>,
+        id: TaskId,
+        ran: Ran<(), T>,
+        out: &mut Out<F, W, R>,
+        key: RunnerKey,
+        words: &mut Words,
+    ) -> EndThenSearch<W, T>
+        requires { IsHeldRight ran }
+        ensures { IsEndRight result }
+    {
+        let mut cells = cells;
+        let ended = match ran {
+            Ran::Pending(held, ()) => self.end_pending(&mut cells, id, held, out),
+            Ran::Ready(held, output) => match self.end_ready(&mut cells, id, held, output) {
+                // No task is taken before the awaiter of the last one is woken, which may take long. If
+                // there is none, that wake need not come first: what it queues is found as the run goes
+                // to sleep.
+                (None, Some(awaiter)) if is_unscheduled(&cells) => {
+                    return EndThenSearch::InVain(awaiter);
+                }
+                (unwanted, awaiter) => finished(unwanted, awaiter),
+            },
+            Ran::Dropped(held) => finished(None, cells.end_dropped(held)),
+        };
+        let notice = match ended {
+            Ok(notice) => notice,
+            Err(left) => return EndThenSearch::Left(left),
+        };
+        let found = cells.search(key, words.next(), None);
+        drop(cells);
+        if let Some((taken, _)) = &found {
+            *out = self.take(taken.id());
+        }
+        EndThenSearch::Searched(notice, found)
+    }
+
+    // Ends a task whose poll was pending, and keeps its future.
+    #[inline(always)]
+    fn end_pending(
+        &mut self,
+        cells: &mut Cells<(), (), W>,
+        id: TaskId,
+        held: Held,
+        out: &mut Out<F, W, R>,
+    ) -> Result<Option<Notice>, LeftOver<W, T>>
+        requires { held.to_drop ≡ false }
+        ensures { IfErr result (λ left. IsLeftRight left) }
+    {
+        // The wake comes before the end, which queues the task again if it was woken meanwhile.
+        let wake = match self.put_back(id, out) {
+            Ok(wake) => wake,
+            Err(wake) => {
+                return Err(match wake.make(id, cells) {
+                    Some(notice) => LeftOver::Woken(held, notice),
+                    None => LeftOver::Refused(held),
+                });
+            }
+        };
+        if let Some(notice) = wake.make(id, cells) {
+            return Err(LeftOver::Woken(held, notice));
+        }
+        match cells.end_pending(held, ()) {
+            EndPending::Back(notice) => Ok(notice),
+            EndPending::Drop((), held) => Err(LeftOver::ToDrop(held)),
+        }
+    }
+
+    // Ends a task that gave this output, and keeps it if the handle wants it. What is to be dropped
+    // comes out, and whom to wake.
+    #[inline(always)]
+    fn end_ready(
+        &mut self,
+        cells: &mut Cells<(), (), W>,
+        id: TaskId,
+        held: Held,
+        output: T,
+    ) -> (Option<T>, Option<Wakeup<W>>)
+        requires { held.to_drop ≡ false }
+    {
+        // The table says whether a handle wants the output. Nobody else sees it before both agree: the
+        // store is locked.
+        let EndReady { awaiter, unwanted } = cells.end_ready(held, ());
+        let unwanted = match unwanted {
+            Some(()) => Some(output),
+            None => self.keep_output(id, output),
+        };
+        (unwanted, awaiter)
     }
 
     // Puts a future that was out back. An error says that it has no place, and is still out. The wake

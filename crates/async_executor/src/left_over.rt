@@ -1,6 +1,6 @@
 //! What the end of a task leaves to do once no lock is held.
 ghost use Rattle.std.specs.Prelude.{IfErr};
-ghost use Rattle.async_executor.specs.LeftOver.{IsEndRight, IsLeftRight};
+ghost use Rattle.async_executor.specs.LeftOver.{IsLeftRight};
 
 use executor_core::task::{Held, Notice, Taken, Wakeup};
 
@@ -38,21 +38,5 @@ pub(crate) fn finished<W, T>(
     match (unwanted, awaiter) {
         (None, None) => Ok(None),
         (unwanted, awaiter) => Err(LeftOver::Finished(unwanted, awaiter)),
-    }
-}
-
-/// What came of an end that leaves this, if no task is scheduled. What is dropped may schedule one, so
-/// a search comes after that.
-#[inline(always)]
-pub(crate) fn in_vain<W, T>(left: LeftOver<W, T>) -> EndThenSearch<W, T>
-    requires { IsLeftRight left }
-    ensures { IsEndRight result }
-{
-    match left {
-        LeftOver::Finished(unwanted, awaiter) => match (unwanted, awaiter) {
-            (None, Some(awaiter)) => EndThenSearch::InVain(awaiter),
-            (unwanted, awaiter) => EndThenSearch::Left(LeftOver::Finished(unwanted, awaiter)),
-        },
-        left => EndThenSearch::Left(left),
     }
 }

@@ -48,6 +48,14 @@ impl<F: Drop, S: Drop, T: Drop> Store<F, S, T> {
         Ok(())
     }
 
+    /// Makes places for this many tasks more.
+    pub(crate) fn reserve_places(&mut self, tasks: usize) -> Result<(), OutOfMemory>
+        ensures { self.new.places.items ≡ self.old.places.items }
+    {
+        self.places.try_reserve(tasks)?;
+        Ok(())
+    }
+
     /// Gives a new task its place: that of an earlier task, or the next one. Slots are given in
     /// order.
     pub(crate) fn insert(&mut self, id: TaskId, future: F, share: S)

@@ -6,10 +6,10 @@
 ghost use Rattle.std.specs.Prelude.{◌≡◌, false, IsTrue};
 ghost use Rattle.async_executor.specs.Answers.{is_ready, IsReadyErr, IsReadyNone};
 
-use crate::changes::{poll_handle, take_ended};
+use crate::changes::{await_handle, take_ended, wait_and_take_ended};
 use crate::home::{Home, OutputIn};
 use crate::state::{announce, cells};
-use executor_core::task::{Future, Poll, PollHandle, TaskId, Wake};
+use executor_core::task::{Future, Poll, TaskId, Wake};
 use thiserror::Error;
 
 /// A task has no output to give: it was cancelled, or its handle has answered before.
@@ -106,13 +106,15 @@ impl<H: Home> Future<H::Waker> for TaskIn<H> {
             w.wake();
             return Poll::Pending;
         };
-        let output = match poll_handle(&self.home, self.id, waker) {
-            PollHandle::Pending(_) => return Poll::Pending,
-            PollHandle::Output(output, _) => output,
-            PollHandle::Cancelled(_) => None,
-        };
-        self.answered = true;
-        Poll::Ready(output.ok_or(Cancelled))
+        match await_handle(&self.home, self.id, waker) {
+            Ok(_) => Poll::Pending,
+            // It has ended since.
+            Err(_) => {
+                self.answered = true;
+                let (output, _) = wait_and_take_ended(&self.home, self.id);
+                Poll::Ready(output.ok_or(Cancelled))
+            }
+        }
     }
 }
 

@@ -14,11 +14,11 @@ ghost use Rattle.async_executor.specs.Steps.{actor_going};
 ghost use Rattle.async_executor.specs.LeftOver.{IsHeldRight, IsLeftRight};
 
 use crate::changes;
-use crate::home::{Home, OutIn, OutputIn};
+use crate::home::{Home, OutIn, OutputIn, store};
 use crate::left_over::{EndThenSearch, LeftOver};
 use crate::machine::{
     Begun, Dropped, GoingToSleep, NotRegistered, OwnPolled, PollingOwn, Registering, RunMachine,
-    RunRest, Runner, Running, Searching, Sharing, Started, UnderWay, Unregistering, Yielding,
+    RunRest, Runner, Running, Searching, Started, Unregistering, Yielding,
 };
 use crate::runner::words::Words;
 use crate::scheduler::{ExecutorIn, poll_taken};
@@ -26,8 +26,8 @@ use crate::state::{announce, cells};
 use crate::ticker::{Slept, announce_found, leave, sleep};
 use executor_core::limits::Limits;
 use executor_core::queue::{Ring, RunnerError, RunnerKey};
-use executor_core::task::{Again, Future, Notice, Poll, Ran, Taken, TaskId, Wake};
-use std::sync::Wait;
+use executor_core::task::{Again, Cells, Future, Notice, Poll, Ran, Taken, TaskId, Wake};
+use std::sync::{MutexGuard, Wait};
 use thiserror::Error;
 
 /// Why there is no run, with the future that it was to run. Nothing else changed.
@@ -124,12 +124,20 @@ struct Driver<'x, 'y, H: Home, G: Drop> {
 }
 
 impl<'x, 'y, H: Home, G: Drop> Driver<'x, 'y, H, G> {
-    // Searches for a task. Each search takes one word.
+    // Searches for a task, and takes its future out. Each search takes one word. One in vain does not
+    // ask for the store.
+    #[inline(always)]
     fn search(&mut self, again: Option<Again>) -> Option<(Taken<()>, Notice)> {
         let own = &mut *self.own;
         let word = own.words.next();
         let home = self.executor.home();
-        changes::search(home, self.key, word, again, &mut self.out)
+        let found = cells!(home.state()).search(self.key, word, again);
+        if let Some((taken, _)) = &found {
+            // Nobody else takes the future of a task that was taken.
+            let mut store = store!(home);
+            self.out = store.get().take(taken.id());
+        }
+        found
     }
 
     // Runs a task, and those that are found after it, until none is found or the turn is over. It is
@@ -144,7 +152,10 @@ impl<'x, 'y, H: Home, G: Drop> Driver<'x, 'y, H, G> {
         for _ in self.executor.state().rt().forever() {
             let (under_way, taken) = match running.start() {
                 Started::Run(under_way, taken) => (under_way, taken),
-                Started::Share(sharing) => self.share(sharing),
+                Started::Share(sharing) => {
+                    let mut cells = cells_for_a_share(self.executor);
+                    sharing.make(&mut cells)
+                }
             };
             let id = taken.id();
             let ran = poll_taken::<H>(taken, &mut self.out);
@@ -167,16 +178,6 @@ impl<'x, 'y, H: Home, G: Drop> Driver<'x, 'y, H, G> {
         unreachable!()
     }
 
-    // Takes the fair part that is due.
-    #[cold]
-    #[inline(never)]
-    fn share(&self, sharing: Sharing) -> (UnderWay, Taken<()>)
-        ensures { fixed result.0.runner ≡ fixed sharing.runner }
-    {
-        let mut cells = cells!(self.executor.state());
-        sharing.make(&mut cells)
-    }
-
     // Ends the task and searches for the next one.
     #[inline(always)]
     fn end_then_search(
@@ -187,9 +188,8 @@ impl<'x, 'y, H: Home, G: Drop> Driver<'x, 'y, H, G> {
         requires { IsHeldRight ran }
     {
         let own = &mut *self.own;
-        let word = own.words.next();
         let home = self.executor.home();
-        match changes::end_then_search(home, id, ran, &mut self.out, self.key, word) {
+        match changes::end_then_search(home, id, ran, &mut self.out, self.key, &mut own.words) {
             EndThenSearch::Searched(None, found) => found,
             EndThenSearch::Searched(Some(notice), found) => {
                 announce!(self.executor.state(), notice);
@@ -200,26 +200,34 @@ impl<'x, 'y, H: Home, G: Drop> Driver<'x, 'y, H, G> {
                 awaiter.wake();
                 None
             }
-            EndThenSearch::Left(left) => self.finish_then_search(id, left, word),
+            EndThenSearch::Left(left) => self.finish_then_search(id, left),
         }
     }
 
-    // Does what the end of a task has left to do, and searches for the next one with this word.
+    // Does what the end of a task has left to do, and searches for the next one.
     #[cold]
     #[inline(never)]
     fn finish_then_search(
         &mut self,
         id: TaskId,
         left: LeftOver<H::Waker, OutputIn<H>>,
-        word: u64,
     ) -> Option<(Taken<()>, Notice)>
         requires { IsLeftRight left }
     {
         // Its drop and its wake come before the search, which they may queue something for.
         self.out = None;
         self.executor.finish(id, left);
-        changes::search(self.executor.home(), self.key, word, None, &mut self.out)
+        self.search(None)
     }
+}
+
+// The table, for the fair part that is due, which it seldom is.
+#[cold]
+#[inline(never)]
+fn cells_for_a_share<H: Home>(
+    executor: &ExecutorIn<H>,
+) -> MutexGuard<'_, Cells<(), (), H::Waker>> {
+    cells!(executor.state())
 }
 
 // Runs tasks until none is found and the run sleeps, or its turn is over.
@@ -307,30 +315,36 @@ fn end<H: Home>(executor: &ExecutorIn<H>, unregistering: Unregistering) -> RunRe
     departing.departed()
 }
 
-// Polls a run that has not ended.
-fn poll_once<H: Home, G: Future<H::Waker>>(
-    executor: &ExecutorIn<H>,
-    rest: RunRest,
-    own: &mut Own<G>,
-    w: &H::Waker,
-) -> (RunRest, Poll<G::Output>)
-    requires { has_ended rest ≡ false }
-    ensures fixed { fixed result.0.runner ≡ fixed rest.runner }
-    ensures ended { has_ended result.0 ≡ is_ready result.1 }
-{
-    let key = rest.key();
-    let polling = match rest.begin() {
-        Begun::PollOwn(polling) => polling,
-        Begun::Register(registering) => match register(executor, own, registering) {
-            Ok(polling) => polling,
-            Err(refused) => return (refused.wake(w), Poll::Pending),
-        },
-    };
-    match polling.poll(&mut own.future, w) {
-        OwnPolled::Ready(output, unregistering) => {
-            (end(executor, unregistering), Poll::Ready(output))
+impl<H: Home, G: Future<H::Waker>> RunIn<'_, H, G> {
+    // Polls a run that has not ended.
+    fn poll_once(&mut self, w: &H::Waker) -> Poll<G::Output>
+        requires { has_ended self.old.rest ≡ false }
+        ensures fixed { fixed self.new.rest.runner ≡ fixed self.old.rest.runner }
+        ensures ended { has_ended self.new.rest ≡ is_ready result }
+    {
+        let executor = self.executor;
+        let own = &mut self.own;
+        let key = self.rest.key();
+        let polling = match self.rest.begin() {
+            Begun::PollOwn(polling) => polling,
+            Begun::Register(registering) => match register(executor, own, registering) {
+                Ok(polling) => polling,
+                Err(refused) => {
+                    self.rest = refused.wake(w);
+                    return Poll::Pending;
+                }
+            },
+        };
+        match polling.poll(&mut own.future, w) {
+            OwnPolled::Ready(output, unregistering) => {
+                self.rest = end(executor, unregistering);
+                Poll::Ready(output)
+            }
+            OwnPolled::Pending(searching) => {
+                self.rest = work(executor, key, own, searching, w);
+                Poll::Pending
+            }
         }
-        OwnPolled::Pending(searching) => { (work(executor, key, own, searching, w), Poll::Pending) }
     }
 }
 
@@ -351,9 +365,7 @@ impl<H: Home, G: Future<H::Waker>> Future<H::Waker> for RunIn<'_, H, G> {
             w.wake();
             return Poll::Pending;
         }
-        let (rest, polled) = poll_once(self.executor, self.rest, &mut self.own, w);
-        self.rest = rest;
-        polled
+        self.poll_once(w)
     }
 }
 

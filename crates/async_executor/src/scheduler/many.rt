@@ -4,6 +4,7 @@ ghost use Rattle.std.specs.Iterator.{IsFinite};
 ghost use Rattle.executor_core.specs.SpawnError.{refused_future};
 ghost use Rattle.async_executor.specs.SpawnMany.{spawn_cause, spawned, SpawnsInTurn, AddsHandles};
 
+use crate::changes;
 use crate::home::{Home, Shareable};
 use crate::scheduler::ExecutorIn;
 use crate::task::TaskIn;
@@ -66,6 +67,17 @@ pub trait Handle<H: Home>: Drop {
         ensures { answered result ≡ task.answered };
 }
 
+// Makes room for as many handles as the iterator is sure to give, if there is memory for it, and says
+// how many these are.
+fn expect_handles<T, I: Iterator>(handles: &mut Vec<T>, futures: &I) -> usize
+    ensures items { handles.new.items ≡ handles.old.items }
+    ensures len { vec_len handles.new ≡ vec_len handles.old }
+{
+    let (tasks, _) = futures.size_hint();
+    let _room = handles.try_reserve(tasks);
+    tasks
+}
+
 impl<H: Shareable> ExecutorIn<H> {
     /// Schedules each future that the iterator gives as a new task, and puts its handle at the end
     /// of the Vec. No lock is held while the iterator is asked.
@@ -80,6 +92,8 @@ impl<H: Shareable> ExecutorIn<H> {
         ensures handles { AddsHandles T.answered handles.old.items (spawned result) handles.new.items }
         ensures room { IfErr result (λ e. IfNone e.refused (vec_len handles.new ≡ vec_capacity handles.new)) }
     {
+        let tasks = expect_handles(handles, &futures);
+        changes::reserve(self.home(), tasks);
         let before = handles.len();
         loop {
             let spawned = handles.len() - before;

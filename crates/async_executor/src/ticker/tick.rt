@@ -134,6 +134,7 @@ fn notified_number<W: Wake, R: Wait + Clone + Drop>(state: &ExecutorState<W, R>)
 
 // Takes the sleeper of this number out of the list, and stores the flag before the list's lock is
 // given up. There is a notice if it was notified.
+#[inline(always)]
 fn remove<W: Wake, R: Wait + Clone + Drop>(
     state: &ExecutorState<W, R>,
     number: usize,

@@ -7,7 +7,7 @@
 //! A runner finds its queue where it stood the last time: `positions` keeps that for each runner,
 //! and is only a hint. If the queue stands there no more, since another runner left, it is looked
 //! for.
-ghost use Rattle.std.specs.Prelude.{◌≡◌, ◌≢◌, ◌+◌, ◌-◌, ◌<◌, ◌≤◌, ◌^◌, ◌↔◌, ◌&&◌, ◌∷◌, ◌++◌, nat_lt, not, true, false, is_some, cond, [], Some, None, ◌==◌, map, drop, IfOk, IfErr, IsOk, IsErr, OnOk, OnErr, length, option_copied, option_map, unwrap_or, slice_get, slice_index_or, slice_set};
+ghost use Rattle.std.specs.Prelude.{◌≡◌, ◌≢◌, ◌+◌, ◌-◌, ◌<◌, ◌%◌, ◌≤◌, ◌^◌, ◌↔◌, ◌&&◌, ◌∷◌, ◌++◌, nat_lt, not, true, false, is_some, cond, [], Some, None, ◌==◌, map, drop, IfOk, IfErr, IsOk, IsErr, OnOk, OnErr, length, option_copied, option_map, unwrap_or, slice_get, slice_index_or, slice_set};
 ghost use Rattle.std.specs.List.{position, find, range_with_len};
 ghost use Rattle.executor_core.specs.SpawnError.{last_number};
 ghost use Rattle.executor_core.specs.Queues.{position_of, is_registered, search_global, search, search_any, first_occupied, gives, victim, fair, fair_count, registered, unregistered, unregistered_at, stolen_between, stolen_locals, global_stolen, stolen, with_entries, entries_at, capacity_at, entries_of, emptied, local_entries, gathered};
@@ -111,6 +111,13 @@ impl<P, T, W> Queues<P, T, W> {
         ensures value { slice_index_or self.old.slots id.slot None ≡ Some (numbered id result.now) }
     {
         self.slots.cell_mut(id)
+    }
+
+    // Room for this many cells more.
+    pub(crate) fn reserve(&mut self, cells: usize) -> Result<(), AllocError>
+        ensures { self.new ≡ self.old }
+    {
+        self.slots.reserve(cells)
     }
 
     // Makes the cell of a new task of this future, and queues the task at the global end. Where a
@@ -386,6 +393,17 @@ impl<P, T, W> Queues<P, T, W> {
     }
 }
 
+// Where a walk with this word starts, over so many queues: one alone needs no division.
+fn start_of(word: u64, count: usize) -> usize
+    requires { 0 < count }
+    ensures { result ≡ word % count }
+{
+    if count == 1 {
+        return 0;
+    }
+    (word % count as u64) as usize
+}
+
 // What a runner does.
 impl<P, T, W> Queues<P, T, W> {
     // Takes the task that the runner's search with this word finds.
@@ -461,7 +479,7 @@ impl<P, T, W> Queues<P, T, W> {
             return None;
         }
         let count = self.locals.len();
-        let start = (word % count as u64) as usize;
+        let start = start_of(word, count);
         match self.find_queued(own, start, count) {
             Some(other) => Some(other),
             None => self.find_queued(own, 0, start),
@@ -486,7 +504,7 @@ impl<P, T, W> Queues<P, T, W> {
         requires { other < length self.now.state.lists.locals }
         ensures { result ≡ gives own self.now.state.lists.locals other }
     {
-        other != own && !self.locals[other].ring.is_empty()
+        !self.locals[other].ring.is_empty() && other != own
     }
 
     // Moves half of the queue at one position to the queue at another.

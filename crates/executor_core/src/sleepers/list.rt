@@ -102,6 +102,8 @@ fn replace_waker<W>(pairs: &mut Vec<(usize, W)>, id: usize, waker: W) -> Update<
 }
 
 // Takes the number's pair out, and gives its waker.
+#[cold]
+#[inline(never)]
 fn remove_waker<W>(pairs: &mut Vec<(usize, W)>, id: usize) -> Option<W>
     ensures items { pairs.new.items ≡ remove_entry (λ k. k == id) pairs.old.items }
     ensures answer { result ≡ lookup (λ k. k == id) pairs.old.items }

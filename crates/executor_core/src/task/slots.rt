@@ -16,7 +16,7 @@ use crate::task::cell::{Cell, Numbered, new_cell};
 use crate::task::id::TaskId;
 use core::mem::replace;
 use slab::Slab;
-use std::alloc::Global;
+use std::alloc::{AllocError, Global};
 use std::cmp::min;
 use std::marker::Model;
 
@@ -105,6 +105,13 @@ impl<P, T, W> Slots<P, T, W> {
         let slot = &mut self.slots[id.slot];
         let entry = &mut slot.entry;
         &mut entry.cell
+    }
+
+    // Room for this many cells more.
+    pub(crate) fn reserve(&mut self, cells: usize) -> Result<(), AllocError>
+        ensures { self.new ≡ self.old }
+    {
+        self.slots.reserve(cells)
     }
 
     // Makes the cell of a new task of this future, and queues it. Where a growth was refused, the
@@ -218,6 +225,9 @@ impl<P, T, W> Slots<P, T, W> {
         ensures queue { self.new ≡ with_queue (drop result self.old.queue) self.old }
         ensures ring { ring.new ≡ record ring.old { ids = ring.old.ids ++ take result self.old.queue } }
     {
+        if self.len == 0 {
+            return 0;
+        }
         let free = ring.capacity() - ring.len();
         let count = min(self.len().div_ceil(2), free);
         self.move_first(ring, count);

@@ -84,6 +84,19 @@ impl<P, T, W> Cells<P, T, W> {
         })
     }
 
+    /// Makes room for this many tasks more, so that their spawns need not ask for it. The table stays as
+    /// it is.
+    ///
+    /// # Errors
+    ///
+    /// `OutOfMemory` where a growth was refused. The spawns then ask for their room.
+    pub fn reserve(&mut self, tasks: usize) -> Result<(), OutOfMemory>
+        ensures { self.new ≡ self.old }
+    {
+        self.queues.reserve(tasks)?;
+        Ok(())
+    }
+
     /// Makes a task of this future, scheduled at the global end, with its handle there.
     ///
     /// # Errors

@@ -6,7 +6,7 @@ use Rattle.async_executor.proofs.scheduler.ExecutorIn.spawn_many.Goals as goal
 
 pub loop-futures-init : goal.loop-futures-init
 loop-futures-init g c =
-    (c.requires.can, c.requires.ends, ([], refl, adds_none g.T.Handle.answered c.args.handles.now.items, omega arith))
+    (c.requires.can, c.requires.ends, ([], refl, rw c.expect_handles-tasks.ensures.items (adds_none g.T.Handle.answered c.args.handles.now.items), omega arith))
 
 pub loop-futures-preserved : goal.loop-futures-preserved
 loop-futures-preserved g c =
