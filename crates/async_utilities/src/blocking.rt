@@ -2,7 +2,7 @@
 ghost use Rattle.std.specs.Prelude.{IfOk};
 ghost use Rattle.async_utilities.specs.Polls.{Gives};
 
-use async_executor::{Future, OutOfMemory, Poll, Wake};
+use async_executor::{Executor, Future, OutOfMemory, Poll, RunError, RunnerError, TaskWaker, Wake};
 use std::alloc::{AllocError, Global};
 use std::sync::{Arc, Wait};
 use std::thread::Parker;
@@ -92,6 +92,40 @@ pub fn block_on<G: Future<ThreadWaker>>(
 ) -> Result<G::Output, AllocError> {
     let mut future = future;
     poll_until_ready(rt, alloc, |w| future.poll(w))
+}
+
+/// Polls the future on this thread until it is ready, gives its output, and runs tasks of the executor
+/// meanwhile: it is `block_on` of a run. The thread parks while the future is not ready and no task is
+/// scheduled.
+///
+/// # Errors
+///
+/// `RunnerError` if memory for the run or for the thread's waker is refused, or no number is left for
+/// the run. The future is dropped then, unpolled.
+///
+/// Example: `uses::runs_here`.
+///
+/// ```text
+/// let task = executor.spawn(future).ok()?;
+/// run_until(rt, alloc, &executor, task).ok()?.ok()
+/// ```
+pub fn run_until<F, G, R>(
+    rt: &R,
+    alloc: Global,
+    executor: &Executor<F, ThreadWaker, R>,
+    future: G,
+) -> Result<G::Output, RunnerError>
+where
+    F: Future<TaskWaker<ThreadWaker, R>>,
+    G: Future<ThreadWaker>,
+    R: Wait + Clone + Drop,
+{
+    let run = match executor.run(future) {
+        Ok(run) => run,
+        Err(RunError::OutOfMemory(_)) => return Err(RunnerError::OutOfMemory),
+        Err(RunError::Exhausted(_)) => return Err(RunnerError::Exhausted),
+    };
+    Ok(block_on(rt, alloc, run)?)
 }
 
 /// Calls the poll on this thread until it is ready, and gives what it gave. The thread parks while

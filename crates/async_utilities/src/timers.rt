@@ -152,7 +152,7 @@ fn until(now: Reading, deadline: u128) -> Duration
 /// ```text
 /// let timer = Timer::new(rt.clone().ok()?, rt.clone().ok()?, alloc).ok()?;
 /// let wanted = timer.timeout(Duration::from_millis(10), Never::new()).ok()?;
-/// let answer = timer.block_on(run).ok()?.ok()?;
+/// timer.block_on(run).ok()
 /// ```
 #[derive(Drop)]
 pub struct Timer<W: Wake, C: Clock + Drop, R: Wait + Drop> {
@@ -274,9 +274,8 @@ impl<W: Wake, C: Clock + Drop, R: Wait + Drop> Timer<W, C, R> {
     /// Example: `uses::times_out`.
     ///
     /// ```text
-    /// let run = executor.run(task).ok()?;
-    /// let answer = timer.block_on(run).ok()?.ok()?;
-    /// Some(answer.is_err())
+    /// let run = executor.run(future).ok()?;
+    /// timer.block_on(run).ok()
     /// ```
     pub fn block_on<G: Future<ThreadWaker>>(&self, future: G) -> Result<G::Output, TimerFailed<G>> {
         let mut future = future;
@@ -368,7 +367,6 @@ impl<W: Wake, R: Wait + Drop> Drop for After<W, R> {
 /// Example: `uses::times_out`.
 ///
 /// ```text
-/// let answer = timer.block_on(run).ok()?.ok()?;
 /// Some(answer.is_err())
 /// ```
 #[derive(Debug, Clone, Copy, PartialEq, Eq, Error)]

@@ -32,7 +32,7 @@ pub use handling::{cancels, cancels_half_way, detaches, drops, falls_back, lets_
 pub use interleaving::interleaves;
 pub use lasting::{keeps, lasts, prints, serves};
 pub use limiting::keeps_turns;
-pub use messaging::sends_to_a_task;
+pub use messaging::{runs_here, sends_to_a_task};
 pub use mixing::{boxes, mixes};
 pub use nesting::nests;
 pub use parking::parks;

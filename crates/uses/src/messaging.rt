@@ -2,7 +2,7 @@
 //! pending while there is no message.
 use crate::common::executor;
 use async_executor::{Executor, Future, Poll, TaskWaker, Wake};
-use async_utilities::{Receiver, Sender, ThreadWaker, block_on, bounded};
+use async_utilities::{Receiver, Sender, ThreadWaker, block_on, bounded, run_until};
 use std::alloc::Global;
 use std::sync::Wait;
 use std::thread::{self, Threads};
@@ -62,8 +62,8 @@ where
     R: Wait + Clone + Drop + Send + Sync,
 {
     let executor: Executor<F, ThreadWaker, R> = executor(rt, alloc)?;
-    let run = executor.run(executor.spawn(future).ok()?).ok()?;
-    block_on(rt, alloc, run).ok()?.ok()
+    let task = executor.spawn(future).ok()?;
+    run_until(rt, alloc, &executor, task).ok()?.ok()
 }
 
 /// Has one thread send twenty numbers, with room for four, and a task that another thread runs add

@@ -23,9 +23,23 @@ where
 {
     let executor: Executor<F, ThreadWaker, R> = executor(rt, alloc)?;
     let task = executor.spawn(wanted).ok()?;
-    let run = executor.run(task).ok()?;
-    let answer = timer.block_on(run).ok()?.ok()?;
-    Some(answer)
+    awaits_in_time(timer, &executor, task)?.ok()
+}
+
+// Awaits a future in a run of the executor, and has times come.
+fn awaits_in_time<F, G, W, R>(
+    timer: &Timer<W, R, R>,
+    executor: &Executor<F, ThreadWaker, R>,
+    future: G,
+) -> Option<G::Output>
+where
+    F: Future<TaskWaker<ThreadWaker, R>>,
+    G: Future<ThreadWaker>,
+    W: Wake,
+    R: Wait + Clock + Clone + Drop,
+{
+    let run = executor.run(future).ok()?;
+    timer.block_on(run).ok()
 }
 
 /// Gives ten milliseconds to a task that never ends, and says whether it was too late.
