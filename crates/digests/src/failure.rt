@@ -3,7 +3,7 @@ ghost use Rattle.std.specs.Prelude.{◌≡◌, ◌<◌};
 ghost use Rattle.digests.specs.Statuses.{status_of};
 
 use crate::cause::Cause;
-use async_executor::{Cancelled, OutOfMemory, RunError, SpawnError};
+use async_executor::{Cancelled, OutOfMemory, RunError, RunnerError, SpawnError};
 use async_utilities::{PoolError, TimerError, TimerFailed};
 use std::alloc::{AllocError, AllocFailed};
 use std::io;
@@ -97,6 +97,15 @@ impl From<TimerError> for Failure {
 impl<G: Drop> From<TimerFailed<G>> for Failure {
     fn from(failed: TimerFailed<G>) -> Failure {
         Failure::from(failed.error)
+    }
+}
+
+impl From<RunnerError> for Failure {
+    fn from(error: RunnerError) -> Failure {
+        match error {
+            RunnerError::OutOfMemory => Failure::OutOfMemory,
+            RunnerError::Exhausted => Failure::Exhausted,
+        }
     }
 }
 

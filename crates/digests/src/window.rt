@@ -4,13 +4,13 @@ use crate::file_digest::{Answer, FileDigest, Shared};
 use crate::progress::Progress;
 use crate::source::{Source, is_input};
 use crate::system::System;
-use async_executor::{Executor, Future, Task, TaskWaker};
-use async_utilities::{ThreadWaker, block_on};
+use async_executor::{Executor, Task};
+use async_utilities::{ThreadWaker, run_until};
 use std::alloc::Global;
 use std::collections::VecDeque;
 use std::io;
 use std::io::Stdin;
-use std::sync::{Arc, Wait};
+use std::sync::Arc;
 
 /// How many tasks are under way at most.
 pub const WINDOW: usize = 64;
@@ -84,26 +84,10 @@ impl<'a, R: System + Send + Sync + 'static> Window<'a, R> {
         let Some(task) = self.tasks.pop_front() else {
             return Ok(None);
         };
-        let rt = &self.shared.rt;
         let answer = match progress {
             Some(progress) => progress.wait(self.executor, task, &self.shared)?,
-            None => await_in_run(rt, self.alloc, self.executor, task)?,
+            None => run_until(&self.shared.rt, self.alloc, self.executor, task)?,
         };
         Ok(Some(answer?))
     }
-}
-
-// Awaits a future, and runs tasks meanwhile.
-fn await_in_run<F, G, R>(
-    rt: &R,
-    alloc: Global,
-    executor: &Executor<F, ThreadWaker, R>,
-    future: G,
-) -> Result<G::Output, Failure>
-where
-    F: Future<TaskWaker<ThreadWaker, R>>,
-    G: Future<ThreadWaker>,
-    R: Wait + Clone + Drop,
-{
-    Ok(block_on(rt, alloc, executor.run(future)?)?)
 }

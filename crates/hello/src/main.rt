@@ -2,17 +2,16 @@
 #![tactic(auto)]
 
 use async_executor::Executor;
-use async_utilities::{Ready, block_on};
+use async_utilities::{Ready, run_until};
 use std::alloc::Global;
 use std::io;
 use std::sync::Wait;
 
-/// Spawns a task and awaits it. The run polls its handle, and runs tasks between the polls.
+/// Spawns a task and awaits it. This thread polls its handle, and runs tasks between the polls.
 fn add<R: Wait + Clone + Drop + Send + Sync>(rt: &R, alloc: Global) -> Option<u64> {
     let executor = Executor::new(rt.clone().ok()?, alloc).ok()?;
     let task = executor.spawn(Ready::new(1 + 2)).ok()?;
-    let run = executor.run(task).ok()?;
-    block_on(rt, alloc, run).ok()?.ok()
+    run_until(rt, alloc, &executor, task).ok()?.ok()
 }
 
 fn main(rt: HostRuntime) -> io::Result<()> {

@@ -4,8 +4,8 @@ ghost use Rattle.std.specs.Prelude.{◌≤◌};
 use crate::band::{Band, Pixels};
 use crate::failure::Failure;
 use crate::picture::Picture;
-use async_executor::Task;
-use async_utilities::{JoinAll, Pool, ThreadWaker, block_on};
+use async_executor::{Cancelled, Task};
+use async_utilities::{JoinAll, Pool, ThreadWaker, run_until};
 use std::alloc::Global;
 use std::sync::Wait;
 use std::thread::Threads;
@@ -45,9 +45,15 @@ fn await_window<R: Wait + Threads + Clone + Drop + Send + Sync + 'static>(
     pool: &Pool<Band, R>,
     tasks: Vec<Handle<R>>,
 ) -> Result<Vec<Pixels>, Failure> {
-    let mut bands = Vec::with_capacity(alloc, tasks.len())?;
-    let run = pool.executor().run(JoinAll::new(alloc, tasks)?)?;
-    for output in block_on(rt, alloc, run)? {
+    let all = JoinAll::new(alloc, tasks)?;
+    let outputs = run_until(rt, alloc, pool.executor(), all)?;
+    drawn(alloc, outputs)
+}
+
+// The bands, if none was given up.
+fn drawn(alloc: Global, outputs: Vec<Result<Pixels, Cancelled>>) -> Result<Vec<Pixels>, Failure> {
+    let mut bands = Vec::with_capacity(alloc, outputs.len())?;
+    for output in outputs {
         let Ok(band) = output else {
             return Err(Failure::Stopped);
         };
