@@ -8,7 +8,8 @@ ghost use Rattle.digests.specs.Digests.{Adds, AddsAtMost, EndsOr, FileHolds, cou
 use crate::blocks::{BLOCK_LEN, Block, Blocks};
 use crate::digesting::{Digesting, Step};
 use crate::source::Source;
-use async_executor::{Future, Poll, Wake};
+use async_executor::{Future, Poll, TaskWaker, Wake};
+use async_utilities::ThreadWaker;
 use std::alloc::{AllocError, Global};
 use std::io;
 use std::sync::atomic::{AtomicU64, Ordering};
@@ -115,10 +116,11 @@ impl<R: Wait + Drop> FileDigest<R> {
     }
 }
 
-impl<W: Wake, R: Wait + Drop> Future<W> for FileDigest<R> {
+// The executor alone polls it. As a future for its wakers alone it is proved sooner.
+impl<R: Wait + Clone + Drop> Future<TaskWaker<ThreadWaker, R>> for FileDigest<R> {
     type Output = Answer;
 
-    fn poll(&mut self, w: &W) -> Poll<Answer>
+    fn poll(&mut self, w: &TaskWaker<ThreadWaker, R>) -> Poll<Answer>
         ensures ended { IsSome self.old.inner → is_none self.new.inner ≡ is_ready result }
         ensures again { self.old.inner ≡ None → (is_ready result ≡ false) × (self.new.inner ≡ None) }
         ensures name { IfSome self.old.inner (λ file. IfReady result (λ answer. answer.name ≡ file.name)) }

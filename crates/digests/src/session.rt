@@ -34,7 +34,8 @@ pub fn run<R: System + Send + Sync + 'static>(rt: &R, alloc: Global, standard: S
         Some(name) => name.as_str(),
         None => "digests",
     };
-    let outcome = start(rt, alloc, program, standard);
+    let mut printer = Printer::new(rt, alloc, program);
+    let outcome = start(alloc, standard, &mut printer);
     if let Err(failure) = &outcome {
         say(rt, program, failure);
     }
@@ -60,13 +61,12 @@ fn program_name<R: System + Send + Sync + 'static>(rt: &R, alloc: Global) -> Opt
 
 // Goes by the options. Whether each file was read.
 fn start<R: System + Send + Sync + 'static>(
-    rt: &R,
     alloc: Global,
-    program: &str,
     standard: Standard,
+    printer: &mut Printer<'_, R>,
 ) -> Result<bool, Failure> {
+    let rt = printer.rt;
     let options = Options::read(rt, alloc)?;
-    let mut printer = Printer::new(rt, alloc, program);
     if options.help {
         printer.help()?;
         return Ok(true);
@@ -80,7 +80,7 @@ fn start<R: System + Send + Sync + 'static>(
     };
     let threads = options.threads.unwrap_or_else(|| default_threads(rt));
     let shared = Arc::new(alloc, Shared::new(rt.clone()?, alloc, threads)?)?;
-    let result = digest_all(alloc, &shared, threads, files, &mut printer);
+    let result = digest_all(alloc, &shared, threads, files, printer);
     printer.end(&shared);
     result?;
     printer.close(files.input);
