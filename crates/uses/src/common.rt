@@ -1,5 +1,6 @@
 //! Steps that many callers share.
-use async_executor::{Cancelled, Executor, Future, Poll, Task, TaskWaker, Wake};
+use crate::futures::Sum;
+use async_executor::{Cancelled, Executor, Future, Poll, Run, Task, TaskWaker, Wake};
 use std::alloc::Global;
 use std::sync::Wait;
 
@@ -28,6 +29,13 @@ where
 {
     let one = executor.spawn(one).ok();
     one.zip(executor.spawn(two).ok())
+}
+
+/// A run of this executor, which awaits a task that adds.
+pub fn run_of<W: Wake + Send, R: Wait + Clone + Drop + Send + Sync>(
+    executor: &Executor<Sum, W, R>,
+) -> Option<Run<'_, Sum, W, R, Task<Sum, W, R>>> {
+    executor.run(executor.spawn(Sum::of(1, 2)).ok()?).ok()
 }
 
 /// Runs tasks until nothing is scheduled.

@@ -1,5 +1,5 @@
 //! Tasks that one thread runs to their end, and executors that go before that.
-use crate::common::{executor, output_of, run_all};
+use crate::common::{executor, output_of, run_all, run_of};
 use crate::futures::{Nobody, Sum};
 use async_executor::{Cancelled, Executor, Future, Poll, Task, TaskWaker};
 use std::alloc::Global;
@@ -58,7 +58,7 @@ pub fn empties<R: Wait + Clone + Drop + Send + Sync>(
     let mut tasks: Vec<Task<Sum, Nobody, R>> = Vec::new(alloc);
     let sums = (0..150).map(|number| Sum::of(number, number));
     executor.spawn_many(sums, &mut tasks).ok()?;
-    let mut run = executor.run(executor.spawn(Sum::of(1, 2)).ok()?).ok()?;
+    let mut run = run_of(&executor)?;
     run.poll(&Nobody);
     run_all(rt, &executor);
     let is_left = !executor.is_empty();
