@@ -42,19 +42,31 @@ place_of() {
     fi
 }
 
-# The words of a check of this crate, each on a line: its root, and the libraries that it uses.
+# The libraries that a crate uses.
+uses() { sed -n "s/^$1\( [^:]*\)\{0,1\}://p" "$top/crates.txt"; }
+
+# The libraries of the repository that a crate uses, and those that they use in turn.
+below() {
+    for library in $(uses "$1"); do
+        [ -d "$kit/rlibs/$library.rlib" ] || { echo "$library" && below "$library"; }
+    done
+}
+
+# The words of a check of this crate, each on a line: its root, the libraries that it uses, and where
+# those below it are.
 words() {
     printf '%s\n' --crate-name "$1"
     [ ! -f "$top/crates/$1/src/main.rt" ] || echo src/main.rt
     [ ! -f "$top/crates/$1/src/lib.rt" ] || echo src/lib.rt
     printf '%s\n' --extern "std=$kit/rlibs/std.rlib" -L "dependency=$kit/rlibs"
-    for library in $(sed -n "s/^$1\( [^:]*\)\{0,1\}://p" "$top/crates.txt"); do
-        folder=$kit/rlibs
-        if [ ! -d "$folder/$library.rlib" ]; then
-            folder=$(place_of "$library")/crates/$library/out/rlib
-            printf '%s\n' -L "dependency=$folder"
-        fi
-        printf '%s\n' --extern "$library=$folder/$library.rlib"
+    for library in $(uses "$1"); do
+        [ ! -d "$kit/rlibs/$library.rlib" ] ||
+            printf '%s\n' --extern "$library=$kit/rlibs/$library.rlib"
+    done
+    for library in $(below "$1" | sort -u); do
+        folder=$(place_of "$library")/crates/$library/out/rlib
+        printf '%s\n' -L "dependency=$folder"
+        ! uses "$1" | grep -qw "$library" || printf '%s\n' --extern "$library=$folder/$library.rlib"
     done
     printf '%s\n' --antt-project "$kit/rattle/logic/antt-project.json" \
         --logic-built "$kit/logic_built" --incremental "$room/kept"
