@@ -1,5 +1,6 @@
 -- The digest that is to come of a reader, and of a file.
-use Rattle.std.specs.Prelude.{◌≡◌, ℕ, ◌≤◌, ◌++◌, List, length, Option, Some, IfOk}
+use Rattle.std.specs.Prelude.{◌≡◌, ℕ, ◌≤◌, ◌++◌, List, length, Option, Some, Err, IfOk, ⊤}
+use Rattle.std.specs.declared.io.Error.{Error}
 use Rattle.sha2.specs.Sha256.{sha256}
 use Rattle.sha2.specs.Hashers.{Holds256}
 use Rattle.sha2.specs.declared.Sha256.{Sha256}
@@ -24,6 +25,11 @@ count_of (Ended answer) = 0
 abbrev pub EndsOr : Step → List ℕ → Type 0 → Type 0
 EndsOr (More count) message holds = holds
 EndsOr (Ended answer) message holds = IfOk answer (λ digest. digest ≡ sha256 message)
+
+-- if no more may come after a read, it is for this error
+abbrev pub EndsByError : Step → Error → Type 0
+EndsByError (More count) error = ⊤
+EndsByError (Ended answer) error = answer ≡ Err error
 
 -- the hasher of a file that was opened holds this message
 abbrev pub FileHolds : Undigested → List ℕ → Type 0

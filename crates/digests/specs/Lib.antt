@@ -1,3 +1,5 @@
 pub mod Digests
+pub mod Failures
 pub mod Lines
 pub mod Statuses
+pub mod Words

@@ -2,7 +2,8 @@
 //!
 //! It is gone through twice, once for the options and once for the files, and a word is read when its
 //! turn comes. So no list of files is kept, however many there are.
-ghost use Rattle.std.specs.Prelude.{◌≡◌, ◌≤◌, IfSome, length};
+ghost use Rattle.std.specs.Prelude.{◌≡◌, ◌≢◌, ◌⊎◌, ◌<◌, ◌≤◌, ◌==◌, ◌||◌, ◌↔◌, ℕ, IfNone, IfOk, IfSome, IsOk, codes, length, slice_index};
+ghost use Rattle.digests.specs.Words.{AsksForThreads, IsLawful, IsThreadCount, is_input};
 
 use crate::failure::Failure;
 use crate::quoting::push_quoted;
@@ -38,7 +39,9 @@ impl Options {
     /// # Errors
     ///
     /// `Failure`, for the first word that is no option and no file, or if memory is refused.
-    pub fn read<R: System>(rt: &R, alloc: Global) -> Result<Options, Failure> {
+    pub fn read<R: System>(rt: &R, alloc: Global) -> Result<Options, Failure>
+        ensures { IfOk result (λ options. IfSome options.threads (λ count. (1 ≤ count) × (count ≤ MOST_THREADS))) }
+    {
         let mut options = Options {
             threads: None,
             progress: false,
@@ -60,12 +63,18 @@ impl Options {
     }
 
     /// Whether standard input is read.
-    pub fn reads_input(&self) -> bool {
+    pub fn reads_input(&self) -> bool
+        ensures { result ≡ (self.now.files == 0 || self.now.names_input) }
+    {
         self.files == 0 || self.names_input
     }
 
     // Counts a file.
-    fn add_file(&mut self, name: &[u8]) {
+    fn add_file(&mut self, name: &[u8])
+        ensures counted { 0 < self.new.files }
+        ensures input { self.new.names_input ≡ (self.old.names_input || is_input name.now) }
+        ensures others { self.new ≡ record self.old { files = self.new.files; names_input = self.new.names_input } }
+    {
         self.files = self.files.saturating_add(1);
         self.names_input = self.names_input || is_input(name);
     }
@@ -96,7 +105,13 @@ enum Kind {
 }
 
 fn kind_of(word: &[u8]) -> Kind
-    ensures { result ≡ Kind.ThreadsAndNumber → 2 ≤ length word.now }
+    ensures end { (result ≡ Kind.EndOfOptions) ↔ (word.now ≡ codes "--") }
+    ensures threads { (result ≡ Kind.Threads) ↔ (word.now ≡ codes "-j") }
+    ensures progress { (result ≡ Kind.Progress) ↔ (word.now ≡ codes "--progress") }
+    ensures help { (result ≡ Kind.Help) ↔ (word.now ≡ codes "--help") }
+    ensures file { (result ≡ Kind.File) ↔ ((length word.now < 2) ⊎ (slice_index word.now 0 ≢ 45)) }
+    ensures number { result ≡ Kind.ThreadsAndNumber → (2 ≤ length word.now) × (slice_index word.now 1 ≡ 106) }
+    ensures unknown { result ≡ Kind.Unknown → slice_index word.now 1 ≢ 106 }
 {
     match word {
         b"--" => Kind::EndOfOptions,
@@ -134,7 +149,9 @@ impl<'a, R: System> Words<'a, R> {
     /// # Errors
     ///
     /// `Failure`, if it is no option and no file, or memory is refused.
-    pub fn next(&mut self) -> Result<Option<Word>, Failure> {
+    pub fn next(&mut self) -> Result<Option<Word>, Failure>
+        ensures { IfOk result (λ word. IfSome word IsLawful) }
+    {
         let Some(word) = self.read()? else {
             return Ok(None);
         };
@@ -159,7 +176,10 @@ impl<'a, R: System> Words<'a, R> {
     }
 
     // The word of this number of threads.
-    fn threads(&self, number: &[u8]) -> Result<Option<Word>, Failure> {
+    fn threads(&self, number: &[u8]) -> Result<Option<Word>, Failure>
+        ensures asks { IfOk result (λ word. AsksForThreads number.now word) }
+        ensures known { (count : ℕ) → IsThreadCount number.now count → IsOk result }
+    {
         match number_of(number) {
             Some(count) => Ok(Some(Word::Threads(count))),
             None => Err(Failure::BadNumber(quoted(self.alloc, number)?)),
@@ -174,9 +194,10 @@ impl<'a, R: System> Words<'a, R> {
     }
 }
 
-// A number of threads, if it is one.
+// A number of threads, if it is one: it is written in decimal digits, and a plus may stand before them.
 fn number_of(text: &[u8]) -> Option<usize>
-    ensures { IfSome result (λ count. (1 ≤ count) × (count ≤ MOST_THREADS)) }
+    ensures some { IfSome result (λ count. IsThreadCount text.now count) }
+    ensures none { IfNone result ((count : ℕ) → ¬ IsThreadCount text.now count) }
 {
     let count: usize = std::str::from_utf8(text).ok()?.parse().ok()?;
     if 1 <= count && count <= MOST_THREADS {

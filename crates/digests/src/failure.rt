@@ -1,6 +1,8 @@
 //! Why the program stops before all files are digested, and its exit status then.
 ghost use Rattle.std.specs.Prelude.{◌≡◌, ◌<◌};
+ghost use Rattle.digests.specs.Failures.{pool_failure, run_failure, timer_failure};
 ghost use Rattle.digests.specs.Statuses.{status_of};
+ghost use Rattle.digests.specs.declared.failure.Failure.TheVariants as Failure;
 
 use crate::cause::Cause;
 use async_executor::{Cancelled, OutOfMemory, RunError, RunnerError, SpawnError};
@@ -58,24 +60,32 @@ impl Failure {
 }
 
 impl From<AllocError> for Failure {
+    ghost from_gives = { λ _ failure. failure ≡ Failure.OutOfMemory };
+
     fn from(_error: AllocError) -> Failure {
         Failure::OutOfMemory
     }
 }
 
 impl<T: Drop> From<AllocFailed<T>> for Failure {
+    ghost from_gives = { λ _ failure. failure ≡ Failure.OutOfMemory };
+
     fn from(_error: AllocFailed<T>) -> Failure {
         Failure::OutOfMemory
     }
 }
 
 impl From<OutOfMemory> for Failure {
+    ghost from_gives = { λ _ failure. failure ≡ Failure.OutOfMemory };
+
     fn from(_error: OutOfMemory) -> Failure {
         Failure::OutOfMemory
     }
 }
 
 impl From<PoolError> for Failure {
+    ghost from_gives = { λ error failure. failure ≡ pool_failure error };
+
     fn from(error: PoolError) -> Failure {
         match error {
             PoolError::OutOfMemory => Failure::OutOfMemory,
@@ -86,6 +96,8 @@ impl From<PoolError> for Failure {
 }
 
 impl From<TimerError> for Failure {
+    ghost from_gives = { λ error failure. failure ≡ timer_failure error };
+
     fn from(error: TimerError) -> Failure {
         match error {
             TimerError::OutOfMemory => Failure::OutOfMemory,
@@ -95,6 +107,8 @@ impl From<TimerError> for Failure {
 }
 
 impl<G: Drop> From<TimerFailed<G>> for Failure {
+    ghost from_gives = { λ failed failure. failure ≡ timer_failure failed.error };
+
     fn from(failed: TimerFailed<G>) -> Failure {
         Failure::from(failed.error)
     }
@@ -110,6 +124,8 @@ impl From<RunnerError> for Failure {
 }
 
 impl<G: Drop> From<RunError<G>> for Failure {
+    ghost from_gives = { λ error failure. failure ≡ run_failure error };
+
     fn from(error: RunError<G>) -> Failure {
         match error {
             RunError::OutOfMemory(_) => Failure::OutOfMemory,
@@ -119,7 +135,10 @@ impl<G: Drop> From<RunError<G>> for Failure {
 }
 
 impl<G: Drop> From<SpawnError<G>> for Failure {
-    fn from(error: SpawnError<G>) -> Failure {
+    fn from(error: SpawnError<G>) -> Failure
+        ensures memory { (future : G) → error ≡ SpawnError.OutOfMemory future → result ≡ Failure.OutOfMemory }
+        ensures numbers { (future : G) → error ≡ SpawnError.Exhausted future → result ≡ Failure.Exhausted }
+    {
         match error {
             SpawnError::OutOfMemory(_) => Failure::OutOfMemory,
             SpawnError::Exhausted(_) => Failure::Exhausted,
@@ -128,6 +147,8 @@ impl<G: Drop> From<SpawnError<G>> for Failure {
 }
 
 impl From<Cancelled> for Failure {
+    ghost from_gives = { λ _ failure. failure ≡ Failure.Cancelled };
+
     fn from(_error: Cancelled) -> Failure {
         Failure::Cancelled
     }

@@ -1,9 +1,9 @@
 //! The task of a file: its digest, a block a poll.
-ghost use Rattle.std.specs.Prelude.{◌≡◌, ◌≤◌, ◌++◌, ℕ, List, [], None, Some, IsSome, IfSome, IfOk, false, is_none, take};
+ghost use Rattle.std.specs.Prelude.{◌≡◌, ◌≤◌, ◌++◌, ℕ, List, [], None, Some, IsOk, IsSome, IfSome, IfOk, IfErr, MatchResult, false, is_none, take};
 ghost use Rattle.sha2.specs.Sha256.{sha256};
 ghost use Rattle.async_executor.specs.Answers.{is_ready};
 ghost use Rattle.async_utilities.specs.Polls.{IfReady};
-ghost use Rattle.digests.specs.Digests.{Adds, AddsAtMost, EndsOr, FileHolds, count_of};
+ghost use Rattle.digests.specs.Digests.{Adds, AddsAtMost, EndsByError, EndsOr, FileHolds, count_of};
 
 use crate::blocks::{BLOCK_LEN, Block, Blocks};
 use crate::digesting::{Digesting, Step};
@@ -56,6 +56,7 @@ impl<R: Wait + Drop> Shared<R> {
         ensures adds { (message : List ℕ) → FileHolds file.old message →
             EndsOr result message (Adds file.new message (count_of result)) }
         ensures count { count_of result ≤ BLOCK_LEN }
+        ensures unopened { IfErr file.old.opened (λ error. EndsByError result error) }
     {
         let Some(mut block) = self.blocks.take(&self.rt) else {
             return Step::More(0);
@@ -80,6 +81,7 @@ impl Undigested {
         ensures reads { (message : List ℕ) → FileHolds self.old message →
             EndsOr result message (FileHolds self.new (message ++ take (count_of result) block.new.bytes.items)) }
         ensures count { count_of result ≤ BLOCK_LEN }
+        ensures unopened { IfErr self.old.opened (λ error. EndsByError result error) }
     {
         match &mut self.opened {
             Ok(digesting) => digesting.read_once(block.bytes.as_mut_slice()),
@@ -104,6 +106,8 @@ impl<R: Wait + Drop> FileDigest<R> {
         ensures begun { IsSome result.inner }
         ensures name { IfSome result.inner (λ file. file.name ≡ name) }
         ensures empty { IfSome result.inner (λ file. FileHolds file []) }
+        ensures opened { IfSome result.inner (λ file.
+            MatchResult source (λ _. IsOk file.opened) (λ error. file.opened ≡ Err error)) }
     {
         let opened = match source {
             Ok(source) => Ok(Digesting::new(source)),
@@ -131,6 +135,10 @@ impl<R: Wait + Clone + Drop> Future<TaskWaker<ThreadWaker, R>> for FileDigest<R>
             FileHolds file message → IfOk answer.digest (λ digest. digest ≡ sha256 message))) }
         ensures adds { IfSome self.old.inner (λ old. IfSome self.new.inner (λ new. (message : List ℕ) →
             FileHolds old message → AddsAtMost new message BLOCK_LEN)) }
+
+        // What could not be opened is answered with its error.
+        ensures unopened { IfSome self.old.inner (λ file. IfErr file.opened (λ error.
+            IfReady result (λ answer. answer.digest ≡ Err error))) }
     {
         let Some(mut file) = self.inner.take() else {
             return Poll::Pending;

@@ -1,5 +1,5 @@
 //! What is written: the lines of the digests, the messages and the progress.
-ghost use Rattle.std.specs.Prelude.{◌≡◌, ◌&&◌, OnOk, is_ok};
+ghost use Rattle.std.specs.Prelude.{◌≡◌, ◌&&◌, OnOk, IsSome, is_ok, true};
 
 use crate::cause::Cause;
 use crate::failure::Failure;
@@ -46,7 +46,9 @@ pub struct Printer<'a, R: System + Send + Sync + 'static> {
 
 impl<'a, R: System + Send + Sync + 'static> Printer<'a, R> {
     /// Nothing is written yet.
-    pub fn new(rt: &'a R, alloc: Global, program: &'a str) -> Printer<'a, R> {
+    pub fn new(rt: &'a R, alloc: Global, program: &'a str) -> Printer<'a, R>
+        ensures { result.all_read ≡ true }
+    {
         Printer {
             rt,
             progress: None,
@@ -62,7 +64,10 @@ impl<'a, R: System + Send + Sync + 'static> Printer<'a, R> {
     /// # Errors
     ///
     /// `Failure` if memory is refused or the clock is not to be read.
-    pub fn show_progress(&mut self, files: usize, is_terminal: bool) -> Result<(), Failure> {
+    pub fn show_progress(&mut self, files: usize, is_terminal: bool) -> Result<(), Failure>
+        ensures shown { OnOk result (IsSome self.new.progress) }
+        ensures all_read { self.new.all_read ≡ self.old.all_read }
+    {
         self.progress = Some(Progress::new(self.rt, self.alloc, files, is_terminal)?);
         Ok(())
     }

@@ -1,11 +1,16 @@
 //! Where the bytes of a digest come from.
+ghost use Rattle.std.specs.Prelude.{◌≡◌, MatchResult, true};
+ghost use Rattle.digests.specs.Words.{is_input};
+
 use std::fs::File;
 use std::io;
 use std::io::{ErrorKind, Read, Stdin};
 use std::rt::Files;
 
 /// Whether this name stands for standard input.
-pub fn is_input(name: &[u8]) -> bool {
+pub fn is_input(name: &[u8]) -> bool
+    ensures { result ≡ is_input name.now }
+{
     name == b"-".as_slice()
 }
 
@@ -43,7 +48,10 @@ impl Source {
         rt: &R,
         input: io::Result<Stdin>,
         name: &[u8],
-    ) -> io::Result<Source> {
+    ) -> io::Result<Source>
+        ensures { is_input name.now ≡ true →
+            MatchResult input (λ input. result ≡ Ok (Source.Input input)) (λ error. result ≡ Err error) }
+    {
         if is_input(name) {
             return Ok(Source::Input(input?));
         }

@@ -1,4 +1,8 @@
 //! The tasks that are under way, in the order of the files.
+ghost use Rattle.std.specs.Prelude.{◌≡◌, ◌==◌, if◌then◌else◌, nat_lt};
+ghost use Rattle.std.specs.VecDeque.{deque_len};
+ghost use Rattle.digests.specs.Words.{is_input};
+
 use crate::failure::Failure;
 use crate::file_digest::{Answer, FileDigest, Shared};
 use crate::progress::Progress;
@@ -54,7 +58,10 @@ impl<'a, R: System + Send + Sync + 'static> Window<'a, R> {
 
     /// Whether there is room for the task of this file. That of standard input comes alone: a thread that
     /// reads it may wait for long, and all lines before it are to be written then.
-    pub fn has_room(&self, name: &[u8]) -> bool {
+    pub fn has_room(&self, name: &[u8]) -> bool
+        ensures { let count = deque_len self.now.tasks in
+            result ≡ (if is_input name.now then count == 0 else nat_lt count WINDOW) }
+    {
         if is_input(name) {
             self.tasks.is_empty()
         } else {
