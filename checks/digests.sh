@@ -154,6 +154,12 @@ run ours one -j4
 expect 'an option behind a file' 0 '' "$line"
 run ours --progress one
 expect 'progress' 0 '1 of 1 files, 0 MiB' "$line"
+run ours --help absent
+expect 'help, and nothing else' 0 '' 'usage: digests [-j N] [--progress] [--] [FILE..]
+Prints the SHA-256 digest of each FILE, in their order. - is standard input, and so is no FILE.
+  -j N         with N threads, 1 to 256; as many as there are processors if it is left out
+  --progress   show progress on standard error, even if that is no terminal
+  --help       show this'
 
 # A standard output that takes no more.
 env PATH="$work/ours:$PATH" sha256sum one 2> "$work/ours.err" >&- && echo 0 > "$work/ours.status" ||
