@@ -2,8 +2,8 @@
 //!
 //! It is gone through twice, once for the options and once for the files, and a word is read when its
 //! turn comes. So no list of files is kept, however many there are.
-ghost use Rattle.std.specs.Prelude.{◌≡◌, ◌≢◌, ◌⊎◌, ◌<◌, ◌≤◌, ◌==◌, ◌||◌, ◌↔◌, ℕ, IfNone, IfOk, IfSome, IsOk, codes, length, slice_index};
-ghost use Rattle.digests.specs.Words.{AsksForThreads, IsLawful, IsThreadCount, is_input};
+ghost use Rattle.std.specs.Prelude.{◌≡◌, ◌≢◌, ◌⊎◌, ◌<◌, ◌≤◌, ◌==◌, ◌||◌, ◌↔◌, ℕ, IfNone, IfOk, IfSome, IsOk, codes, false, length, slice_index};
+ghost use Rattle.digests.specs.Words.{AsksForThreads, IsFile, IsLawful, IsThreadCount, is_input};
 
 use crate::failure::Failure;
 use crate::quoting::push_quoted;
@@ -150,7 +150,11 @@ impl<'a, R: System> Words<'a, R> {
     ///
     /// `Failure`, if it is no option and no file, or memory is refused.
     pub fn next(&mut self) -> Result<Option<Word>, Failure>
-        ensures { IfOk result (λ word. IfSome word IsLawful) }
+        ensures lawful { IfOk result (λ word. IfSome word IsLawful) }
+
+        // Behind `--` each word is a file.
+        ensures files { self.old.has_options ≡ false → IfOk result (λ word. IfSome word IsFile) }
+        ensures kept { self.old.has_options ≡ false → self.new.has_options ≡ false }
     {
         let Some(word) = self.read()? else {
             return Ok(None);
@@ -187,7 +191,9 @@ impl<'a, R: System> Words<'a, R> {
     }
 
     // The bytes of the next word.
-    fn read(&mut self) -> Result<Option<Vec<u8>>, AllocError> {
+    fn read(&mut self) -> Result<Option<Vec<u8>>, AllocError>
+        ensures { self.new.has_options ≡ self.old.has_options }
+    {
         let word = read_argument(self.rt, self.alloc, self.index)?;
         self.index = self.index.saturating_add(1);
         Ok(word)
