@@ -81,7 +81,7 @@ impl Undigested {
         ensures reads { (message : List ℕ) → FileHolds self.old message →
             EndsOr result message (FileHolds self.new (message ++ take (count_of result) block.new.bytes.items)) }
         ensures count { count_of result ≤ BLOCK_LEN }
-        ensures unopened { IfErr self.old.opened (λ error. EndsByError result error) }
+        ensures unopened { IfErr self.old.opened (λ error. result ≡ Step.Ended (Err error)) }
     {
         match &mut self.opened {
             Ok(digesting) => digesting.read_once(block.bytes.as_mut_slice()),
