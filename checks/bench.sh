@@ -18,7 +18,7 @@ lay_out() {
         cp "$file" "$copy/crates/bench/src/$(basename "$file" .txt)"
     done
     cp "$top/bench/stdout" "$copy/crates/bench/stdout"
-    echo 'bench may_wait=79: executor_core async_executor priority_executor' >> "$copy/crates.txt"
+    echo 'bench may_wait=80: executor_core async_executor priority_executor' >> "$copy/crates.txt"
 }
 
 if [ $# = 1 ]; then
