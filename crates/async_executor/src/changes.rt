@@ -15,8 +15,7 @@ use crate::store::Store;
 use crate::waker::{LentWake, TaskWaker};
 use executor_core::queue::RunnerKey;
 use executor_core::task::{
-    Cells, EndPending, EndReady, Held, Notice, PollHandle, Ran, SpawnError, Taken, TaskId,
-    Wakeup,
+    Cells, EndPending, EndReady, Held, Notice, PollHandle, Ran, SpawnError, Taken, TaskId, Wakeup,
 };
 use std::sync::{Arc, MutexGuard};
 
@@ -133,7 +132,10 @@ pub(crate) fn take_ended<H: Home>(
 // Ends the handle of a task that has ended, where the store was not free.
 #[cold]
 #[inline(never)]
-pub(crate) fn wait_and_take_ended<H: Home>(home: &H, id: TaskId) -> (Option<OutputIn<H>>, Option<H::Waker>) {
+pub(crate) fn wait_and_take_ended<H: Home>(
+    home: &H,
+    id: TaskId,
+) -> (Option<OutputIn<H>>, Option<H::Waker>) {
     let mut store = store!(home);
     let mut cells = cells!(home.state());
     store.get().take_ended(&mut cells, id)

@@ -224,9 +224,7 @@ impl<'x, 'y, H: Home, G: Drop> Driver<'x, 'y, H, G> {
 // The table, for the fair part that is due, which it seldom is.
 #[cold]
 #[inline(never)]
-fn cells_for_a_share<H: Home>(
-    executor: &ExecutorIn<H>,
-) -> MutexGuard<'_, Cells<(), (), H::Waker>> {
+fn cells_for_a_share<H: Home>(executor: &ExecutorIn<H>) -> MutexGuard<'_, Cells<(), (), H::Waker>> {
     cells!(executor.state())
 }
 
