@@ -238,6 +238,7 @@ impl<F: Drop, W: Drop, R: Drop, T: Drop> Store<F, Arc<ExecutorState<W, R>>, T> {
         let found = cells.search(key, words.next(), None);
         drop(cells);
         if let Some((taken, _)) = &found {
+            // The last one is not out any more.
             *out = self.take(taken.id());
         }
         EndThenSearch::Searched(notice, found)

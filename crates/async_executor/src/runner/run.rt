@@ -133,7 +133,7 @@ impl<'x, 'y, H: Home, G: Drop> Driver<'x, 'y, H, G> {
         let home = self.executor.home();
         let found = cells!(home.state()).search(self.key, word, again);
         if let Some((taken, _)) = &found {
-            // Nobody else takes the future of a task that was taken.
+            // Nobody else takes the future of a task that was taken, and no other one is out.
             let mut store = store!(home);
             self.out = store.get().take(taken.id());
         }
