@@ -115,7 +115,10 @@ impl<G: Drop> From<TimerFailed<G>> for Failure {
 }
 
 impl From<RunnerError> for Failure {
-    fn from(error: RunnerError) -> Failure {
+    fn from(error: RunnerError) -> Failure
+        ensures memory { error ≡ RunnerError.OutOfMemory → result ≡ Failure.OutOfMemory }
+        ensures numbers { error ≡ RunnerError.Exhausted → result ≡ Failure.Exhausted }
+    {
         match error {
             RunnerError::OutOfMemory => Failure::OutOfMemory,
             RunnerError::Exhausted => Failure::Exhausted,
