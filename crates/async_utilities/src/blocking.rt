@@ -1,12 +1,15 @@
 //! A thread that polls a future, and parks while it is not ready.
-ghost use Rattle.std.specs.Prelude.{IfOk};
+ghost use Rattle.std.specs.Prelude.{◌≡◌, IfErr};
+ghost use Rattle.async_executor.specs.RunError.{run_future};
 ghost use Rattle.async_utilities.specs.Polls.{Gives};
 
-use async_executor::{Executor, Future, OutOfMemory, Poll, RunError, RunnerError, TaskWaker, Wake};
+use async_executor::{Executor, Future, OutOfMemory, Poll, RunError, TaskWaker, Wake};
 use std::alloc::{AllocError, Global};
+use std::fmt::{self, Debug, Formatter, Write};
 use std::sync::{Arc, Wait};
 use std::thread::Parker;
 use std::time::Duration;
+use thiserror::Error;
 
 /// Wakes one thread, which parks while it waits. No wake is lost: the thread does not park if one
 /// came before.
@@ -72,12 +75,44 @@ impl Wake for ThreadWaker {
     }
 }
 
+/// Why a thread did not wait for a future: memory for its waker was refused. It has the future,
+/// unpolled.
+///
+/// Example: `uses::pools`, which lets it go.
+///
+/// ```text
+/// let (first, second) = block_on(rt, alloc, Zip::new(add, more)).ok()?;
+/// added(first.ok().zip(second.ok()))
+/// ```
+#[derive(PartialEq, Eq, Drop, Error)]
+#[error("out of memory")]
+pub struct BlockOnError<G> {
+    future: G,
+}
+
+// Of any future, so that a test can give the error on.
+impl<G> Debug for BlockOnError<G> {
+    fn fmt<O: Write>(&self, f: &mut Formatter<O>) -> fmt::Result {
+        f.write_str("BlockOnError { .. }")
+    }
+}
+
+impl<G> BlockOnError<G> {
+    /// The future that was not waited for.
+    pub fn into_inner(self) -> G
+        ensures { result ≡ self.future }
+    {
+        let BlockOnError { future } = self;
+        future
+    }
+}
+
 /// Polls the future on this thread until it is ready, and gives its output. The thread parks while
 /// the future is not ready.
 ///
 /// # Errors
 ///
-/// `AllocError` if memory for the thread's waker is refused. The future is dropped then, unpolled.
+/// `BlockOnError` with the future, if memory for the thread's waker is refused.
 ///
 /// Example: `uses::pools`.
 ///
@@ -89,9 +124,14 @@ pub fn block_on<G: Future<ThreadWaker>>(
     rt: &impl Wait,
     alloc: Global,
     future: G,
-) -> Result<G::Output, AllocError> {
+) -> Result<G::Output, BlockOnError<G>>
+    ensures refused { IfErr result (λ error. error.future ≡ future) }
+{
+    let Ok(waker) = ThreadWaker::new(alloc) else {
+        return Err(BlockOnError { future });
+    };
     let mut future = future;
-    poll_until_ready(rt, alloc, |w| future.poll(w))
+    Ok(poll_until_ready(rt, &waker, |w| future.poll(w)))
 }
 
 /// Polls the future on this thread until it is ready, gives its output, and runs tasks of the executor
@@ -100,8 +140,8 @@ pub fn block_on<G: Future<ThreadWaker>>(
 ///
 /// # Errors
 ///
-/// `RunnerError` if memory for the run or for the thread's waker is refused, or no number is left for
-/// the run. The future is dropped then, unpolled.
+/// `RunError` with the future, if memory for the run or for the thread's waker is refused, or no number
+/// is left for the run.
 ///
 /// Example: `uses::runs_here`.
 ///
@@ -114,38 +154,33 @@ pub fn run_until<F, G, R>(
     alloc: Global,
     executor: &Executor<F, ThreadWaker, R>,
     future: G,
-) -> Result<G::Output, RunnerError>
+) -> Result<G::Output, RunError<G>>
 where
     F: Future<TaskWaker<ThreadWaker, R>>,
     G: Future<ThreadWaker>,
     R: Wait + Clone + Drop,
+    ensures refused { IfErr result (λ error. run_future error ≡ future) }
 {
-    let run = match executor.run(future) {
-        Ok(run) => run,
-        Err(RunError::OutOfMemory(_)) => return Err(RunnerError::OutOfMemory),
-        Err(RunError::Exhausted(_)) => return Err(RunnerError::Exhausted),
+    let Ok(waker) = ThreadWaker::new(alloc) else {
+        return Err(RunError::OutOfMemory(future));
     };
-    Ok(block_on(rt, alloc, run)?)
+    let mut run = executor.run(future)?;
+    Ok(poll_until_ready(rt, &waker, |w| run.poll(w)))
 }
 
-/// Calls the poll on this thread until it is ready, and gives what it gave. The thread parks while
-/// it is pending. What is known of the poll says what comes out.
-///
-/// # Errors
-///
-/// `AllocError` if memory for the thread's waker is refused. The poll is not called then.
+/// Calls the poll on this thread, with this waker, until it is ready, and gives what it gave. The
+/// thread parks while it is pending. What is known of the poll says what comes out.
 pub fn poll_until_ready<T, P: FnMut(&ThreadWaker) -> Poll<T>>(
     rt: &impl Wait,
-    alloc: Global,
+    waker: &ThreadWaker,
     mut poll: P,
-) -> Result<T, AllocError>
+) -> T
     requires { P.IsAlwaysCallable poll }
-    ensures { IfOk result (λ output. Gives P.step poll output) }
+    ensures { Gives P.step poll result }
 {
-    let waker = ThreadWaker::new(alloc)?;
     for _ in rt.forever() {
-        if let Poll::Ready(output) = poll(&waker) {
-            return Ok(output);
+        if let Poll::Ready(output) = poll(waker) {
+            return output;
         }
         waker.park(rt);
     }

@@ -16,7 +16,7 @@ pub mod pooling;
 pub mod signals;
 pub mod timers;
 
-pub use blocking::{ThreadWaker, block_on, poll_until_ready, run_until};
+pub use blocking::{BlockOnError, ThreadWaker, block_on, poll_until_ready, run_until};
 pub use channels::{NoMessage, Receive, Receiver, Send, Sender, Unsent, bounded};
 pub use combining::{Change, Either, Map, Or, Zip};
 pub use immediate::{Never, Ready, YieldNow};

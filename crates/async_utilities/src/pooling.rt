@@ -204,14 +204,15 @@ where
         Err(RunError::OutOfMemory(_)) => return Err(PoolError::OutOfMemory),
         Err(RunError::Exhausted(_)) => return Err(PoolError::Exhausted),
     };
+    let waker = ThreadWaker::new(alloc)?;
     let mut has_told = false;
-    poll_until_ready(rt, alloc, |w| {
+    poll_until_ready(rt, &waker, |w| {
         if !has_told {
             has_told = true;
             beginning.tell(rt, Ok(()));
         }
         run.poll(w)
-    })?;
+    });
     Ok(())
 }
 

@@ -5,7 +5,7 @@ ghost use Rattle.digests.specs.Statuses.{status_of};
 ghost use Rattle.digests.specs.declared.failure.Failure.TheVariants as Failure;
 
 use crate::cause::Cause;
-use async_executor::{Cancelled, OutOfMemory, RunError, RunnerError, SpawnError};
+use async_executor::{Cancelled, OutOfMemory, RunError, SpawnError};
 use async_utilities::{PoolError, TimerError, TimerFailed};
 use std::alloc::{AllocError, AllocFailed};
 use std::io;
@@ -111,18 +111,6 @@ impl<G: Drop> From<TimerFailed<G>> for Failure {
 
     fn from(failed: TimerFailed<G>) -> Failure {
         Failure::from(failed.error)
-    }
-}
-
-impl From<RunnerError> for Failure {
-    fn from(error: RunnerError) -> Failure
-        ensures memory { error ≡ RunnerError.OutOfMemory → result ≡ Failure.OutOfMemory }
-        ensures numbers { error ≡ RunnerError.Exhausted → result ≡ Failure.Exhausted }
-    {
-        match error {
-            RunnerError::OutOfMemory => Failure::OutOfMemory,
-            RunnerError::Exhausted => Failure::Exhausted,
-        }
     }
 }
 

@@ -1,6 +1,6 @@
 //! Why there is no picture, with a message and an exit status for each cause.
 use crate::arguments::BadArguments;
-use async_executor::{RunnerError, SpawnError};
+use async_executor::{RunError, SpawnError};
 use async_utilities::PoolError;
 use std::alloc::{AllocError, AllocFailed};
 use thiserror::Error;
@@ -59,11 +59,11 @@ impl<F: Drop> From<SpawnError<F>> for Failure {
     }
 }
 
-impl From<RunnerError> for Failure {
-    fn from(error: RunnerError) -> Failure {
+impl<G: Drop> From<RunError<G>> for Failure {
+    fn from(error: RunError<G>) -> Failure {
         match error {
-            RunnerError::OutOfMemory => Failure::OutOfMemory,
-            RunnerError::Exhausted => Failure::Stopped,
+            RunError::OutOfMemory(_) => Failure::OutOfMemory,
+            RunError::Exhausted(_) => Failure::Stopped,
         }
     }
 }
