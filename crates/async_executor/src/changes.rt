@@ -78,21 +78,22 @@ pub(crate) fn end<H: Home>(
 }
 
 /// Ends a task that was run, and takes the next one for a runner, and its future out. The search takes
-/// one word.
+/// one word. The state is that of the home.
 #[inline(always)]
-pub(crate) fn end_then_search<H: Home>(
-    home: &H,
+pub(crate) fn end_then_search<'a, H: Home>(
+    home: &'a H,
+    state: &'a ExecutorState<H::Waker, H::Runtime>,
     id: TaskId,
     ran: Ran<(), OutputIn<H>>,
     out: &mut OutIn<H>,
-    key: RunnerKey,
+    key: &RunnerKey,
     words: &mut Words,
 ) -> EndThenSearch<H::Waker, OutputIn<H>>
     requires { IsHeldRight ran }
     ensures { IsEndRight result }
 {
     let mut store = store!(home);
-    let cells = cells!(home.state());
+    let cells = cells!(state);
     store.get().end_then_search(cells, id, ran, out, key, words)
 }
 
@@ -125,11 +126,22 @@ pub(crate) fn take_ended<H: Home>(
     if let Some(mut store) = home.try_store() {
         return Some(store.get().take_ended(&mut cells, id));
     }
-    drop(cells);
-    Some(wait_and_take_ended(home, id))
+    Some(give_up_and_take_ended(home, cells, id))
 }
 
-// Ends the handle of a task that has ended, where the store was not free.
+// Gives the table up, and ends the handle once the store is free. It is inline around the call, so that
+// the room of what that gives is cleared on this way alone.
+#[inline(always)]
+fn give_up_and_take_ended<H: Home>(
+    home: &H,
+    cells: MutexGuard<'_, Cells<(), (), H::Waker>>,
+    id: TaskId,
+) -> (Option<OutputIn<H>>, Option<H::Waker>) {
+    drop(cells);
+    wait_and_take_ended(home, id)
+}
+
+/// Ends the handle of a task that has ended, once the store is free.
 #[cold]
 #[inline(never)]
 pub(crate) fn wait_and_take_ended<H: Home>(
@@ -211,7 +223,7 @@ impl<F: Drop, W: Drop, R: Drop, T: Drop> Store<F, Arc<ExecutorState<W, R>>, T> {
         id: TaskId,
         ran: Ran<(), T>,
         out: &mut Out<F, W, R>,
-        key: RunnerKey,
+        key: &RunnerKey,
         words: &mut Words,
     ) -> EndThenSearch<W, T>
         requires { IsHeldRight ran }
@@ -235,7 +247,7 @@ impl<F: Drop, W: Drop, R: Drop, T: Drop> Store<F, Arc<ExecutorState<W, R>>, T> {
             Ok(notice) => notice,
             Err(left) => return EndThenSearch::Left(left),
         };
-        let found = cells.search(key, words.next(), None);
+        let found = cells.search(*key, words.next(), None);
         drop(cells);
         if let Some((taken, _)) = &found {
             // The last one is not out any more.

@@ -3,7 +3,7 @@
 //! What a handle does to a task that has ended is one change of the store and of the table, since
 //! the task may have to leave its slot and its place to a new one. What it does before is a change
 //! of the table alone.
-ghost use Rattle.std.specs.Prelude.{◌≡◌, false, IsTrue};
+ghost use Rattle.std.specs.Prelude.{◌≡◌, true, false, IsTrue};
 ghost use Rattle.async_executor.specs.Answers.{is_ready, IsReadyErr, IsReadyNone};
 
 use crate::changes::{await_handle, take_ended, wait_and_take_ended};
@@ -77,6 +77,18 @@ impl<H: Home> TaskIn<H> {
     {
         self.answered || cells!(self.home.state()).is_finished(self.id)
     }
+
+    // Answers for a task that ended while its handle was polled. It is inline around the call, so that
+    // the room of what that gives is cleared on this way alone.
+    #[inline(always)]
+    fn answer_late(&mut self) -> Poll<Result<OutputIn<H>, Cancelled>>
+        ensures answered { self.new.answered ≡ true }
+        ensures ready { is_ready result ≡ true }
+    {
+        self.answered = true;
+        let (output, _) = wait_and_take_ended(&self.home, self.id);
+        Poll::Ready(output.ok_or(Cancelled))
+    }
 }
 
 // Ends the handle of a task that has ended.
@@ -109,11 +121,7 @@ impl<H: Home> Future<H::Waker> for TaskIn<H> {
         match await_handle(&self.home, self.id, waker) {
             Ok(_) => Poll::Pending,
             // It has ended since.
-            Err(_) => {
-                self.answered = true;
-                let (output, _) = wait_and_take_ended(&self.home, self.id);
-                Poll::Ready(output.ok_or(Cancelled))
-            }
+            Err(_) => self.answer_late(),
         }
     }
 }

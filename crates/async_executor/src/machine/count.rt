@@ -7,8 +7,8 @@ use std::marker::Model;
 /// A count up to a limit. The last one of so many begins it anew, so it is below that limit.
 #[derive(Debug, Clone, Copy, PartialEq, Eq)]
 pub(crate) struct Count {
-    counted: u32,
-    limit: u32,
+    counted: u64,
+    limit: u64,
 }
 
 impl Model for Count {
@@ -33,7 +33,10 @@ impl Count {
         requires { 0 < limit }
         ensures { result ≡ up_to limit }
     {
-        Count { counted: 0, limit }
+        Count {
+            counted: 0,
+            limit: u64::from(limit),
+        }
     }
 
     /// Counts one more where the count stands, so that it is not packed and unpacked, and says whether

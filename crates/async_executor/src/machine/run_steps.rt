@@ -99,6 +99,12 @@ pub(crate) enum OwnPolled<T> {
     Ready(T, Unregistering),
 }
 
+// Drops the future. It is a function, so that the room of an empty place is cleared on this way alone.
+#[inline(always)]
+fn let_go<G: Drop>(own: &mut Option<G>) {
+    *own = None;
+}
+
 impl PollingOwn {
     /// Polls it once. One that is ready is dropped. No lock may be held.
     #[inline(always)]
@@ -116,7 +122,7 @@ impl PollingOwn {
                 number,
             }),
             Poll::Ready(output) => {
-                *own = None;
+                let_go(own);
                 OwnPolled::Ready(output, Unregistering { runner, number })
             }
         }

@@ -22,7 +22,7 @@ use crate::machine::{
 };
 use crate::runner::words::Words;
 use crate::scheduler::{ExecutorIn, poll_taken};
-use crate::state::{announce, cells};
+use crate::state::{ExecutorState, announce, cells};
 use crate::ticker::{Slept, announce_found, leave, sleep};
 use executor_core::limits::Limits;
 use executor_core::queue::{Ring, RunnerError, RunnerKey};
@@ -118,6 +118,8 @@ impl<'a, H: Home, G: Future<H::Waker>> RunIn<'a, H, G> {
 #[derive(Drop)]
 struct Driver<'x, 'y, H: Home, G: Drop> {
     executor: &'x ExecutorIn<H>,
+    // That of the executor, at hand.
+    state: &'x ExecutorState<H::Waker, H::Runtime>,
     key: RunnerKey,
     own: &'y mut Own<G>,
     out: OutIn<H>,
@@ -130,11 +132,10 @@ impl<'x, 'y, H: Home, G: Drop> Driver<'x, 'y, H, G> {
     fn search(&mut self, again: Option<Again>) -> Option<(Taken<()>, Notice)> {
         let own = &mut *self.own;
         let word = own.words.next();
-        let home = self.executor.home();
-        let found = cells!(home.state()).search(self.key, word, again);
+        let found = cells!(self.state).search(self.key, word, again);
         if let Some((taken, _)) = &found {
             // Nobody else takes the future of a task that was taken, and no other one is out.
-            let mut store = store!(home);
+            let mut store = store!(self.executor.home());
             self.out = store.get().take(taken.id());
         }
         found
@@ -149,7 +150,7 @@ impl<'x, 'y, H: Home, G: Drop> Driver<'x, 'y, H, G> {
         ensures { MatchResult result (λ going. fixed (actor_going going) ≡ fixed running.actor) (λ yielding. fixed yielding.actor ≡ fixed running.actor) }
     {
         let mut running = running;
-        for _ in self.executor.state().rt().forever() {
+        for _ in self.state.rt().forever() {
             let (under_way, taken) = match running.start() {
                 Started::Run(under_way, taken) => (under_way, taken),
                 Started::Share(sharing) => {
@@ -170,8 +171,7 @@ impl<'x, 'y, H: Home, G: Drop> Driver<'x, 'y, H, G> {
             match self.end_then_search(id, ran) {
                 None => return Ok(searching.empty()),
                 Some((taken, notice)) => {
-                    let state = self.executor.state();
-                    running = announce_found(state, searching.found(taken, notice));
+                    running = announce_found(self.state, searching.found(taken, notice));
                 }
             }
         }
@@ -188,11 +188,11 @@ impl<'x, 'y, H: Home, G: Drop> Driver<'x, 'y, H, G> {
         requires { IsHeldRight ran }
     {
         let own = &mut *self.own;
-        let home = self.executor.home();
-        match changes::end_then_search(home, id, ran, &mut self.out, self.key, &mut own.words) {
+        let (home, out, words) = (self.executor.home(), &mut self.out, &mut own.words);
+        match changes::end_then_search(home, self.state, id, ran, out, &self.key, words) {
             EndThenSearch::Searched(None, found) => found,
             EndThenSearch::Searched(Some(notice), found) => {
-                announce!(self.executor.state(), notice);
+                announce!(self.state, notice);
                 found
             }
             // What it schedules is found once the run's waker stands in the list.
@@ -204,9 +204,9 @@ impl<'x, 'y, H: Home, G: Drop> Driver<'x, 'y, H, G> {
         }
     }
 
-    // Does what the end of a task has left to do, and searches for the next one.
-    #[cold]
-    #[inline(never)]
+    // Does what the end of a task has left to do, and searches for the next one. It is inline around
+    // its calls, so that the room of what they are handed and give is cleared on this way alone.
+    #[inline(always)]
     fn finish_then_search(
         &mut self,
         id: TaskId,
@@ -215,8 +215,24 @@ impl<'x, 'y, H: Home, G: Drop> Driver<'x, 'y, H, G> {
         requires { IsLeftRight left }
     {
         // Its drop and its wake come before the search, which they may queue something for.
+        self.finish(id, left);
+        self.search_anew()
+    }
+
+    // Does what the end of a task has left to do.
+    #[cold]
+    #[inline(never)]
+    fn finish(&mut self, id: TaskId, left: LeftOver<H::Waker, OutputIn<H>>)
+        requires { IsLeftRight left }
+    {
         self.out = None;
         self.executor.finish(id, left);
+    }
+
+    // Searches for a task, which it seldom does apart from the end of the last one.
+    #[cold]
+    #[inline(never)]
+    fn search_anew(&mut self) -> Option<(Taken<()>, Notice)> {
         self.search(None)
     }
 }
@@ -239,13 +255,14 @@ fn work<H: Home, G: Drop>(
     ensures fixed { fixed result.runner ≡ fixed searching.actor }
     ensures goes_on { has_ended result ≡ false }
 {
+    let state = executor.state();
     let mut driver = Driver {
         executor,
+        state,
         key,
         own,
         out: None,
     };
-    let state = executor.state();
     let mut searching = searching;
     let mut again = None;
     let mut is_listed = false;
@@ -335,7 +352,7 @@ impl<H: Home, G: Future<H::Waker>> RunIn<'_, H, G> {
         };
         match polling.poll(&mut own.future, w) {
             OwnPolled::Ready(output, unregistering) => {
-                self.rest = end(executor, unregistering);
+                self.unregister(unregistering);
                 Poll::Ready(output)
             }
             OwnPolled::Pending(searching) => {
@@ -343,6 +360,16 @@ impl<H: Home, G: Future<H::Waker>> RunIn<'_, H, G> {
                 Poll::Pending
             }
         }
+    }
+
+    // Ends a run whose own future was ready. It is inline around the call, so that the room of what that
+    // is handed and gives is cleared on this way alone.
+    #[inline(always)]
+    fn unregister(&mut self, unregistering: Unregistering)
+        ensures runner { self.new.rest.runner ≡ unregistering.runner }
+        ensures ended { has_ended self.new.rest ≡ true }
+    {
+        self.rest = end(self.executor, unregistering);
     }
 }
 

@@ -393,14 +393,11 @@ impl<P, T, W> Queues<P, T, W> {
     }
 }
 
-// Where a walk with this word starts, over so many queues: one alone needs no division.
+// Where a walk with this word starts, over so many queues.
 fn start_of(word: u64, count: usize) -> usize
     requires { 0 < count }
     ensures { result ≡ word % count }
 {
-    if count == 1 {
-        return 0;
-    }
     (word % count as u64) as usize
 }
 
@@ -479,6 +476,10 @@ impl<P, T, W> Queues<P, T, W> {
             return None;
         }
         let count = self.locals.len();
+        // A runner alone has nobody to visit.
+        if count == 1 {
+            return None;
+        }
         let start = start_of(word, count);
         match self.find_queued(own, start, count) {
             Some(other) => Some(other),
