@@ -130,7 +130,7 @@ pub(crate) fn take_ended<H: Home>(
 }
 
 // Gives the table up, and ends the handle once the store is free. It is inline around the call, so that
-// the room of what that gives is cleared on this way alone.
+// the room of what that gives is cleared on this path alone.
 #[inline(always)]
 fn give_up_and_take_ended<H: Home>(
     home: &H,

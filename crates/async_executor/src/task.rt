@@ -79,7 +79,7 @@ impl<H: Home> TaskIn<H> {
     }
 
     // Answers for a task that ended while its handle was polled. It is inline around the call, so that
-    // the room of what that gives is cleared on this way alone.
+    // the room of what that gives is cleared on this path alone.
     #[inline(always)]
     fn answer_late(&mut self) -> Poll<Result<OutputIn<H>, Cancelled>>
         ensures answered { self.new.answered ≡ true }

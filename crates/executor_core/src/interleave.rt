@@ -25,7 +25,7 @@
 //! or a notice or a pick is out, or a ticker has still to search. Where every ticker is a run, this
 //! holds of all queues. They do not say that anybody ever runs. The contract of `World::run` says
 //! besides that a runner which is alone takes tasks in the order in which they were queued.
-ghost use Rattle.std.specs.Prelude.{◌≡◌, ◌≢◌, ◌≤◌, ◌||◌, ◌↔◌, false, length, slice_get, option_map, IfOk, IfErr, IsErr, OnErr};
+ghost use Rattle.std.specs.Prelude.{◌≡◌, ◌≢◌, ◌≤◌, ◌||◌, ◌↔◌, false, true, length, slice_get, option_map, IfOk, IfErr, IsErr, OnErr};
 ghost use Rattle.executor_core.specs.World.Agreement.{CellsAgree, HandlesAgree};
 ghost use Rattle.executor_core.specs.Cells.Calls.{AllDropped};
 ghost use Rattle.executor_core.specs.Limits.{is_lawful, default_limits};
@@ -33,7 +33,7 @@ ghost use Rattle.executor_core.specs.World.Log.{held, owed, idle, EachDropped};
 ghost use Rattle.executor_core.specs.World.Order.{LoneOrder};
 ghost use Rattle.executor_core.specs.World.AllPromises.{KeepsPromises};
 ghost use Rattle.executor_core.specs.World.Promises.{notices_out};
-ghost use Rattle.executor_core.specs.World.Steps.{StepTo, RunTo, opening};
+ghost use Rattle.executor_core.specs.World.Steps.{StepTo, RunTo, Does, enabled, opening};
 ghost use Rattle.executor_core.specs.declared.limits.NewError.TheVariants as NewError;
 
 pub(crate) mod entry;
@@ -175,6 +175,15 @@ impl<P: Drop, T: Copy> World<P, T> {
         if !self.is_enabled(&step) {
             return Reply::NotNow;
         }
+        self.make_step(step)
+    }
+
+    // Makes a step that is enabled, where there is room for it.
+    fn make_step(&mut self, step: Step<P, T>) -> Reply<T>
+        requires room { self.old.accepted ≢ self.old.limit }
+        requires enabled { enabled step self.old ≡ true }
+        ensures { Does step self.old result self.new }
+    {
         match step {
             Step::Spawn(future) => self.spawn(future),
             Step::Wake(n) => self.wake(n),

@@ -99,7 +99,7 @@ pub(crate) enum OwnPolled<T> {
     Ready(T, Unregistering),
 }
 
-// Drops the future. It is a function, so that the room of an empty place is cleared on this way alone.
+// Drops the future. It is a function, so that the room of an empty place is cleared on this path alone.
 #[inline(always)]
 fn let_go<G: Drop>(own: &mut Option<G>) {
     *own = None;

@@ -205,7 +205,7 @@ impl<'x, 'y, H: Home, G: Drop> Driver<'x, 'y, H, G> {
     }
 
     // Does what the end of a task has left to do, and searches for the next one. It is inline around
-    // its calls, so that the room of what they are handed and give is cleared on this way alone.
+    // its calls, so that the room of what they are handed and give is cleared on this path alone.
     #[inline(always)]
     fn finish_then_search(
         &mut self,
@@ -363,7 +363,7 @@ impl<H: Home, G: Future<H::Waker>> RunIn<'_, H, G> {
     }
 
     // Ends a run whose own future was ready. It is inline around the call, so that the room of what that
-    // is handed and gives is cleared on this way alone.
+    // is handed and gives is cleared on this path alone.
     #[inline(always)]
     fn unregister(&mut self, unregistering: Unregistering)
         ensures runner { self.new.rest.runner ≡ unregistering.runner }

@@ -73,13 +73,16 @@ module _ {P T : Type 0} (step : Step P T) (old : Execution T) where
   pub step_not_now : old.accepted ≢ old.limit → enabled step old ≡ false → StepTo old step reply.NotNow old
   step_not_now far off = record { full = λ full. absurd (far full); not_now = λ _ _. (refl, refl); done = λ _ on. absurd (false≢true (sym off ∙ on)) }
 
-  pub step_enabled : {arm : Step P T} → step ≡ arm → enabled step old ≡ true → enabled arm old ≡ true
-  step_enabled is on = subst (λ s. enabled s old ≡ true) is on
-
-  pub step_done : (arm : Step P T) → step ≡ arm → (answer : Reply T) (new : Execution T) → old.accepted ≢ old.limit → enabled step old ≡ true → Does arm old answer new → StepTo old step answer new
-  step_done arm is answer new far on does =
+  pub step_done : (answer : Reply T) (new : Execution T) → old.accepted ≢ old.limit → enabled step old ≡ true → Does step old answer new → StepTo old step answer new
+  step_done answer new far on does =
       record {
         full = λ full. absurd (far full);
         not_now = λ _ off. absurd (false≢true (sym off ∙ on));
-        done = λ _ _. subst (λ s. Does s old answer new) (sym is) does;
+        done = λ _ _. does;
       }
+
+  pub step_enabled : {arm : Step P T} → step ≡ arm → enabled step old ≡ true → enabled arm old ≡ true
+  step_enabled is on = subst (λ s. enabled s old ≡ true) is on
+
+  pub step_does : (arm : Step P T) → step ≡ arm → (answer : Reply T) (new : Execution T) → Does arm old answer new → Does step old answer new
+  step_does arm is answer new does = subst (λ s. Does s old answer new) (sym is) does

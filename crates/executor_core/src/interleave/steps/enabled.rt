@@ -1,5 +1,5 @@
 //! Which steps are enabled.
-ghost use Rattle.std.specs.Prelude.{◌≡◌, ◌&&◌, ◌||◌, not, is_some};
+ghost use Rattle.std.specs.Prelude.{◌≡◌, ◌&&◌, ◌||◌, nat_lt, not, is_some};
 ghost use Rattle.executor_core.specs.World.Log.{held};
 ghost use Rattle.executor_core.specs.World.Promises.{holds};
 ghost use Rattle.executor_core.specs.World.Steps.{info, ticker, some_held, may_close, enabled};
@@ -55,6 +55,13 @@ impl<P: Drop, T: Copy> World<P, T> {
         ensures { result ≡ not (is_some self.now.holder) }
     {
         self.holder.is_none()
+    }
+
+    // Whether a sleeper may be notified.
+    fn may_notify(&self) -> bool
+        ensures { result ≡ (nat_lt 0 self.now.picks && not (is_some self.now.holder)) }
+    {
+        self.picks > 0 && self.is_free()
     }
 
     // Whether the ticker holds the sleepers' lock.
@@ -159,7 +166,7 @@ impl<P: Drop, T: Copy> World<P, T> {
             Step::DropHandle(n) => self.has_handle(*n),
             Step::Dropped(n) => self.may_drop(*n),
             Step::Exchange => self.notices > 0,
-            Step::Notify => self.picks > 0 && self.is_free(),
+            Step::Notify => self.may_notify(),
             Step::Register(k) => self.may_register(*k),
             Step::Poll(k) => self.may_poll(*k),
             Step::Search(k, _) => matches!(self.ticker(*k).phase, Phase::Search),

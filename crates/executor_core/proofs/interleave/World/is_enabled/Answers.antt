@@ -1,5 +1,4 @@
-use Rattle.std.proofs.Common.{◌&&◌, not, ◌∙◌, sym, ap, is_some, nat_lt}
-use Rattle.std.proofs.lemmas.Bool.{lt-ltb}
+use Rattle.std.proofs.Common.{◌∙◌, ap, is_some, nat_lt}
 use Rattle.executor_core.proofs.World.Agreement.{spawned_known}
 use Rattle.executor_core.proofs.interleave.World.is_enabled.Goals as goal
 
@@ -30,6 +29,9 @@ returns-in-Dropped g c = rw c.in-Dropped.is c.may_drop.ensures
 pub returns-in-Exchange : goal.returns-in-Exchange
 returns-in-Exchange g c = rw c.in-Exchange.is (ap (λ w. nat_lt 0 w.notices) c.self.view_is)
 
+pub returns-in-Notify : goal.returns-in-Notify
+returns-in-Notify g c = rw c.in-Notify.is c.may_notify.ensures
+
 pub returns-in-Register : goal.returns-in-Register
 returns-in-Register g c = rw c.in-Register.is c.may_register.ensures
 
@@ -53,6 +55,3 @@ returns-in-Close g c = rw c.in-Close.is c.may_close.ensures
 
 pub returns-in-Leak : goal.returns-in-Leak
 returns-in-Leak g c = rw c.in-Leak.is c.may_close-in-Leak.ensures
-
-pub returns-then-self-gt0 : goal.returns-then-self-gt0
-returns-then-self-gt0 g c = rw c.in-Notify.is (c.is_free.ensures ∙ ap (λ b. b && not (is_some c.args.self.now.holder)) (sym (lt-ltb _ _ c.if-self-gt0.true) ∙ ap (λ w. nat_lt 0 w.picks) c.self.view_is))
