@@ -3,12 +3,13 @@
 # for word, quoted contracts, the calls and clauses that carry a promise, the modules of the map,
 # the worked interleaving of exsim, examples and their lines, links, and figures.
 # Usage: checks/readme.sh, anywhere. RT names the command rt. Its last line counts the comparisons.
-# Runs beside the gate.
 set -u
 . "$(dirname "$0")/edits"
 cd "$top" || exit 1
 calling=crates/async_executor/CALLING.md
 sources=$(find crates -path '*/out' -prune -o \( -name '*.rt' -o -name '*.antt' \) -print)
+
+printf '%s\n' "$sources" | xargs cat > "$copy/sources"
 
 # The text of the first block of this language on a page, below the first line with this text.
 block() { awk -v at="$3" -v head="\`\`\`$2" '
@@ -29,7 +30,16 @@ same() {
 }
 
 # Whether this pattern is found in a source or a spec.
-stands() { printf '%s\n' "$sources" | xargs grep -qE -- "$1"; }
+stands() { grep -qE -- "$1" "$copy/sources"; }
+
+# Runs exsim: that of the gate, unless a source is newer.
+run_exsim() {
+    if [ -x crates/exsim/out/exsim ] && [ -z "$(find crates -name '*.rt' -newer crates/exsim/out/exsim)" ]; then
+        crates/exsim/out/exsim
+    else
+        (cd crates/exsim && "${RT:-rt}" try 2> /dev/null)
+    fi
+}
 
 # A word that names a call, a clause, a type, a definition, a crate or a path has to be there.
 is_there() {
@@ -177,7 +187,7 @@ same "EXSIM.md, the words of a line"
 
 sed -n '/^## One interleaving/,/^## /s/^| `\([^`]*\)` | `\([^`]*\)` |.*/\1\t\2/p' docs/EXSIM.md > "$copy/rows"
 cut -f2 "$copy/rows" > "$copy/said"
-(cd crates/exsim && cut -f1 "$copy/rows" | "${RT:-rt}" try 2> /dev/null) > "$copy/wanted"
+cut -f1 "$copy/rows" | run_exsim > "$copy/wanted"
 same "EXSIM.md, the worked interleaving"
 
 sed -n 's/^bench | \([a-z0-9_]*\) .*/\1/p' docs/figures.txt | sort > "$copy/said"
