@@ -46,7 +46,6 @@ class Edit:
         self.crate = self.said["crate"]
         self.function = self.said.get("function")
         self.test = self.said.get("test")
-        self.is_alone = self.said.get("alone") == "yes"
 
     def texts(self, repository, changes):
         """The files that these changes change, as they leave them."""

@@ -2,8 +2,7 @@
 
 The first guard of a function changes the function itself. Each further one changes a copy of it,
 which stands below it and has a copy of its proof. A function of a trait has no copies, so its further
-guards wait. A guard with the line 'alone: yes' changes more than one body: it waits for the others.
-All other functions have nothing to prove: a body that ends at once, and a hole for a proof. Who calls
+guards wait. All other functions have nothing to prove: a body that ends at once, and a hole for a proof. Who calls
 them goes by their contracts, as ever.
 Usage: guards.py COPY CRATE GUARD.., where GUARD is a file. It prints a line 'FUNCTION GUARD' for each
 that is laid out or, with status 1, why some cannot be.
@@ -80,14 +79,6 @@ class Crate:
         write(f"{proof}/Proof.antt", HOLE.format(crate=self.name, path=".".join(path), name=path[-1]))
         return STUB
 
-    def body_of(self, guard):
-        """The body that a guard which is applied left to its function, as `bodies_of` says it."""
-        for source, text in self.sources.items():
-            for number, function in enumerate(functions_of(text)):
-                if self.is_named(source, function, guard.function):
-                    return {(source, number): [(guard, text[function.body : function.last])]}
-        raise Unapplied(f"{guard.name}: there is no function {guard.function}")
-
 
 def bodies_of(crate, copy, guards):
     """The guards of each function, as {(source, its number): [(guard, body)]}."""
@@ -135,16 +126,9 @@ def with_body(text, function, body, name):
 
 
 def main(copy, name, *paths):
-    guards = [Edit(path) for path in paths]
-    beside = [guard for guard in guards if not guard.is_alone]
+    crate = Crate(copy, name)
     try:
-        if beside:
-            crate = Crate(copy, name)
-            lay_out(crate, bodies_of(crate, copy, beside))
-        else:
-            guards[0].apply(copy)
-            crate = Crate(copy, name)
-            lay_out(crate, crate.body_of(guards[0]))
+        lay_out(crate, bodies_of(crate, copy, [Edit(path) for path in paths]))
     except Unapplied as why:
         print(why)
         sys.exit(1)

@@ -5,8 +5,7 @@
 #
 # A guard is a file of checks/guards with the lines 'crate: NAME', 'function: PATH' as a check
 # prints it below the crate, 'file: PATH', 'old: TEXT' and 'new: TEXT'. It changes the body of that
-# function alone. One with a line 'alone: yes' may change more, as a type or its view, and is tried
-# in a check of its own. checks/guards.py lays out those of one check, a round.
+# function and nothing else. checks/guards.py lays out those of one check, a round.
 # Usage: checks/guards.sh [CRATE [FUNCTION..]], anywhere: all guards, or those of a crate, or those
 # of some functions of it. RT names the command rt. Its last line counts the guards.
 # Runs beside the gate.
