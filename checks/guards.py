@@ -2,8 +2,8 @@
 
 The first guard of a function changes the function itself. Each further one changes a copy of it,
 which stands below it and has a copy of its proof. A function of a trait has no copies, so its further
-guards wait. All other functions have nothing to prove: a body that ends at once, and a hole for a proof. Who calls
-them goes by their contracts, as ever.
+guards wait. All other functions have nothing to prove: a body that ends at once, and a hole for a
+proof. Who calls them goes by their contracts, as ever.
 Usage: guards.py COPY CRATE GUARD.., where GUARD is a file. It prints a line 'FUNCTION GUARD' for each
 that is laid out or, with status 1, why some cannot be.
 """

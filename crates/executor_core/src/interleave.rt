@@ -178,7 +178,7 @@ impl<P: Drop, T: Copy> World<P, T> {
         self.make_step(step)
     }
 
-    // Makes a step that is enabled, where there is room for it.
+    // Makes a step that is enabled, and that the log has room for.
     fn make_step(&mut self, step: Step<P, T>) -> Reply<T>
         requires room { self.old.accepted ≢ self.old.limit }
         requires enabled { enabled step self.old ≡ true }
