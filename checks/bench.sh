@@ -13,20 +13,12 @@ set -eu
 # Copies the repository, with the program as a crate.
 lay_out() {
     copy_sources
-    mkdir -p "$copy/crates/bench/src"
-    for file in "$top"/bench/src/*.rt.txt; do
-        cp "$file" "$copy/crates/bench/src/$(basename "$file" .txt)"
-    done
+    add_crate bench ' may_wait=80: executor_core async_executor priority_executor'
     cp "$top/bench/stdout" "$copy/crates/bench/stdout"
-    echo 'bench may_wait=80: executor_core async_executor priority_executor' >> "$copy/crates.txt"
 }
 
 if [ $# = 1 ]; then
-    rm -rf "$copy"
-    trap - EXIT
-    mkdir -p "$1/crates"
-    copy=$(cd "$1" && pwd)
-    find "$copy/crates" -mindepth 2 -maxdepth 2 ! -name out -exec rm -rf {} +
+    copy_into "$1"
     lay_out
     cd "$copy/crates/bench"
     "$rt" run

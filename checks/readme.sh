@@ -7,7 +7,7 @@ set -u
 . "$(dirname "$0")/edits"
 cd "$top" || exit 1
 calling=crates/async_executor/CALLING.md
-sources=$(find crates -path '*/out' -prune -o \( -name '*.rt' -o -name '*.antt' \) -print)
+sources=$(find crates uses -path '*/out' -prune -o \( -name '*.rt' -o -name '*.antt' -o -name '*.rt.txt' \) -print)
 
 printf '%s\n' "$sources" | xargs cat > "$copy/sources"
 
@@ -45,7 +45,7 @@ run_exsim() {
 is_there() {
     case $1 in
         *[!A-Za-z0-9_:./]* | F | R | S | W | self | break | unsafe | specs/ | proofs/ | src/ | out/) return 0 ;;
-        uses::*) grep -qE "fn ${1#uses::}\b" crates/uses/src/*.rt ;;
+        uses::*) grep -qE "fn ${1#uses::}\b" uses/src/*.rt.txt ;;
         */* | *.md | *.txt | *.svg) [ -e "$1" ] || [ -e "docs/$1" ] || [ -e "crates/executor_core/src/$1.rt" ] ||
             [ -e "crates/async_executor/src/$1.rt" ] || [ -e "crates/async_utilities/src/$1.rt" ] ;;
         [A-Z]*::[a-z]*) stands "fn ${1#*::}\b" ;;
@@ -83,8 +83,8 @@ else
 fi
 
 block "$calling" rust "## A caller" > "$copy/said"
-cp crates/uses/src/calling.rt "$copy/wanted"
-same "CALLING.md, the caller and crates/uses"
+cp uses/src/calling.rt.txt "$copy/wanted"
+same "CALLING.md, the caller and the folder uses"
 
 # A clause is quoted with S for what self points to.
 cat crates/async_executor/src/*.rt crates/async_executor/src/*executor/*.rt \
@@ -116,9 +116,9 @@ done
 grep -rhoE '`uses::[a-z_]+`' docs crates/*/src "$calling" | tr -d '`' | sort -u |
     while read -r word; do is_there "$word" || echo "$word"; done > "$copy/log"
 if [ -s "$copy/log" ]; then
-    fail "examples that crates/uses lacks:" "$copy/log"
+    fail "examples that the folder uses lacks:" "$copy/log"
 else
-    pass "each example is in crates/uses"
+    pass "each example is in the folder uses"
 fi
 
 # The public calls of async_executor whose comment names no example.
@@ -134,10 +134,10 @@ else
     pass "each public call has an example"
 fi
 
-# The examples in comments: each has one to three lines, which stand in a file of crates/uses that
-# defines a caller which the line 'Example: ' above them names.
-for crate in uses executor_core async_executor priority_executor async_utilities; do
-    printf '%s\n' "$sources" | grep "^crates/$crate/src/.*\.rt$"
+# The examples in comments: each has one to three lines, which stand in a file of the folder uses
+# that defines a caller which the line 'Example: ' above them names.
+for folder in uses crates/executor_core crates/async_executor crates/priority_executor crates/async_utilities; do
+    printf '%s\n' "$sources" | grep "^$folder/src/.*\.rt"
 done | xargs awk '
     function stands(line, word, file) {
         for (word = 2; word <= words; word += 2)
@@ -146,7 +146,7 @@ done | xargs awk '
         return 0
     }
     { text = $0; sub(/^ */, "", text) }
-    FILENAME ~ /^crates\/uses\// {
+    FILENAME ~ /^uses\// {
         callers[FILENAME]
         if (text !~ /^\/\//) lines_of[FILENAME, text]
         if (sub(/^(pub(\([a-z]+\))? )?fn /, "uses::", text)) {
@@ -169,9 +169,9 @@ done | xargs awk '
     }
     END { if (!examples) print "there is no example" }' > "$copy/log"
 if [ -s "$copy/log" ]; then
-    fail "examples whose lines crates/uses lacks:" "$copy/log"
+    fail "examples whose lines the folder uses lacks:" "$copy/log"
 else
-    pass "each line of an example is in crates/uses"
+    pass "each line of an example is in the folder uses"
 fi
 
 for page in README.md docs/*.md "$calling"; do

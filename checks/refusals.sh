@@ -29,11 +29,8 @@ give_up() {
 # each request.
 lay_out() {
     copy_sources
-    mkdir -p "$copy/crates/refusals/src" "$copy/cases"
-    for file in "$top"/refusals/src/*.rt.txt; do
-        cp "$file" "$copy/crates/refusals/src/$(basename "$file" .txt)"
-    done
-    echo 'refusals: executor_core async_executor async_utilities slab' >> "$copy/crates.txt"
+    add_crate refusals ': executor_core async_executor async_utilities slab'
+    mkdir "$copy/cases"
     (cd "$edits" && python3 -B "$top/checks/choose.py" program "$copy" "$@")
     number=0
     for edit in none "$@"; do

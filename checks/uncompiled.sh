@@ -9,6 +9,7 @@
 # functions. What is judged is taken away, and the rest is tried again. An edit that changes more
 # than a body is tried alone. `--only=` proves nothing: these errors come before any proof.
 # Usage: checks/uncompiled.sh, anywhere. RT names the command rt. Its last line counts the files.
+# Runs beside the gate.
 set -eu
 . "$(dirname "$0")/edits"
 copy_sources
