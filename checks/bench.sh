@@ -18,7 +18,11 @@ lay_out() {
 }
 
 if [ $# = 1 ]; then
-    copy_into "$1"
+    rm -rf "$copy"
+    trap - EXIT
+    mkdir -p "$1/crates"
+    copy=$(cd "$1" && pwd)
+    find "$copy/crates" -mindepth 2 -maxdepth 2 ! -name out -exec rm -rf {} +
     lay_out
     cd "$copy/crates/bench"
     "$rt" run

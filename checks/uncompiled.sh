@@ -1,8 +1,8 @@
 #!/bin/sh
-# Misuse that must not compile. A file NAME.rt.txt is a crate above async_executor: each line that
-# ends in '//~ ERROR' has to be refused with that error, and no other line. A file NAME.edit changes
-# a crate of the repository, which then has to be refused with the error that it names, in the
-# function that it changes, and nowhere else.
+# Misuse that must not compile. A file NAME.rt.txt is a crate above those that its lines 'use' name:
+# each line that ends in '//~ ERROR' has to be refused with that error, and no other line. A file
+# NAME.edit changes a crate of the repository, which then has to be refused with the error that it
+# names, in the function that it changes, and nowhere else.
 #
 # A check reports the errors of all functions together, up to some number. So the marked lines of a
 # file, each a function, are tried together, and so are edits that change the bodies of different
@@ -14,7 +14,6 @@ set -eu
 . "$(dirname "$0")/edits"
 copy_sources
 mkdir -p "$copy/crates/misuse/src"
-echo 'misuse: executor_core async_executor' >> "$copy/crates.txt"
 edits=$top/checks/uncompiled
 
 # Checks a crate of the copy, and keeps its errors as 'FILE LINE ERROR'. The line 'only=' says that
@@ -44,6 +43,8 @@ try_lines() {
     name=$(basename "$1")
     misuse=$copy/crates/misuse/src/lib.rt
     cp "$1" "$misuse"
+    libraries=$(sed -n 's/^use \([a-z_]*\)::.*/\1/p' "$1" | grep -vx std | sort -u | paste -sd' ')
+    { cat "$top/crates.txt" && echo "misuse: $libraries"; } > "$copy/crates.txt"
     while grep -q '//~ ' "$misuse"; do
         find_errors misuse
         awk '/\/\/~ / { print "src/lib.rt", NR, $NF }' "$misuse" > "$copy/wanted"
