@@ -76,8 +76,11 @@ where
     pub fn new(rt: R, alloc: Global) -> Result<Self, OutOfMemory>
         ensures { IfOk result (λ executor. executor.inner.limits ≡ default_limits) }
     {
-        let inner = ExecutorIn::new(rt, alloc)?;
-        Ok(Executor { inner })
+        match Self::new_with(rt, alloc, Limits::default()) {
+            Ok(executor) => Ok(executor),
+            // The default limits are lawful.
+            Err(_) => Err(OutOfMemory),
+        }
     }
 
     /// As `new`, with these limits: how much room the queues of its runs have, how long their turns

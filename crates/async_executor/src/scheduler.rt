@@ -6,7 +6,7 @@
 //! first, and the output goes into the store where a handle wants it. What neither keeps is dropped
 //! after that.
 ghost use Rattle.std.specs.Prelude.{◌≡◌, ◌↔◌, true, false, IfOk, IfErr, IsErr};
-ghost use Rattle.executor_core.specs.Limits.{is_lawful, default_limits};
+ghost use Rattle.executor_core.specs.Limits.{is_lawful};
 ghost use Rattle.executor_core.specs.SpawnError.{refused_future};
 ghost use Rattle.async_executor.specs.RunError.{run_future};
 ghost use Rattle.async_executor.specs.Runs.{has_ended, IsNewRun};
@@ -59,18 +59,7 @@ pub struct ExecutorIn<H: Home> {
 }
 
 impl<H: Shareable> ExecutorIn<H> {
-    /// An executor without tasks, with the limits of one to which none are handed in.
-    pub(crate) fn new(rt: H::Runtime, alloc: Global) -> Result<ExecutorIn<H>, OutOfMemory>
-        ensures { IfOk result (λ executor. executor.limits ≡ default_limits) }
-    {
-        match ExecutorIn::new_with(rt, alloc, Limits::default()) {
-            Ok(executor) => Ok(executor),
-            Err(NewError::OutOfMemory) => Err(OutOfMemory),
-            Err(NewError::BadLimits) => unreachable!(),
-        }
-    }
-
-    /// The same with these limits, if they are lawful.
+    /// An executor without tasks, with these limits, if they are lawful.
     pub(crate) fn new_with(
         rt: H::Runtime,
         alloc: Global,

@@ -62,8 +62,11 @@ where
     pub fn new(rt: R, alloc: Global) -> Result<Self, OutOfMemory>
         ensures { IfOk result (λ executor. executor.inner.limits ≡ default_limits) }
     {
-        let inner = ExecutorIn::new(rt, alloc)?;
-        Ok(StaticExecutor { inner })
+        match Self::new_with(rt, alloc, Limits::default()) {
+            Ok(executor) => Ok(executor),
+            // The default limits are lawful.
+            Err(_) => Err(OutOfMemory),
+        }
     }
 
     /// As `Executor::new_with`.
@@ -233,8 +236,11 @@ where
     pub fn new(rt: R, alloc: Global) -> Result<Self, OutOfMemory>
         ensures { IfOk result (λ executor. executor.inner.limits ≡ default_limits) }
     {
-        let inner = ExecutorIn::new(rt, alloc)?;
-        Ok(StaticLocalExecutor { inner })
+        match Self::new_with(rt, alloc, Limits::default()) {
+            Ok(executor) => Ok(executor),
+            // The default limits are lawful.
+            Err(_) => Err(OutOfMemory),
+        }
     }
 
     /// As `Executor::new_with`.
