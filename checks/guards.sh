@@ -9,13 +9,10 @@
 # Usage: checks/guards.sh [CRATE [FUNCTION..]], anywhere: all guards, or those of a crate, or those
 # of some functions of it. RT names the command rt. Its last line counts the guards.
 # Runs beside the gate.
-# There the libraries below a crate are those that the gate built: GATE names the folder in which it
-# runs and GATE_LOG what it printed, and the file GATE_END is there once it has ended. Else `rt lib`
-# builds them.
 set -eu
 . "$(dirname "$0")/edits"
+. "$top/checks/built"
 checks=$top/checks
-kit=$(dirname "$("$rt" doc)")
 
 # The guards that are asked for.
 asked() {
@@ -25,50 +22,6 @@ asked() {
             grep -qFx "$(field "$guard" function)" || continue
         echo "$guard"
     done
-}
-
-# Where the library of a crate is built, once it is.
-place_of() {
-    if [ -z "${GATE:-}" ]; then
-        (cd "$top/crates/$1" && "$rt" lib) > "$room/library" 2>&1 || cat "$room/library" >&2
-        echo "$top"
-    else
-        while [ -d "${GATE_END%/*}" ] && [ ! -f "$GATE_END" ] &&
-            ! grep -qsx "rt: $1 proved" "${GATE_LOG:-}"; do
-            sleep 1
-        done
-        echo "$GATE"
-    fi
-}
-
-# The libraries that a crate uses.
-uses() { sed -n "s/^$1\( [^:]*\)\{0,1\}://p" "$top/crates.txt"; }
-
-# The libraries of the repository that a crate uses, and those that they use in turn.
-below() {
-    for library in $(uses "$1"); do
-        [ -d "$kit/rlibs/$library.rlib" ] || { echo "$library" && below "$library"; }
-    done
-}
-
-# The words of a check of this crate, each on a line: its root, the libraries that it uses, and where
-# those below it are.
-words() {
-    printf '%s\n' --crate-name "$1"
-    [ ! -f "$top/crates/$1/src/main.rt" ] || echo src/main.rt
-    [ ! -f "$top/crates/$1/src/lib.rt" ] || echo src/lib.rt
-    printf '%s\n' --extern "std=$kit/rlibs/std.rlib" -L "dependency=$kit/rlibs"
-    for library in $(uses "$1"); do
-        [ ! -d "$kit/rlibs/$library.rlib" ] ||
-            printf '%s\n' --extern "$library=$kit/rlibs/$library.rlib"
-    done
-    for library in $(below "$1" | sort -u); do
-        folder=$(place_of "$library")/crates/$library/out/rlib
-        printf '%s\n' -L "dependency=$folder"
-        ! uses "$1" | grep -qw "$library" || printf '%s\n' --extern "$library=$folder/$library.rlib"
-    done
-    printf '%s\n' --antt-project "$kit/rattle/logic/antt-project.json" \
-        --logic-built "$kit/logic_built" --incremental "$room/kept"
 }
 
 # Lays out guards of this crate, those that the file left lists, in the room, and tries them. What
@@ -116,6 +69,7 @@ try_crates() {
     while read -r _ crate; do
         mkdir "$copy/$crate.taken" 2> /dev/null || continue
         words "$crate" > "$room/words"
+        printf '%s\n' --incremental "$room/kept" >> "$room/words"
         mv "$copy/$crate.asked" "$room/left"
         rm -rf "$room/kept"
         mkdir "$room/kept"

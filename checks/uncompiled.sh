@@ -12,15 +12,18 @@
 # Runs beside the gate.
 set -eu
 . "$(dirname "$0")/edits"
+. "$top/checks/built"
 copy_sources
 mkdir -p "$copy/crates/misuse/src"
 edits=$top/checks/uncompiled
+crates=$copy/crates.txt
 
-# Checks a crate of the copy, and keeps its errors as 'FILE LINE ERROR'. The line 'only=' says that
-# the crate compiles: rt would go on to prove the crates below. Where some errors are not reported,
-# the last line may have more of them, and is left out where it is not the only one.
+# Reads a crate of the copy, and keeps its errors as 'FILE LINE ERROR'. Where some errors are not
+# reported, the last line may have more of them, and is left out where it is not the only one.
 find_errors() {
-    (cd "$copy/crates/$1" && timeout 600 "$rt" check --only= 2>&1) | sed '/^only=/q' > "$copy/log"
+    words "$1" > "$copy/words"
+    (cd "$copy/crates/$1" && xargs -d '\n' "$kit/bin/rattle" check --only= < "$copy/words") \
+        > "$copy/log" 2>&1 || :
     sed -nE 's/^([^ :]*):([0-9]*):[0-9]*: error(\[([a-z-]*)\])?.*/\1 \2 \4/p' "$copy/log" |
         sort -u -k1,1 -k2,2n -k3 > "$copy/found"
     is_cut=$(grep -cE ' and [0-9]+ more errors?$' "$copy/log") || return 0
@@ -44,7 +47,7 @@ try_lines() {
     misuse=$copy/crates/misuse/src/lib.rt
     cp "$1" "$misuse"
     libraries=$(sed -n 's/^use \([a-z_]*\)::.*/\1/p' "$1" | grep -vx std | sort -u | paste -sd' ')
-    { cat "$top/crates.txt" && echo "misuse: $libraries"; } > "$copy/crates.txt"
+    { cat "$top/crates.txt" && echo "misuse: $libraries"; } > "$crates"
     while grep -q '//~ ' "$misuse"; do
         find_errors misuse
         awk '/\/\/~ / { print "src/lib.rt", NR, $NF }' "$misuse" > "$copy/wanted"
