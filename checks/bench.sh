@@ -7,6 +7,7 @@
 # measures, and costs as much as that of a library.
 # Usage: checks/bench.sh [FOLDER], anywhere. RT names the command rt. Its last line counts the rows; with
 # a folder it names the program. What was proved there is kept.
+# Runs beside the gate.
 set -eu
 . "$(dirname "$0")/edits"
 

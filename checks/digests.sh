@@ -213,6 +213,7 @@ for _ in sys.argv[4:]:
 print(re.search(r"VmHWM:\s*(\d+)", open(f"/proc/{run.pid}/status").read())[1])
 run.communicate()' "$program" -j 4 "$@"
 }
+truncate -s 100M large
 for files in one 'small/*' large 'large small/* large'; do
     memory=$(most_memory $files)
     if [ "$memory" -le 8192 ]; then
