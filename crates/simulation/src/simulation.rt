@@ -103,7 +103,7 @@ impl<R: Read + Drop, W: Write + Drop> Simulation<R, W> {
             (None, None) => return end_at_bad_line(&mut self.replies, 1),
         };
         match World::new_with(self.alloc, STEP_LIMIT, limits) {
-            Ok(world) => self.answer_in(world, first),
+            Ok(mut world) => self.answer_in(&mut world, first),
             Err(error) => end_without_world(&mut self.replies, error),
         }
     }
@@ -111,13 +111,18 @@ impl<R: Read + Drop, W: Write + Drop> Simulation<R, W> {
     // Answers the first line, and then the others. It is no command where it said the limits.
     fn answer_in(
         &mut self,
-        mut world: World<(), u64>,
+        world: &mut World<(), u64>,
         first: Option<Command>,
     ) -> io::Result<Ending> {
         match first {
-            Some(command) => answer(&mut world, &mut self.replies, command)?,
+            Some(command) => answer(world, &mut self.replies, command)?,
             None => self.replies.write_all(b"done\n")?,
         }
+        self.answer_others(world)
+    }
+
+    // Answers the lines behind the first one.
+    fn answer_others(&mut self, world: &mut World<(), u64>) -> io::Result<Ending> {
         for number in 2..u64::MAX {
             let line = match self.lines.next_line() {
                 Ok(Some(line)) => line,
@@ -126,7 +131,7 @@ impl<R: Read + Drop, W: Write + Drop> Simulation<R, W> {
                 Err(_) => break,
             };
             match command_within(line) {
-                Some(command) => answer(&mut world, &mut self.replies, command)?,
+                Some(command) => answer(world, &mut self.replies, command)?,
                 None => return end_at_bad_line(&mut self.replies, number),
             }
         }
