@@ -2,7 +2,7 @@
 //!
 //! It is gone through twice, once for the options and once for the files, and a word is read when its
 //! turn comes. So no list of files is kept, however many there are.
-ghost use Rattle.std.specs.Prelude.{◌≡◌, ◌≢◌, ◌⊎◌, ◌<◌, ◌≤◌, ◌==◌, ◌||◌, ◌↔◌, ℕ, IfNone, IfOk, IfSome, IsOk, codes, false, length, slice_index};
+ghost use Rattle.std.specs.Prelude.{◌≡◌, ◌≢◌, ◌<◌, ◌≤◌, ◌==◌, ◌||◌, ◌↔◌, ℕ, IfNone, IfOk, IfSome, IsOk, codes, false, length, slice_index, true};
 ghost use Rattle.digests.specs.Words.{AsksForThreads, IsFile, IsLawful, IsThreadCount, is_input};
 
 use crate::failure::Failure;
@@ -93,9 +93,8 @@ pub enum Word {
     Help,
 }
 
-// What a word is.
+// Which option a word is.
 enum Kind {
-    File,
     EndOfOptions,
     Threads,
     ThreadsAndNumber,
@@ -104,23 +103,33 @@ enum Kind {
     Unknown,
 }
 
-fn kind_of(word: &[u8]) -> Kind
-    ensures end { (result ≡ Kind.EndOfOptions) ↔ (word.now ≡ codes "--") }
-    ensures threads { (result ≡ Kind.Threads) ↔ (word.now ≡ codes "-j") }
-    ensures progress { (result ≡ Kind.Progress) ↔ (word.now ≡ codes "--progress") }
-    ensures help { (result ≡ Kind.Help) ↔ (word.now ≡ codes "--help") }
-    ensures file { (result ≡ Kind.File) ↔ ((length word.now < 2) ⊎ (slice_index word.now 0 ≢ 45)) }
-    ensures number { result ≡ Kind.ThreadsAndNumber → (2 ≤ length word.now) × (slice_index word.now 1 ≡ 106) }
-    ensures unknown { result ≡ Kind.Unknown → slice_index word.now 1 ≢ 106 }
+// Whether a word begins with a dash, and is more than that.
+fn is_option(word: &[u8]) -> bool
+    ensures { (result ≡ true) ↔ ((2 ≤ length word.now) × (slice_index word.now 0 ≡ 45)) }
 {
-    match word {
-        b"--" => Kind::EndOfOptions,
-        b"-j" => Kind::Threads,
-        b"--progress" => Kind::Progress,
-        b"--help" => Kind::Help,
-        [b'-', b'j', ..] => Kind::ThreadsAndNumber,
-        [b'-', _, ..] => Kind::Unknown,
-        _ => Kind::File,
+    matches!(word, [b'-', _, ..])
+}
+
+fn kind_of(option: &[u8]) -> Kind
+    ensures end { (result ≡ Kind.EndOfOptions) ↔ (option.now ≡ codes "--") }
+    ensures threads { (result ≡ Kind.Threads) ↔ (option.now ≡ codes "-j") }
+    ensures progress { (result ≡ Kind.Progress) ↔ (option.now ≡ codes "--progress") }
+    ensures help { (result ≡ Kind.Help) ↔ (option.now ≡ codes "--help") }
+    ensures number { result ≡ Kind.ThreadsAndNumber → (2 ≤ length option.now) × (slice_index option.now 1 ≡ 106) }
+    ensures unknown { result ≡ Kind.Unknown → slice_index option.now 1 ≢ 106 }
+{
+    if option == b"--".as_slice() {
+        Kind::EndOfOptions
+    } else if option == b"-j".as_slice() {
+        Kind::Threads
+    } else if option == b"--progress".as_slice() {
+        Kind::Progress
+    } else if option == b"--help".as_slice() {
+        Kind::Help
+    } else if matches!(option, [_, b'j', ..]) {
+        Kind::ThreadsAndNumber
+    } else {
+        Kind::Unknown
     }
 }
 
@@ -159,11 +168,18 @@ impl<'a, R: System> Words<'a, R> {
         let Some(word) = self.read()? else {
             return Ok(None);
         };
-        if !self.has_options {
-            return Ok(Some(Word::File(word)));
+        if self.has_options && is_option(&word) {
+            self.option(&word)
+        } else {
+            Ok(Some(Word::File(word)))
         }
-        match kind_of(&word) {
-            Kind::File => Ok(Some(Word::File(word))),
+    }
+
+    // The word of an option, to which the word behind it may belong.
+    fn option(&mut self, option: &[u8]) -> Result<Option<Word>, Failure>
+        ensures lawful { IfOk result (λ word. IfSome word IsLawful) }
+    {
+        match kind_of(option) {
             Kind::EndOfOptions => {
                 self.has_options = false;
                 Ok(self.read()?.map(Word::File))
@@ -172,10 +188,10 @@ impl<'a, R: System> Words<'a, R> {
                 Some(number) => self.threads(&number),
                 None => Err(Failure::NoNumber),
             },
-            Kind::ThreadsAndNumber => self.threads(&word[2..]),
+            Kind::ThreadsAndNumber => self.threads(&option[2..]),
             Kind::Progress => Ok(Some(Word::Progress)),
             Kind::Help => Ok(Some(Word::Help)),
-            Kind::Unknown => Err(Failure::UnknownOption(quoted(self.alloc, &word)?)),
+            Kind::Unknown => Err(Failure::UnknownOption(quoted(self.alloc, option)?)),
         }
     }
 

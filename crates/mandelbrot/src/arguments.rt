@@ -10,7 +10,7 @@ pub const MOST_PIXELS: u32 = 16384;
 pub const MOST_THREADS: u32 = 64;
 
 /// What the program is to draw, and how.
-#[derive(Debug, Clone, Copy, PartialEq, Eq)]
+#[derive(Clone, Copy)]
 pub struct Arguments {
     pub width: u32,
     pub height: u32,
@@ -25,7 +25,7 @@ pub struct Arguments {
 }
 
 /// What is wrong with the arguments.
-#[derive(Debug, Clone, Copy, PartialEq, Eq, Error)]
+#[derive(Debug, Clone, Copy, Error)]
 pub enum BadArguments {
     /// The width or the height is not there.
     #[error("the width and the height are missing")]

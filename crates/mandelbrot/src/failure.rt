@@ -6,7 +6,7 @@ use std::alloc::{AllocError, AllocFailed};
 use thiserror::Error;
 
 /// Why there is no picture, or only a part of it.
-#[derive(Debug, Clone, Copy, PartialEq, Eq, Error)]
+#[derive(Debug, Clone, Copy, Error)]
 pub enum Failure {
     /// The arguments are bad.
     #[error("{0}\nusage: mandelbrot WIDTH HEIGHT [-j THREADS] [--progress]")]

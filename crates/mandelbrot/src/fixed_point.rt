@@ -18,7 +18,7 @@ pub const LIMIT: u32 = 1000;
 const FOUR: i64 = 1 << 58;
 
 /// A point of the plane.
-#[derive(Debug, Clone, Copy, PartialEq, Eq)]
+#[derive(Clone, Copy)]
 pub struct Point {
     pub real: i32,
     pub imaginary: i32,

@@ -7,7 +7,7 @@ use crate::fixed_point::{ONE, Point};
 pub const BAND_ROWS: u32 = 4;
 
 /// The part of the plane from -2.25 to 0.75 and from -1 to 1, in so many pixels.
-#[derive(Debug, Clone, Copy, PartialEq, Eq)]
+#[derive(Clone, Copy)]
 pub struct Picture {
     pub width: u32,
     pub height: u32,
@@ -18,7 +18,7 @@ pub struct Picture {
 }
 
 /// Some rows of a picture, the first one on top.
-#[derive(Debug, Clone, Copy, PartialEq, Eq)]
+#[derive(Clone, Copy)]
 pub struct Rows {
     pub first: u32,
     pub count: u32,
