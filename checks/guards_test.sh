@@ -6,7 +6,7 @@
 set -eu
 . "$(dirname "$0")/edits"
 mkdir -p "$copy/checks/guards" "$copy/crates/sums/src" "$copy/crates/sums/proofs/thrice"
-(cd "$top/checks" && cp edits edits.py guards.py guards.sh refused.awk "$copy/checks")
+(cd "$top/checks" && cp built edits edits.py guards.py guards.sh refused.awk "$copy/checks")
 echo 'sums:' > "$copy/crates.txt"
 cat > "$copy/crates/sums/src/lib.rt" <<'END'
 //! Sums of small numbers.
