@@ -94,11 +94,13 @@ plan_edits() {
 }
 
 # Applies edits that are left to a crate of the copy: one that is tried alone, or those of different
-# functions. Where an edit's new text is the old text of another, that one waits.
+# functions that name one error, since an error of one kind may keep those of another from being found.
+# If an edit's new text is the old text of another, that one waits.
 apply_round() {
     restore_sources "$1"
     awk '
-        NR > 1 && $4 == "alone" || $1 in taken { next }
+        NR == 1 { error = $2 }
+        NR > 1 && ($4 == "alone" || $2 != error) || $1 in taken { next }
         { taken[$1]; print }
         $4 == "alone" { exit }' "$copy/left" > "$copy/round"
     : > "$copy/tried"

@@ -1,5 +1,5 @@
 //! The calls of a home. Each is one change of its store, which no other change overlaps, with one of
-//! the table inside it where that has to change with it.
+//! the table inside it if that has to change with it.
 //!
 //! A change polls nothing of a task, drops nothing and wakes nobody: what is to be dropped or woken is
 //! part of its answer.
@@ -9,18 +9,18 @@ ghost use Rattle.async_executor.specs.LeftOver.{IsHeldRight, IsLeftRight, IsEndR
 
 use crate::home::{Home, OutIn, OutputIn, Shareable, store};
 use crate::left_over::{EndThenSearch, LeftOver, finished};
+use crate::machine::Search;
 use crate::runner::Words;
 use crate::state::{ExecutorState, cells};
 use crate::store::Store;
 use crate::waker::{LentWake, TaskWaker};
-use executor_core::queue::RunnerKey;
 use executor_core::task::{
     Cells, EndPending, EndReady, Held, Notice, PollHandle, Ran, SpawnError, Taken, TaskId, Wakeup,
 };
 use std::sync::{Arc, MutexGuard};
 
 /// Makes a task of this future and keeps the future. Its place is made before the task is queued.
-/// Where that is refused, all is as before.
+/// If that is refused, all is as before.
 pub(crate) fn spawn<H: Shareable>(
     home: &H,
     future: H::Future,
@@ -60,8 +60,8 @@ pub(crate) fn take<H: Home>(home: &H, id: TaskId) -> OutIn<H> {
     store.get().take(id)
 }
 
-/// Ends a task that was run, and keeps its future or its output, where the handle wants it. There is
-/// a notice where the task was queued.
+/// Ends a task that was run, and keeps its future or its output, if the handle wants it. There is
+/// a notice if the task was queued.
 #[inline(always)]
 pub(crate) fn end<H: Home>(
     home: &H,
@@ -86,7 +86,7 @@ pub(crate) fn end_then_search<'a, H: Home>(
     id: TaskId,
     ran: Ran<(), OutputIn<H>>,
     out: &mut OutIn<H>,
-    key: &RunnerKey,
+    search: Search,
     words: &mut Words,
 ) -> EndThenSearch<H::Waker, OutputIn<H>>
     requires { IsHeldRight ran }
@@ -94,7 +94,7 @@ pub(crate) fn end_then_search<'a, H: Home>(
 {
     let mut store = store!(home);
     let cells = cells!(state);
-    store.get().end_then_search(cells, id, ran, out, key, words)
+    store.get().end_then_search(cells, id, ran, out, search, words)
 }
 
 // Whether no queue has a task, so that a search is in vain.
@@ -111,7 +111,7 @@ fn is_unscheduled<W>(cells: &Cells<(), (), W>) -> bool {
     true
 }
 
-/// Ends the handle of a task that has ended. The output comes out where there is one, and a waker
+/// Ends the handle of a task that has ended. The output comes out, if there is one, and a waker
 /// that was left. `None` says that the task has not ended.
 #[inline(always)]
 pub(crate) fn take_ended<H: Home>(
@@ -153,7 +153,7 @@ pub(crate) fn wait_and_take_ended<H: Home>(
     store.get().take_ended(&mut cells, id)
 }
 
-/// Leaves this waker at the handle of a task, in place of an earlier one, which comes out. Where the
+/// Leaves this waker at the handle of a task, in place of an earlier one, which comes out. If the
 /// handle has an answer, this one comes back.
 #[inline(always)]
 pub(crate) fn await_handle<H: Home>(
@@ -192,7 +192,7 @@ impl<F: Drop, W: Drop, R: Drop, T: Drop> Store<F, Arc<ExecutorState<W, R>>, T> {
         }
     }
 
-    /// Ends a task that was run, and keeps its future or output. There is a notice where it was
+    /// Ends a task that was run, and keeps its future or output. There is a notice if it was
     /// queued.
     #[inline(always)]
     pub(crate) fn end(
@@ -223,7 +223,7 @@ impl<F: Drop, W: Drop, R: Drop, T: Drop> Store<F, Arc<ExecutorState<W, R>>, T> {
         id: TaskId,
         ran: Ran<(), T>,
         out: &mut Out<F, W, R>,
-        key: &RunnerKey,
+        search: Search,
         words: &mut Words,
     ) -> EndThenSearch<W, T>
         requires { IsHeldRight ran }
@@ -247,11 +247,12 @@ impl<F: Drop, W: Drop, R: Drop, T: Drop> Store<F, Arc<ExecutorState<W, R>>, T> {
             Ok(notice) => notice,
             Err(left) => return EndThenSearch::Left(left),
         };
-        let found = cells.search(*key, words.next(), None);
+        // After the end, which may have queued this very task: no search before it would find that.
+        let found = search.make(&mut cells, words.next(), None);
         drop(cells);
-        if let Some((taken, _)) = &found {
+        if let Some(next) = &found {
             // The last one is not out any more.
-            *out = self.take(taken.id());
+            *out = self.take(next.id());
         }
         EndThenSearch::Searched(notice, found)
     }

@@ -2,7 +2,8 @@
 ghost use Rattle.std.specs.Prelude.{IfErr};
 ghost use Rattle.async_executor.specs.LeftOver.{IsLeftRight};
 
-use executor_core::task::{Held, Notice, Taken, Wakeup};
+use crate::machine::NextTask;
+use executor_core::task::{Held, Notice, Wakeup};
 
 /// What the end of a task leaves to do.
 pub enum LeftOver<W, T> {
@@ -19,8 +20,8 @@ pub enum LeftOver<W, T> {
 
 /// What came of the end of a task and of a search after it, made as one change.
 pub enum EndThenSearch<W, T> {
-    /// The task was ended, with a notice where it was queued. This is what the search found.
-    Searched(Option<Notice>, Option<(Taken<()>, Notice)>),
+    /// The task was ended, with a notice if it was queued. This is what the search found.
+    Searched(Option<Notice>, Option<NextTask>),
     /// The task was ended, and the search was in vain. The awaiter is to be woken.
     InVain(Wakeup<W>),
     /// The end leaves something to do first, so nothing was searched.

@@ -19,8 +19,8 @@ mod tick;
 pub(crate) use run::Runner;
 pub use run::{RunAction, RunMachine, RunNext, RunReply, RunRest};
 pub(crate) use run_steps::{
-    Begun, Dropped, NotRegistered, OwnPolled, PollingOwn, Registering, Sharing, Started, UnderWay,
-    Unregistering,
+    Begun, Dropped, NextTask, NotRegistered, OwnPolled, PollingOwn, Registering, Search, Sharing,
+    Started, UnderWay, Unregistering,
 };
 pub(crate) use steps::{Departing, Found, GoingToSleep, Rested, Running, Searching, Yielding};
 pub(crate) use tick::Alone;

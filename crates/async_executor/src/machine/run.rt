@@ -28,7 +28,7 @@ ghost use Rattle.async_executor.specs.declared.machine.tick.LeavingState.TheVari
 
 use crate::machine::count::Count;
 use crate::machine::run_steps;
-use crate::machine::run_steps::{Begun, Dropped};
+use crate::machine::run_steps::{Begun, Dropped, Search};
 use crate::machine::tick::{TickAction, TickEnd, TickMachine, TickNext, TickReply, TickRest};
 use Aim::{Leave, PassOn, Work};
 use RunAction::{Fair, PollOwn, Register, Release, Tick, Unregister};
@@ -108,11 +108,14 @@ impl RunRest {
         matches!(self.stage, Ended)
     }
 
-    /// The key of its runner.
-    pub fn key(&self) -> RunnerKey
-        ensures { result ≡ self.now.runner.key }
+    /// What its poll searches with.
+    #[inline(always)]
+    pub(crate) fn search(&self) -> Search
+        ensures { result ≡ record { key = self.now.runner.key } }
     {
-        self.runner.key
+        Search {
+            key: self.runner.key,
+        }
     }
 
     // That of a run whose runner was not registered.
@@ -205,7 +208,7 @@ pub enum RunReply<W> {
     Tick(TickReply<W>),
     /// The fair part was taken.
     Moved,
-    /// The runner's queue has ended, with a notice where tasks stood in it.
+    /// The runner's queue has ended, with a notice if tasks stood in it.
     Unregistered(Option<Notice>),
     /// The place of the runner was given back.
     Released,
@@ -268,7 +271,7 @@ fn search<W>(runner: Runner, number: usize) -> RunNext<W>
     }
 }
 
-// The run leaves the sleepers, where it has a number.
+// The run leaves the sleepers, if it has a number.
 #[inline(always)]
 fn leave<W>(runner: Runner, number: usize) -> RunNext<W>
     ensures { result ≡ dropping runner number }

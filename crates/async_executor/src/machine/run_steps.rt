@@ -10,15 +10,19 @@
 //! | `UnderWay` | runs the task | `Searching`, or `Yielding` once its turn is over |
 //! | `Unregistering` | ends the queue of its runner | `Departing`, with the notice of that |
 //! | `Releasing` | gives the place of a runner back that was never registered | it has ended |
-ghost use Rattle.std.specs.Prelude.{◌≡◌, ◌==◌, nat_lt, [], Bool, true, false, cond, Option, Some, None, IfOk, IfErr, OnOk, MatchResult};
-ghost use Rattle.executor_core.specs.Cells.Calls.{after_unregister, after_fair, after_release_runner};
+ghost use Rattle.std.specs.Prelude.{◌≡◌, ◌==◌, nat_lt, [], Bool, true, false, cond, Option, Some, None, Ok, Err, IfOk, IfErr, IfNone, IfSome, OnOk, MatchResult};
+ghost use Rattle.executor_core.specs.Cells.Calls.{after_register, after_search, search_in, after_unregister, after_fair, after_release_runner, TakesFound};
 ghost use Rattle.async_executor.specs.Runs.{has_ended};
+ghost use Rattle.async_executor.specs.Runs.Counts.{goes_on, more, anew};
 ghost use Rattle.async_executor.specs.Runs.Fixed.{fixed, runner_polled, runner_started};
+ghost use Rattle.async_executor.specs.Steps.{IsFound};
+ghost use Rattle.async_executor.specs.declared.machine.run.Stage.TheVariants as stage;
+ghost use Rattle.async_executor.specs.declared.machine.run_steps.Started.TheVariants as started;
 
 use crate::machine::run::{RunRest, Runner};
-use crate::machine::steps::{Departing, Rested, Running, Searching, Yielding};
+use crate::machine::steps::{Departing, Found, Rested, Running, Searching, Yielding};
 use executor_core::queue::{Ring, RunnerKey};
-use executor_core::task::{Cells, Future, Notice, Poll, Taken, Wake};
+use executor_core::task::{Again, Cells, Future, Notice, Poll, Taken, TaskId, Wake};
 
 /// A poll of a run begins.
 pub(crate) enum Begun {
@@ -50,6 +54,7 @@ impl Registering {
     ) -> Result<PollingOwn, (NotRegistered, Ring)>
         requires { ring.ids ≡ [] }
         ensures runner { MatchResult result (λ polling. polling.runner ≡ self.runner) (λ refused. refused.0.runner ≡ self.runner) }
+        ensures cells { MatchResult result (λ _. cells.new ≡ after_register cells.old self.runner.key.number ring.capacity) (λ _. cells.new ≡ cells.old) }
         ensures refused { IfErr result (λ refused. refused.1 ≡ ring) }
     {
         let Registering { runner } = self;
@@ -129,6 +134,60 @@ impl PollingOwn {
     }
 }
 
+/// What a run searches with: the key of its runner, which no driver is handed.
+#[derive(Clone, Copy)]
+pub(crate) struct Search {
+    pub(in crate::machine) key: RunnerKey,
+}
+
+impl Search {
+    /// Searches for a task, with a word that says where the walk over the other queues starts.
+    #[inline(always)]
+    pub(crate) fn make<W>(
+        self,
+        cells: &mut Cells<(), (), W>,
+        word: u64,
+        again: Option<Again>,
+    ) -> Option<NextTask>
+        ensures table { cells.new ≡ after_search cells.old self.key.number word }
+        ensures none { IfNone result ((search_in cells.old self.key.number word).0 ≡ None) }
+        ensures some { IfSome result (λ next. TakesFound cells.old self.key.number word next.taken) }
+    {
+        let Some((taken, notice)) = cells.search(self.key, word, again) else {
+            return None;
+        };
+        Some(NextTask { taken, notice })
+    }
+}
+
+/// A task that a run found, with the notice of its take. The run has to come to it by the step that
+/// searched: so it is counted before it is run.
+pub(crate) struct NextTask {
+    taken: Taken<()>,
+    notice: Notice,
+}
+
+impl NextTask {
+    /// Which task it is.
+    #[inline(always)]
+    pub(crate) fn id(&self) -> TaskId
+        ensures { result ≡ self.now.taken.id }
+    {
+        self.taken.id()
+    }
+}
+
+impl Searching<Runner> {
+    /// The search found this task.
+    #[inline(always)]
+    pub(crate) fn found_next(self, next: NextTask) -> Found<Runner>
+        ensures { IsFound self next.taken next.notice result }
+    {
+        let NextTask { taken, notice } = next;
+        self.found(taken, notice)
+    }
+}
+
 /// A task that was found is counted.
 pub(crate) enum Started {
     /// The run takes its fair part before it runs the task.
@@ -141,7 +200,8 @@ impl Running<Runner> {
     /// Counts the task.
     #[inline(always)]
     pub(crate) fn start(self) -> Started
-        ensures { fixed (runner_started result) ≡ fixed self.actor }
+        ensures fixed { fixed (runner_started result) ≡ fixed self.actor }
+        ensures found { result ≡ cond (goes_on self.actor.found) (started.Run (record { runner = record self.actor { found = more self.actor.found } }) self.taken) (started.Share (record { runner = record self.actor { found = anew self.actor.found }; taken = self.taken })) }
     {
         let Running { actor, taken } = self;
         let (runner, is_fair) = actor.found();
@@ -181,7 +241,8 @@ impl UnderWay {
     /// It was run. After the last one of a turn the run yields, so that others of its thread go on.
     #[inline(always)]
     pub(crate) fn ran(self) -> Result<Searching<Runner>, Yielding<Runner>>
-        ensures { MatchResult result (λ searching. fixed searching.actor ≡ fixed self.runner) (λ yielding. fixed yielding.actor ≡ fixed self.runner) }
+        ensures fixed { MatchResult result (λ searching. fixed searching.actor ≡ fixed self.runner) (λ yielding. fixed yielding.actor ≡ fixed self.runner) }
+        ensures ran { result ≡ cond (goes_on self.runner.count) (Ok (record { actor = record self.runner { count = more self.runner.count }; number = 0 })) (Err (record { actor = record self.runner { count = anew self.runner.count }; number = 0 })) }
     {
         let UnderWay { runner } = self;
         match runner.ran() {
@@ -195,8 +256,7 @@ impl Rested<Runner> {
     /// What the run keeps until its next poll.
     #[inline(always)]
     pub(crate) fn keep(self) -> RunRest
-        ensures runner { result.runner ≡ self.actor }
-        ensures goes_on { has_ended result ≡ false }
+        ensures { result ≡ record { runner = self.actor; stage = stage.Joined self.number } }
     {
         let Rested { actor, number } = self;
         RunRest::of_joined(actor, number)

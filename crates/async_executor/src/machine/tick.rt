@@ -4,16 +4,16 @@
 //!
 //! | while it | it keeps |
 //! |---|---|
-//! | searches, goes to sleep, or removes its number | the number, where it has one |
+//! | searches, goes to sleep, or removes its number | the number, if it has one |
 //! | removes its number since it found a task | the task, and the notice of its take |
-//! | spends that notice, and the pick and the wakeup that come of it | the task |
+//! | spends that notice, a pick that comes of it, or the wakeup of that pick | the task |
 //!
 //! All else that must be spent goes out with the next action. So a path on which something is
 //! forgotten, as a search before the store or a rest with a notice, does not compile. What the types
 //! leave open is the table of `specs/Ticks/Table.antt`, keyed by the reply. `specs/Ticks/Decisions.antt`
 //! has it keyed by what the machine waits for.
 //!
-//! It is awake exactly where its number is 0, which no sleeper has.
+//! It is awake exactly if its number is 0, which no sleeper has.
 ghost use Rattle.std.specs.Prelude.{◌≡◌, ℕ, Bool, true, false, Option, Some, None};
 ghost use Rattle.async_executor.specs.Ticks.{answers, asked, asked_in, store_asked, store_after, AskRun, AskStart, IsAsked};
 ghost use Rattle.async_executor.specs.Ticks.Courses.{course, course_in, KeepsCourse};
@@ -52,7 +52,7 @@ impl TickRest {
         self.ended
     }
 
-    /// That of a tick that sleeps under this number, or is awake where the number is 0.
+    /// That of a tick that sleeps under this number, or is awake if the number is 0.
     pub(in crate::machine) fn at(number: usize) -> TickRest
         ensures { result ≡ record { number = number; ended = false } }
     {
@@ -62,7 +62,7 @@ impl TickRest {
         }
     }
 
-    /// The number under which the tick sleeps, or 0 where it is awake.
+    /// The number under which the tick sleeps, or 0 if it is awake.
     pub fn number(self) -> usize
         ensures { result ≡ self.number }
     {
@@ -164,7 +164,7 @@ pub enum TickAction<W> {
     Notify(Pick),
     /// Wake the sleeper that was notified.
     Wake(Wakeup<W>),
-    /// Poll the future of the task once, or drop it where the task was cancelled.
+    /// Poll the future of the task once, or drop it if the task was cancelled.
     Run(Taken<()>),
 }
 
@@ -194,11 +194,11 @@ pub enum TickReply<W> {
     Stored(Again),
     /// The sleeper was taken out of the list.
     RemovedIt(Change<Removed<W>>),
-    /// The flag was stored after the removal, which gave the notice where the sleeper was notified.
+    /// The flag was stored after the removal, which gave the notice if the sleeper was notified.
     StoredRemoved(Option<Notice>),
-    /// The flag was exchanged, and gave the pick where somebody is to be notified.
+    /// The flag was exchanged, and gave the pick if somebody is to be notified.
     Exchanged(Option<Pick>),
-    /// A sleeper was notified, where there was one to notify.
+    /// A sleeper was notified, if there was one to notify.
     Notified(Option<Wakeup<W>>),
     /// The sleeper was woken.
     Woken,

@@ -2,7 +2,7 @@
 //!
 //! No lock is held while a future is polled or dropped, or a waker is copied, woken or dropped. One
 //! poll of a task takes each lock once: the task that was polled is ended and the next one is taken
-//! in one change. Where the end leaves something to drop or to wake, that is done first, and the
+//! in one change. If the end leaves something to drop or to wake, that is done first, and the
 //! search is a change of its own, unless no task was scheduled then.
 ghost use Rattle.std.specs.Prelude.{◌≡◌, [], true, false, Some, None, IsTrue, IfErr, MatchResult};
 ghost use Rattle.executor_core.specs.Limits.{is_lawful};
@@ -17,8 +17,8 @@ use crate::changes;
 use crate::home::{Home, OutIn, OutputIn, store};
 use crate::left_over::{EndThenSearch, LeftOver};
 use crate::machine::{
-    Begun, Dropped, GoingToSleep, NotRegistered, OwnPolled, PollingOwn, Registering, RunMachine,
-    RunRest, Runner, Running, Searching, Started, Unregistering, Yielding,
+    Begun, Dropped, GoingToSleep, NextTask, NotRegistered, OwnPolled, PollingOwn, Registering,
+    RunMachine, RunRest, Runner, Running, Search, Searching, Started, Unregistering, Yielding,
 };
 use crate::runner::words::Words;
 use crate::scheduler::{ExecutorIn, poll_taken};
@@ -26,7 +26,7 @@ use crate::state::{ExecutorState, announce, cells};
 use crate::ticker::{Slept, announce_found, leave, sleep};
 use executor_core::limits::Limits;
 use executor_core::queue::{Ring, RunnerError, RunnerKey};
-use executor_core::task::{Again, Cells, Future, Notice, Poll, Ran, Taken, TaskId, Wake};
+use executor_core::task::{Again, Cells, Future, Poll, Ran, TaskId, Wake};
 use std::sync::{MutexGuard, Wait};
 use thiserror::Error;
 
@@ -60,6 +60,14 @@ impl<G> RunError<G> {
     }
 
     /// The future that was refused.
+    ///
+    /// Example: `uses::helped`, which `uses::winds_up` calls.
+    ///
+    /// ```text
+    /// match run_until(rt, alloc, executor, task) {
+    /// Err(refused) => {
+    ///     refused.into_inner().detach();
+    /// ```
     pub fn into_inner(self) -> G
         ensures { result ≡ run_future self }
     {
@@ -120,7 +128,7 @@ struct Driver<'x, 'y, H: Home, G: Drop> {
     executor: &'x ExecutorIn<H>,
     // That of the executor, at hand.
     state: &'x ExecutorState<H::Waker, H::Runtime>,
-    key: RunnerKey,
+    search: Search,
     own: &'y mut Own<G>,
     out: OutIn<H>,
 }
@@ -129,14 +137,16 @@ impl<'x, 'y, H: Home, G: Drop> Driver<'x, 'y, H, G> {
     // Searches for a task, and takes its future out. Each search takes one word. One in vain does not
     // ask for the store.
     #[inline(always)]
-    fn search(&mut self, again: Option<Again>) -> Option<(Taken<()>, Notice)> {
+    fn search(&mut self, again: Option<Again>) -> Option<NextTask> {
         let own = &mut *self.own;
         let word = own.words.next();
-        let found = cells!(self.state).search(self.key, word, again);
-        if let Some((taken, _)) = &found {
+        let mut cells = cells!(self.state);
+        let found = self.search.make(&mut cells, word, again);
+        drop(cells);
+        if let Some(next) = &found {
             // Nobody else takes the future of a task that was taken, and no other one is out.
             let mut store = store!(self.executor.home());
-            self.out = store.get().take(taken.id());
+            self.out = store.get().take(next.id());
         }
         found
     }
@@ -170,8 +180,8 @@ impl<'x, 'y, H: Home, G: Drop> Driver<'x, 'y, H, G> {
             };
             match self.end_then_search(id, ran) {
                 None => return Ok(searching.empty()),
-                Some((taken, notice)) => {
-                    running = announce_found(self.state, searching.found(taken, notice));
+                Some(next) => {
+                    running = announce_found(self.state, searching.found_next(next));
                 }
             }
         }
@@ -184,12 +194,12 @@ impl<'x, 'y, H: Home, G: Drop> Driver<'x, 'y, H, G> {
         &mut self,
         id: TaskId,
         ran: Ran<(), OutputIn<H>>,
-    ) -> Option<(Taken<()>, Notice)>
+    ) -> Option<NextTask>
         requires { IsHeldRight ran }
     {
         let own = &mut *self.own;
         let (home, out, words) = (self.executor.home(), &mut self.out, &mut own.words);
-        match changes::end_then_search(home, self.state, id, ran, out, &self.key, words) {
+        match changes::end_then_search(home, self.state, id, ran, out, self.search, words) {
             EndThenSearch::Searched(None, found) => found,
             EndThenSearch::Searched(Some(notice), found) => {
                 announce!(self.state, notice);
@@ -211,7 +221,7 @@ impl<'x, 'y, H: Home, G: Drop> Driver<'x, 'y, H, G> {
         &mut self,
         id: TaskId,
         left: LeftOver<H::Waker, OutputIn<H>>,
-    ) -> Option<(Taken<()>, Notice)>
+    ) -> Option<NextTask>
         requires { IsLeftRight left }
     {
         // Its drop and its wake come before the search, which they may queue something for.
@@ -232,7 +242,7 @@ impl<'x, 'y, H: Home, G: Drop> Driver<'x, 'y, H, G> {
     // Searches for a task, which it seldom does apart from the end of the last one.
     #[cold]
     #[inline(never)]
-    fn search_anew(&mut self) -> Option<(Taken<()>, Notice)> {
+    fn search_anew(&mut self) -> Option<NextTask> {
         self.search(None)
     }
 }
@@ -247,7 +257,7 @@ fn cells_for_a_share<H: Home>(executor: &ExecutorIn<H>) -> MutexGuard<'_, Cells<
 // Runs tasks until none is found and the run sleeps, or its turn is over.
 fn work<H: Home, G: Drop>(
     executor: &ExecutorIn<H>,
-    key: RunnerKey,
+    search: Search,
     own: &mut Own<G>,
     searching: Searching<Runner>,
     w: &H::Waker,
@@ -259,7 +269,7 @@ fn work<H: Home, G: Drop>(
     let mut driver = Driver {
         executor,
         state,
-        key,
+        search,
         own,
         out: None,
     };
@@ -269,8 +279,8 @@ fn work<H: Home, G: Drop>(
     for _ in state.rt().forever() {
         let going = match driver.search(again) {
             None => searching.empty(),
-            Some((taken, notice)) => {
-                let running = announce_found(state, searching.found(taken, notice));
+            Some(next) => {
+                let running = announce_found(state, searching.found_next(next));
                 match driver.run_tasks(running) {
                     Ok(going) => going,
                     Err(yielding) => return yielding.wake(w).keep(),
@@ -339,7 +349,7 @@ impl<H: Home, G: Future<H::Waker>> RunIn<'_, H, G> {
     {
         let executor = self.executor;
         let own = &mut self.own;
-        let key = self.rest.key();
+        let search = self.rest.search();
         let polling = match self.rest.begin() {
             Begun::PollOwn(polling) => polling,
             Begun::Register(registering) => match register(executor, own, registering) {
@@ -356,7 +366,7 @@ impl<H: Home, G: Future<H::Waker>> RunIn<'_, H, G> {
                 Poll::Ready(output)
             }
             OwnPolled::Pending(searching) => {
-                self.rest = work(executor, key, own, searching, w);
+                self.rest = work(executor, search, own, searching, w);
                 Poll::Pending
             }
         }
@@ -376,11 +386,11 @@ impl<H: Home, G: Future<H::Waker>> RunIn<'_, H, G> {
 impl<H: Home, G: Future<H::Waker>> Future<H::Waker> for RunIn<'_, H, G> {
     type Output = G::Output;
 
-    /// Polls the own future, and is ready with its output where that is. Else runs tasks until none
-    /// is left, or a whole turn was run since it yielded last. Where none is left, a copy of the waker
-    /// is kept, in place of an earlier one, and is woken once there may be a task. After a turn, or
-    /// where the copy is refused, the waker itself is woken. A run that was ready wakes it and is
-    /// pending, and does nothing more.
+    /// Polls the own future, and if that is ready, is ready with its output. Else runs tasks until
+    /// none is left, or a whole turn was run since it yielded last. If none is left, a copy of the
+    /// waker is kept, in place of an earlier one, and is woken once there may be a task. After a
+    /// turn, or if the copy is refused, the waker itself is woken. A run that was ready wakes it
+    /// and is pending, and does nothing more.
     fn poll(&mut self, w: &H::Waker) -> Poll<G::Output>
         ensures fixed { fixed self.new.rest.runner ≡ fixed self.old.rest.runner }
         ensures ended { has_ended self.old.rest ≡ false → has_ended self.new.rest ≡ is_ready result }
