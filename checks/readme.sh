@@ -7,6 +7,7 @@ set -u
 . "$(dirname "$0")/edits"
 cd "$top" || exit 1
 calling=crates/async_executor/CALLING.md
+utilities=crates/async_utilities/CALLING.md
 sources=$(find crates uses -path '*/out' -prune -o \( -name '*.rt' -o -name '*.antt' -o -name '*.rt.txt' \) -print)
 
 printf '%s\n' "$sources" | xargs cat > "$copy/sources"
@@ -86,9 +87,14 @@ block "$calling" rust "## A caller" > "$copy/said"
 cp uses/src/calling.rt.txt "$copy/wanted"
 same "CALLING.md, the caller and the folder uses"
 
+block "$utilities" rust "## A caller" > "$copy/said"
+cp uses/src/timing.rt.txt "$copy/wanted"
+same "CALLING.md of async_utilities, the caller and the folder uses"
+
 # A clause is quoted with S for what self points to.
 cat crates/async_executor/src/*.rt crates/async_executor/src/*executor/*.rt \
-    crates/async_executor/src/scheduler/*.rt crates/executor_core/src/task/*.rt |
+    crates/async_executor/src/scheduler/*.rt crates/async_executor/src/runner/*.rt \
+    crates/executor_core/src/task/*.rt |
     sed "s/self\.new/S'/g; s/self\.\(old\|now\)/S/g" > "$copy/clauses"
 block "$calling" text "## Contracts" | sed -n 's/^  \(ensures\|requires\)\( [a-z_]*\)\?: \(.*\)$/\1\2 { \3 }/p' |
     sort -u > "$copy/said"
@@ -106,14 +112,14 @@ for page in README.md docs/PROVED.md docs/ARCHITECTURE.md docs/MEASURED.md "$cal
     fi
 done
 
-for crate in executor_core async_executor priority_executor async_utilities simulation digests; do
+for crate in executor_core async_executor priority_executor async_utilities simulation digests mandelbrot; do
     (cd crates/$crate/src && find . -name '*.rt') | sed 's/^\.\///; s/\.rt$//' |
         grep -vxE 'lib|main|tests(/.*)?' | sort > "$copy/wanted"
     quoted docs/ARCHITECTURE.md | grep -Fxf "$copy/wanted" | sort > "$copy/said"
     same "ARCHITECTURE.md, the modules of $crate"
 done
 
-grep -rhoE '`uses::[a-z_]+`' docs crates/*/src "$calling" | tr -d '`' | sort -u |
+grep -rhoE '`uses::[a-z_]+`' docs crates/*/src "$calling" "$utilities" | tr -d '`' | sort -u |
     while read -r word; do is_there "$word" || echo "$word"; done > "$copy/log"
 if [ -s "$copy/log" ]; then
     fail "examples that the folder uses lacks:" "$copy/log"
@@ -121,9 +127,11 @@ else
     pass "each example is in the folder uses"
 fi
 
-# The public calls of async_executor whose comment names no example.
-for source in crates/async_executor/src/*.rt crates/async_executor/src/*executor/*.rt; do
-    awk -v source="${source##*/}" '
+# The public calls of async_executor and async_utilities whose comment names no example. The machines
+# of ticks and runs, and the words of a search, are in modules that are not public.
+for source in $(find crates/async_executor/src crates/async_utilities/src -name '*.rt' \
+    ! -path '*/machine/*' ! -path '*/runner/words.rt'); do
+    awk -v source="${source#crates/}" '
         /^ *\/\/\/ Example: / { example = 1 }
         /^ *pub fn / { if (!example) print source ": " $3 }
         !/^ *(\/\/\/|#\[)/ { example = 0 }' "$source"

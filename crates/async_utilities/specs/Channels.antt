@@ -1,6 +1,5 @@
 -- The steps of a channel: its messages are a list, from the first one that was sent on.
 use Rattle.std.specs.Prelude.{ℕ, ◌≡◌, ◌==◌, ◌||◌, nat_lt, Option, is_some, position, Bool, true, false, List, [], ◌∷◌, ◌++◌, length, drop, if◌then◌else◌}
-use Rattle.circular_buffer.specs.Buffer.{Buffer}
 use Rattle.async_utilities.specs.Lines.{first_due, waker_at, without}
 use Rattle.async_utilities.specs.declared.due.Due.{Due}
 use Rattle.async_utilities.specs.declared.due.Due.TheVariants.{Nobody}

@@ -59,6 +59,14 @@ impl ThreadWaker {
     }
 
     /// The same, but no longer than this. It may return before.
+    ///
+    /// Example: `uses::rest`, which `uses::rests` calls.
+    ///
+    /// ```text
+    /// if let Some(left) = timer.fire().ok()? {
+    ///     mine.park_timeout(rt, left);
+    /// }
+    /// ```
     pub fn park_timeout<R: Wait>(&self, rt: &R, duration: Duration) {
         self.parker.park_timeout(rt, duration);
     }
@@ -99,6 +107,14 @@ impl<G> Debug for BlockOnError<G> {
 
 impl<G> BlockOnError<G> {
     /// The future that was not waited for.
+    ///
+    /// Example: `uses::awaited`, which `uses::winds_up` calls.
+    ///
+    /// ```text
+    /// match block_on(rt, alloc, task) {
+    /// Err(refused) => {
+    ///     refused.into_inner().detach();
+    /// ```
     pub fn into_inner(self) -> G
         ensures { result ≡ self.future }
     {
@@ -170,6 +186,13 @@ where
 
 /// Calls the poll on this thread, with this waker, until it is ready, and gives what it gave. The
 /// thread parks while it is pending. What is known of the poll says what comes out.
+///
+/// Example: `uses::races`.
+///
+/// ```text
+/// let mut first = Or::new(later, there);
+/// Some(poll_until_ready(rt, &mine, |w| first.poll(w)))
+/// ```
 pub fn poll_until_ready<T, P: FnMut(&ThreadWaker) -> Poll<T>>(
     rt: &impl Wait,
     waker: &ThreadWaker,

@@ -80,6 +80,13 @@ pub fn bounded<T: Drop, S: Wake, V: Wake, R: Wait + Drop>(
 }
 
 /// Why a message was not sent, with the message.
+///
+/// Example: `uses::tries`.
+///
+/// ```text
+/// sender.try_send(1).ok()?;
+/// let unsent = sender.try_send(2).err()?;
+/// ```
 #[derive(Debug, PartialEq, Eq, Drop)]
 pub enum Unsent<T> {
     /// There is no room.
@@ -89,6 +96,13 @@ pub enum Unsent<T> {
 }
 
 /// Why no message was received.
+///
+/// Example: `uses::tries`.
+///
+/// ```text
+/// let message = first.try_receive().ok()?;
+/// let none = second.try_receive().err()?;
+/// ```
 #[derive(Debug, Clone, Copy, PartialEq, Eq)]
 pub enum NoMessage {
     /// There is none yet.
@@ -137,6 +151,13 @@ impl<T: Drop, S: Wake, V: Wake, R: Wait + Drop> Sender<T, S, V, R> {
     /// # Errors
     ///
     /// `Unsent`, with the message.
+    ///
+    /// Example: `uses::tries`.
+    ///
+    /// ```text
+    /// sender.try_send(1).ok()?;
+    /// let unsent = sender.try_send(2).err()?;
+    /// ```
     pub fn try_send(&mut self, message: T) -> Result<(), Unsent<T>> {
         let sent = self.shared.state().send(message);
         match sent {
@@ -259,6 +280,12 @@ impl<T: Drop, S: Wake, V: Wake, R: Wait + Drop> Drop for Sender<T, S, V, R> {
 
 /// A future that sends a message. Its drop leaves the message unsent, and another sender is told of
 /// the room that this one was told of.
+///
+/// Example: `uses::send_below`, which `uses::sends_to_a_task` calls.
+///
+/// ```text
+/// block_on(rt, alloc, sender.send(number)).ok()?.ok()?;
+/// ```
 pub struct Send<'a, T: Drop, S: Wake, V: Wake, R: Wait + Drop> {
     sender: &'a mut Sender<T, S, V, R>,
     message: Option<T>,
@@ -300,6 +327,12 @@ impl<T: Drop, S: Wake, V: Wake, R: Wait + Drop> Receiver<T, S, V, R> {
     /// # Errors
     ///
     /// `OutOfMemory` if memory for its place among those that wait is refused.
+    ///
+    /// Example: `uses::tries`.
+    ///
+    /// ```text
+    /// let mut second = first.copy().ok()?;
+    /// ```
     pub fn copy(&self) -> Result<Receiver<T, S, V, R>, OutOfMemory> {
         let shared = Arc::try_clone(&self.shared)?;
         let number = shared.state().receivers.join()?;
@@ -315,6 +348,13 @@ impl<T: Drop, S: Wake, V: Wake, R: Wait + Drop> Receiver<T, S, V, R> {
     /// # Errors
     ///
     /// `NoMessage`.
+    ///
+    /// Example: `uses::tries`.
+    ///
+    /// ```text
+    /// let message = first.try_receive().ok()?;
+    /// let none = second.try_receive().err()?;
+    /// ```
     pub fn try_receive(&mut self) -> Result<T, NoMessage> {
         let received = self.shared.state().receive();
         match received {
@@ -423,6 +463,12 @@ impl<T: Drop, S: Wake, V: Wake, R: Wait + Drop> Drop for Receiver<T, S, V, R> {
 
 /// A future of the next message. Its drop takes none, and another receiver is told of the message that
 /// this one was told of.
+///
+/// Example: `uses::take_jobs`, which `uses::answers_in_order` calls.
+///
+/// ```text
+/// let Some(job) = block_on(rt, alloc, jobs.receive()).ok()? else {
+/// ```
 pub struct Receive<'a, T: Drop, S: Wake, V: Wake, R: Wait + Drop> {
     receiver: &'a mut Receiver<T, S, V, R>,
 }

@@ -10,6 +10,14 @@ ghost use Rattle.async_utilities.specs.Halves.{Keeps, Gave, is_open};
 use async_executor::{Future, Poll};
 
 /// A future of one of two kinds, with one output.
+///
+/// Example: `uses::races`.
+///
+/// ```text
+/// type Number = Either<Ready<u64>, Map<YieldNow, Gives>>;
+/// let later = Number::Right(Map::new(YieldNow::new(), Gives { number: 1 }));
+/// let there = Number::Left(Ready::new(2));
+/// ```
 #[derive(Drop)]
 pub enum Either<A, B> {
     /// The one kind.
@@ -31,6 +39,14 @@ impl<W, A: Future<W>, B: Future<W, Output = A::Output>> Future<W> for Either<A, 
 
 /// What is made of an output, by one call. It stands in the place of a closure, of which no field can
 /// say that it may be called.
+///
+/// Example: `uses::races`, which changes an output by a `Gives`.
+///
+/// ```text
+/// impl Change<()> for Gives {
+///     type Output = u64;
+///     ghost makes = { λ gives _. gives.number };
+/// ```
 pub trait Change<A>: Drop {
     /// What is made.
     type Output: Drop;
@@ -44,6 +60,13 @@ pub trait Change<A>: Drop {
 }
 
 /// Gives what a `Change` makes of the output of a future.
+///
+/// Example: `uses::races`.
+///
+/// ```text
+/// type Number = Either<Ready<u64>, Map<YieldNow, Gives>>;
+/// let later = Number::Right(Map::new(YieldNow::new(), Gives { number: 1 }));
+/// ```
 #[derive(Drop)]
 pub struct Map<G, C> {
     inner: Option<(G, C)>,
@@ -51,6 +74,12 @@ pub struct Map<G, C> {
 
 impl<G, C> Map<G, C> {
     /// Makes the change once the future is ready.
+    ///
+    /// Example: `uses::races`.
+    ///
+    /// ```text
+    /// let later = Number::Right(Map::new(YieldNow::new(), Gives { number: 1 }));
+    /// ```
     pub fn new(future: G, change: C) -> Map<G, C>
         ensures { result.inner ≡ Some (future, change) }
     {
@@ -176,6 +205,13 @@ impl<W, A: Future<W>, B: Future<W>> Future<W> for Zip<A, A::Output, B, B::Output
 
 /// Gives the output of the first of two futures that is ready, and the left one's if both are. The
 /// other future is dropped then.
+///
+/// Example: `uses::races`.
+///
+/// ```text
+/// let mut first = Or::new(later, there);
+/// Some(poll_until_ready(rt, &mine, |w| first.poll(w)))
+/// ```
 #[derive(Drop)]
 pub struct Or<A, B> {
     both: Option<(A, B)>,
@@ -183,6 +219,12 @@ pub struct Or<A, B> {
 
 impl<A, B> Or<A, B> {
     /// Awaits the first of them.
+    ///
+    /// Example: `uses::races`.
+    ///
+    /// ```text
+    /// let mut first = Or::new(later, there);
+    /// ```
     pub fn new(left: A, right: B) -> Or<A, B>
         ensures { result.both ≡ Some (left, right) }
     {

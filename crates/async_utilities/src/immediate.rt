@@ -9,6 +9,13 @@ use std::marker::PhantomData;
 
 /// Ready at its first poll, with the value that it was made of. It is pending from then on, and wakes
 /// nobody, since it has no second output.
+///
+/// Example: `uses::races`.
+///
+/// ```text
+/// type Number = Either<Ready<u64>, Map<YieldNow, Gives>>;
+/// let there = Number::Left(Ready::new(2));
+/// ```
 #[derive(Drop)]
 pub struct Ready<T> {
     value: Option<T>,
@@ -16,6 +23,12 @@ pub struct Ready<T> {
 
 impl<T> Ready<T> {
     /// Gives this value.
+    ///
+    /// Example: `uses::races`.
+    ///
+    /// ```text
+    /// let there = Number::Left(Ready::new(2));
+    /// ```
     pub fn new(value: T) -> Ready<T>
         ensures { result.value ≡ Some value }
     {
@@ -76,6 +89,13 @@ impl<W, T: Drop> Future<W> for Never<T> {
 
 /// Pending at its first poll, and ready from then on. At its first poll it asks for the second, so
 /// that whatever is scheduled already goes first.
+///
+/// Example: `uses::races`.
+///
+/// ```text
+/// type Number = Either<Ready<u64>, Map<YieldNow, Gives>>;
+/// let later = Number::Right(Map::new(YieldNow::new(), Gives { number: 1 }));
+/// ```
 #[derive(Drop)]
 pub struct YieldNow {
     is_polled: bool,
@@ -83,6 +103,12 @@ pub struct YieldNow {
 
 impl YieldNow {
     /// One that was not polled yet.
+    ///
+    /// Example: `uses::races`.
+    ///
+    /// ```text
+    /// let later = Number::Right(Map::new(YieldNow::new(), Gives { number: 1 }));
+    /// ```
     pub fn new() -> YieldNow
         ensures { result.is_polled ≡ false }
     {

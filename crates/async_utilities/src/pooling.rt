@@ -296,6 +296,14 @@ where
 
     /// Tells the threads to stop, waits for them, and says what came of each, in the order in which
     /// they were started. Each began with all that it needs, so it is `Ok`.
+    ///
+    /// Example: `uses::winds_up`.
+    ///
+    /// ```text
+    /// let pool: Pool<Sum, R> = Pool::new(rt.clone().ok()?, alloc, 2).ok()?;
+    /// let total = added(first.zip(second))?;
+    /// Some((total, pool.join()))
+    /// ```
     pub fn join(self) -> Vec<Ended>
         ensures { vec_len result ≡ vec_len self.started.threads }
     {

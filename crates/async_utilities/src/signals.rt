@@ -134,6 +134,13 @@ impl<W: Wake, R: Wait + Drop> Signal<W, R> {
     /// # Errors
     ///
     /// `OutOfMemory` if another holder cannot be counted.
+    ///
+    /// Example: `uses::tells`.
+    ///
+    /// ```text
+    /// let other = told.copy().ok()?;
+    /// move || other.set(),
+    /// ```
     pub fn copy(&self) -> Result<Signal<W, R>, OutOfMemory> {
         let shared = Arc::try_clone(&self.shared)?;
         Ok(Signal { shared })
@@ -161,6 +168,13 @@ impl<W: Wake, R: Wait + Drop> Signal<W, R> {
     }
 
     /// Whether the signal is set.
+    ///
+    /// Example: `uses::tells`.
+    ///
+    /// ```text
+    /// let was_set = told.is_set();
+    /// Some((was_set, told.is_set()))
+    /// ```
     pub fn is_set(&self) -> bool {
         self.shared.waiters().is_set()
     }

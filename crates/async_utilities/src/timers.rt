@@ -193,6 +193,13 @@ impl<W: Wake, C: Clock + Drop, R: Wait + Drop> Timer<W, C, R> {
     /// # Errors
     ///
     /// `AllocError` if another holder cannot be counted, or the clock cannot be cloned.
+    ///
+    /// Example: `uses::rests`.
+    ///
+    /// ```text
+    /// let other = timer.copy().ok()?;
+    /// move || rest(rt, alloc, other, Duration::from_millis(5)),
+    /// ```
     pub fn copy(&self) -> Result<Timer<W, C, R>, AllocError>
     where
         C: Clone,
@@ -208,6 +215,14 @@ impl<W: Wake, C: Clock + Drop, R: Wait + Drop> Timer<W, C, R> {
     /// # Errors
     ///
     /// `TimerError`, if memory for its place is refused or the clock is not to be read.
+    ///
+    /// Example: `uses::rest`, which `uses::rests` calls.
+    ///
+    /// ```text
+    /// let mut after = timer.after(duration).ok()?;
+    /// if let Poll::Ready(now) = after.poll(&mine) {
+    ///     return Some(now);
+    /// ```
     pub fn after(&self, duration: Duration) -> Result<After<W, R>, TimerError> {
         let now = Reading::now(&self.clock)?;
         let shared = Arc::try_clone(&self.shared)?;
@@ -254,6 +269,14 @@ impl<W: Wake, C: Clock + Drop, R: Wait + Drop> Timer<W, C, R> {
     /// # Errors
     ///
     /// That of the clock. Nobody is woken then.
+    ///
+    /// Example: `uses::rest`, which `uses::rests` calls.
+    ///
+    /// ```text
+    /// if let Some(left) = timer.fire().ok()? {
+    ///     mine.park_timeout(rt, left);
+    /// }
+    /// ```
     pub fn fire(&self) -> io::Result<Option<Duration>> {
         let now = Reading::now(&self.clock)?;
         match self.shared.fire(now) {
@@ -321,6 +344,14 @@ impl<W: Wake, C: Clock + Drop, R: Wait + Drop> Timer<W, C, R> {
 /// then. While it is not, a copy of the waker of its last poll is kept, and is woken when the deadline
 /// is reached. If the copy is refused, the waker itself is woken and nothing more is kept. Its drop
 /// takes the deadline away, and drops the copy unwoken.
+///
+/// Example: `uses::rest`, which `uses::rests` calls.
+///
+/// ```text
+/// let mut after = timer.after(duration).ok()?;
+/// if let Poll::Ready(now) = after.poll(&mine) {
+///     return Some(now);
+/// ```
 pub struct After<W: Wake, R: Wait + Drop> {
     shared: Arc<Shared<W, R>>,
     deadline: Deadline,

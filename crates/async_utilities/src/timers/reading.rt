@@ -7,6 +7,13 @@ use std::time::{Clock, Duration};
 
 /// A time that a clock was read at, counted from the clock's start, which is arbitrary. There is none
 /// but those that a clock gave.
+///
+/// Example: `uses::rests`.
+///
+/// ```text
+/// let before = Reading::now(rt).ok()?;
+/// let nanos = long?.nanos().checked_sub(before.nanos())?;
+/// ```
 #[derive(Clone, Copy, Debug, PartialEq, Eq)]
 pub struct Reading {
     since_start: Duration,
@@ -18,6 +25,12 @@ impl Reading {
     /// # Errors
     ///
     /// That of the clock.
+    ///
+    /// Example: `uses::rests`.
+    ///
+    /// ```text
+    /// let before = Reading::now(rt).ok()?;
+    /// ```
     pub fn now(clock: &impl Clock) -> io::Result<Reading> {
         Ok(Reading {
             since_start: clock.monotonic()?,
@@ -25,6 +38,13 @@ impl Reading {
     }
 
     /// The time since the start of the clock.
+    ///
+    /// Example: `uses::passed`, which `uses::rests` calls.
+    ///
+    /// ```text
+    /// let now = Reading::now(clock).ok()?;
+    /// now.since_start().checked_sub(before.since_start())
+    /// ```
     pub fn since_start(self) -> Duration
         ensures { result ≡ self.since_start }
     {
@@ -32,6 +52,12 @@ impl Reading {
     }
 
     /// The same in nanoseconds.
+    ///
+    /// Example: `uses::rests`.
+    ///
+    /// ```text
+    /// let nanos = long?.nanos().checked_sub(before.nanos())?;
+    /// ```
     pub fn nanos(self) -> u128
         ensures nanos { result ≡ as_nanos self.since_start }
         ensures small { result < 2 ^ 64 * 1_000_000_000 }

@@ -1,4 +1,4 @@
-use Rattle.std.proofs.Common.{◌≡◌, ◌+◌, ◌≤◌, length, vec_len, vec_capacity}
+use Rattle.std.proofs.Common.{◌≡◌, ◌+◌, length, vec_len, vec_capacity}
 use Rattle.async_utilities.proofs.pooling.Started.join.Given as goal
 
 -- one for each thread so far, and room for the others
