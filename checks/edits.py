@@ -5,7 +5,7 @@ that its check reads. The old text stands once in the file; \\n in a text is a l
 lines change more places, in turn. A line 'same: TEXT' in place of 'new: TEXT' writes the code in
 another way that does the same, before anything else is changed.
 Usage: edits.py apply EDIT REPOSITORY, which changes its files as they stand, or none, with status 1,
-where an old text does not stand once; edits.py lines EDIT REPOSITORY, the first and the last line of
+if an old text does not stand once; edits.py lines EDIT REPOSITORY, the first and the last line of
 its first old text; edits.py functions FILE, for each line the number of the function that it is a
 part of, and whether of its head or its body, or 'no function'.
 """

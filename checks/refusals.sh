@@ -9,8 +9,8 @@
 # spawns make. Over each edit of checks/wrong_bodies that has the line 'program: refusals', it has to say
 # that something is wrong.
 #
-# exsim is the program that the gate built, or is built by `rt run` where a source is newer. It answers
-# `out of memory`: at its start with status 2 and nothing more, or at a spawn or where a ticker is made,
+# exsim is the program that the gate built, or is built by `rt run` if a source is newer. It answers
+# `out of memory`: at its start with status 2 and nothing more, or at a spawn or when a ticker is made,
 # after which it has to go on as if that step had not been asked for.
 # Usage: checks/refusals.sh, anywhere. RT names the command rt. Its last line counts the runs and the edits.
 set -eu

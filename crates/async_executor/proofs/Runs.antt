@@ -373,7 +373,7 @@ module _ {W : Type 0} where
       ∙ ap (λ s. ticked machine.runner.count s reply (ticker_in machine.runner notified s)) (sym is)
       ∙ ap (λ r. leads machine r (ticker_of notified machine)) (sym from)
 
--- where the steps of a tick are enabled, so are those of the run for which it acts
+-- if the steps of a tick are enabled, so are those of the run for which it acts
 module _ {W : Type 0} where
   abbrev Enabled : TickMachine → TickReply W → Type 0
   Enabled machine reply = (runner : Option ℕ) (notified : Bool) → ticks_steps.may_lead machine.state reply (ticks_seen.ticker_of runner notified machine) ≡ true

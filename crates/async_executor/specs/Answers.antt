@@ -12,7 +12,7 @@ abbrev pub IsReadyErr : {T E : Type 0} → Poll (Result T E) → Type 0
 IsReadyErr (Ready answer) = IsErr answer
 IsReadyErr Pending = ⊥
 
--- the same where the error is left out
+-- the same if the error is left out
 abbrev pub IsReadyNone : {T : Type 0} → Poll (Option T) → Type 0
 IsReadyNone (Ready answer) = IsNone answer
 IsReadyNone Pending = ⊥

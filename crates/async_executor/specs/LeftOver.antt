@@ -7,7 +7,7 @@ use Rattle.async_executor.specs.declared.left_over.LeftOver.{LeftOver}
 use Rattle.async_executor.specs.declared.left_over.LeftOver.TheVariants.{Refused, Woken, ToDrop, Finished}
 
 module _ {T : Type 0} where
-  -- what is held of a task that was run is to be dropped exactly where its future was
+  -- what is held of a task that was run is to be dropped exactly if its future was
   abbrev pub IsHeldRight : Ran (Unit {0}) T → Type 0
   IsHeldRight (Pending held future) = held.to_drop ≡ false
   IsHeldRight (Ready held output) = held.to_drop ≡ false

@@ -130,7 +130,7 @@ module _ {W : Type 0} where
   store_asked (Act machine action) = store_in action
   store_asked (Rest rest end) = None
 
--- the machine waits for what its action asks, and a rest has ended exactly where the run returns
+-- the machine waits for what its action asks, and a rest has ended exactly if the run returns
 abbrev pub IsAsked : {W : Type 0} → RunNext W → Type 0
 IsAsked (Act machine action) = asked machine ≡ asked_by action
 IsAsked (Rest rest end) = has_ended rest ≡ is_return end

@@ -6,7 +6,7 @@ use Rattle.async_executor.specs.declared.store.Place.{Place}
 use Rattle.async_executor.specs.declared.store.Store.{Store}
 
 module _ {F S T : Type 0} where
-  -- what is kept in the place, where it is that of the task of this number
+  -- what is kept in the place, if it is that of the task of this number
   abbrev pub kept_of : ℕ → Option (Place F S T) → Option (Kept F S T)
   kept_of number (Some place) = cond (place.number == number) (Some place.kept) None
   kept_of number None = None
@@ -19,7 +19,7 @@ module _ {F S T : Type 0} where
   abbrev pub with_place : List (Place F S T) → TaskId → Kept F S T → List (Place F S T)
   with_place places id kept = slice_set places id.slot (record { number = id.number; kept = kept })
 
-  -- the same, where the slot may be the next one
+  -- the same, but the slot may be the next one
   abbrev pub inserted : List (Place F S T) → TaskId → Kept F S T → List (Place F S T)
   inserted places id kept =
       cond (nat_lt id.slot (length places)) (with_place places id kept) (places ++ record { number = id.number; kept = kept } ∷ [])

@@ -118,7 +118,7 @@ abbrev pub is_return : TickEnd → Bool
 is_return Return = true
 is_return _ = false
 
--- the machine waits for what its action asks, and a rest has ended exactly where the tick returns
+-- the machine waits for what its action asks, and a rest has ended exactly if the tick returns
 abbrev pub IsAsked : {W : Type 0} → TickNext W → Type 0
 IsAsked (Act machine action) = asked machine ≡ asked_by action
 IsAsked (Rest rest end) = rest.ended ≡ is_return end

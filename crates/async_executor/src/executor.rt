@@ -32,7 +32,7 @@ pub use tickers::{Run, Tick};
 /// An executor of futures of the type F, whose handles are awaited by wakers of the type W, and
 /// which waits for its locks by the right R.
 ///
-/// It may be shared and sent: one is made only where F, its output and W may be sent, and R may be
+/// It may be shared and sent: one is made only if F, its output and W may be sent, and R may be
 /// both. It stands for the `Executor` of the Rust crate.
 ///
 /// Its drop cancels every task and drops every future that is left, one after another, with no lock
@@ -66,7 +66,7 @@ where
     ///
     /// # Errors
     ///
-    /// `OutOfMemory` where memory for what the executor shares is refused.
+    /// `OutOfMemory` if memory for what the executor shares is refused.
     ///
     /// Example: `uses::executor`, which `uses::runs` calls.
     ///
@@ -112,7 +112,7 @@ where
     ///
     /// # Errors
     ///
-    /// Where memory is refused, or no number is left for the task, the future is given back and all
+    /// If memory is refused, or no number is left for the task, the future is given back and all
     /// is as before.
     ///
     /// Example: `uses::gives_back`.
@@ -141,9 +141,9 @@ where
     ///
     /// # Errors
     ///
-    /// Where memory is refused, or no number is left for a task. Those that were spawned before
+    /// If memory is refused, or no number is left for a task. Those that were spawned before
     /// stay, with their handles in the Vec. The future that was refused is given back; there is none
-    /// where the place of its handle was refused, since the Vec was full.
+    /// if the place of its handle was refused, since the Vec was full.
     ///
     /// Example: `uses::spawns_many`.
     ///
@@ -187,7 +187,7 @@ where
     }
 
     /// Runs the task that was scheduled first, and says whether there was one: its future is polled
-    /// once, or dropped where the task was cancelled. It looks at the queue that all share alone:
+    /// once, or dropped if the task was cancelled. It looks at the queue that all share alone:
     /// what a run has in a queue of its own is left to it, or to `try_tick_any`.
     ///
     /// Example: `uses::run_all`, which `uses::runs` calls.
@@ -226,7 +226,7 @@ where
     ///
     /// # Errors
     ///
-    /// `OutOfMemory` where memory for that place is refused. All is as before.
+    /// `OutOfMemory` if memory for that place is refused. All is as before.
     ///
     /// Example: `uses::sleeps`.
     ///
@@ -250,7 +250,7 @@ where
     ///
     /// # Errors
     ///
-    /// Where memory is refused, or no number is left for the runner, the future is given back and
+    /// If memory is refused, or no number is left for the runner, the future is given back and
     /// all is as before.
     ///
     /// Example: `uses::pools`.

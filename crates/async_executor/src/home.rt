@@ -83,7 +83,7 @@ impl<S: Drop> StoreGuard<'_, S> {
     }
 }
 
-/// A store that was taken out of its cell, and is put back where this is dropped. The cell has an
+/// A store that was taken out of its cell, and is put back when this is dropped. The cell has an
 /// empty one meanwhile, which nobody asks: no change makes another change of the same home.
 pub struct Lent<'a, S: Drop> {
     cell: &'a Cell<S>,

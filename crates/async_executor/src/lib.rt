@@ -9,7 +9,7 @@
 //! A `Home` is where the store is kept. `ExecutorIn`, `TaskIn`, `TickIn` and `RunIn` are written once
 //! for every home. Each public type has one of them, at one home.
 //!
-//! Where both are locked, the store is locked first and the table second. Neither is locked while a
+//! If both are locked, the store is locked first and the table second. Neither is locked while a
 //! future is polled or dropped, an output is dropped, or a waker is copied, woken or dropped.
 #![tactic(auto)]
 

@@ -40,7 +40,7 @@ impl<F: Future<TaskWaker<W, R>>, W: Drop, R: Drop> Poller<(), F::Output>
 
     ghost disposed = { λ p id _ after. DisposesOwn p id after };
 
-    /// Polls the future once, and drops it where it is ready. Another task's future is not there,
+    /// Polls the future once, and drops it if it is ready. Another task's future is not there,
     /// and so it is not ready.
     #[inline(always)]
     fn poll(&mut self, id: TaskId, _future: ()) -> Polled<(), F::Output> {
@@ -60,7 +60,7 @@ impl<F: Future<TaskWaker<W, R>>, W: Drop, R: Drop> Poller<(), F::Output>
         }
     }
 
-    /// Drops the future, where it is that of this task.
+    /// Drops the future, if it is that of this task.
     fn dispose(&mut self, id: TaskId, _future: ()) {
         self.disposals += 1;
         if id == self.id {

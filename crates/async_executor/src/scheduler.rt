@@ -3,7 +3,7 @@
 //! A task that is run goes this way: its id is taken from the table and its future from the store,
 //! and the future is polled or dropped with no lock held. A future that is not ready goes back into
 //! the store, and then its task is ended in the table. A task with an output is ended in the table
-//! first, and the output goes into the store where a handle wants it. What neither keeps is dropped
+//! first, and the output goes into the store if a handle wants it. What neither keeps is dropped
 //! after that.
 ghost use Rattle.std.specs.Prelude.{◌≡◌, ◌↔◌, true, false, IfOk, IfErr, IsErr};
 ghost use Rattle.executor_core.specs.Limits.{is_lawful};
@@ -161,7 +161,7 @@ impl<H: Home> ExecutorIn<H> {
         &self.home
     }
 
-    /// Polls the future of a taken task once, or drops it where the task was cancelled, and ends
+    /// Polls the future of a taken task once, or drops it if the task was cancelled, and ends
     /// the task. No lock may be held.
     pub(crate) fn run_task(&self, taken: Taken<()>) {
         let id = taken.id();
@@ -244,7 +244,7 @@ impl<H: Home> ExecutorIn<H> {
     }
 }
 
-/// Polls the future of a taken task once, or drops it where the task was cancelled. No lock may be
+/// Polls the future of a taken task once, or drops it if the task was cancelled. No lock may be
 /// held.
 #[inline(always)]
 pub(crate) fn poll_taken<H: Home>(taken: Taken<()>, out: &mut OutIn<H>) -> Ran<(), OutputIn<H>>

@@ -10,7 +10,7 @@ use executor_core::task::{Cells, Change, Notice, OutOfMemory, Pick, Wake, Wakeup
 use std::alloc::Global;
 use std::sync::{Mutex, MutexGuard, Wait};
 
-/// Spends the notice of a task that was queued or taken: where somebody sleeps and nobody was
+/// Spends the notice of a task that was queued or taken: if somebody sleeps and nobody was
 /// notified since, a sleeper is woken. No lock may be held. It stands for `State::notify` of the
 /// Rust crate. It is no function for the reason that `lock` is none.
 macro_rules! announce {
@@ -90,7 +90,7 @@ impl<W, R> ExecutorState<W, R> {
         self.parts.alloc
     }
 
-    /// Spends the notice of a task that was queued or taken. Where somebody sleeps and nobody was
+    /// Spends the notice of a task that was queued or taken. If somebody sleeps and nobody was
     /// notified since, a sleeper is to be notified. It takes no lock.
     pub(crate) fn exchange(&self, notice: Notice) -> Option<Pick> {
         self.flag.exchange(notice)
@@ -105,7 +105,7 @@ impl<W, R> ExecutorState<W, R> {
         self.flag.store(change, sleepers)
     }
 
-    /// How many sleep. `None` where the lock is taken, for which it does not wait.
+    /// How many sleep. `None` if the lock is taken, for which it does not wait.
     pub(crate) fn sleepers_in_use(&self) -> Option<usize> {
         let guard = self.parts.sleepers.try_lock()?;
         Some(guard.sleepers.numbers())
@@ -133,7 +133,7 @@ impl<W: Wake, R: Wait + Clone + Drop> ExecutorState<W, R> {
     }
 
     /// Waits for the table of tasks, which is locked until the guard is dropped. It comes with its
-    /// law: a task stands once in the queues where it is scheduled, and else in none.
+    /// law: a task stands once in the queues if it is scheduled, and else in none.
     #[inline(always)]
     pub(crate) fn cells(&self) -> MutexGuard<'_, Cells<(), (), W>>
         ensures { LockLaw (mutex_guard_value result) }

@@ -74,7 +74,7 @@ impl<F: Drop, S: Drop, T: Drop> Store<F, S, T> {
         }
     }
 
-    // What is kept of the task, where it has its place.
+    // What is kept of the task, if it has its place.
     fn kept(&self, id: TaskId) -> Option<&Kept<F, S, T>>
         ensures kept { option_copied result ≡ kept_at self.now id }
         ensures inside { IsTrue (is_some (kept_at self.now id)) → id.slot < vec_len self.now.places }
@@ -139,7 +139,7 @@ impl<F: Drop, S: Drop, T: Drop> Store<F, S, T> {
         }
     }
 
-    /// Keeps the future of the task, with its share. Where it has no place, or something is kept
+    /// Keeps the future of the task, with its share. If it has no place, or something is kept
     /// there, both are given back.
     pub(crate) fn keep_future(&mut self, id: TaskId, future: F, share: S) -> Option<(F, S)>
         ensures answer { result ≡ cond (is_vacant (kept_at self.old id)) None (Some (future, share)) }
@@ -153,7 +153,7 @@ impl<F: Drop, S: Drop, T: Drop> Store<F, S, T> {
         None
     }
 
-    /// Keeps the output of the task. Where it has no place, or something is kept there, the output
+    /// Keeps the output of the task. If it has no place, or something is kept there, the output
     /// is given back.
     pub(crate) fn keep_output(&mut self, id: TaskId, output: T) -> Option<T>
         ensures answer { result ≡ cond (is_vacant (kept_at self.old id)) None (Some output) }

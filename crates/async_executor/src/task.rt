@@ -25,7 +25,7 @@ use thiserror::Error;
 #[error("the task was cancelled")]
 pub struct Cancelled;
 
-/// A share of an executor, and one of its tasks. Its drop cancels the task where it has not answered.
+/// A share of an executor, and one of its tasks. Its drop cancels the task if it has not answered.
 pub struct TaskIn<H: Home> {
     home: H,
     id: TaskId,

@@ -4,7 +4,7 @@
 //! goes the steps that are decided there, each of which is one step on what is shared. Between its
 //! polls it keeps a `TickRest`, which holds nothing that must be spent.
 //!
-//! A tick is *awake* at first. Where its search finds no task, it goes to sleep: its waker stands in
+//! A tick is *awake* at first. If its search finds no task, it goes to sleep: its waker stands in
 //! the list of sleepers, under a number that the tick keeps from then on. Then it searches once
 //! more, since a task may have been queued before its waker stood there, and only after that does
 //! it wait for a wake.
@@ -19,7 +19,7 @@
 //!              └── was asleep, unnotified ── park
 //! ```
 //!
-//! One that has found a task, or is dropped, does not act on what it was woken for. So where its
+//! One that has found a task, or is dropped, does not act on what it was woken for. So if its
 //! number was notified, the notice that comes of the removal is spent on the flag, and another
 //! sleeper may be woken in its place.
 

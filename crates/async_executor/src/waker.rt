@@ -28,7 +28,7 @@ use std::sync::{Arc, Wait};
 pub struct TaskWaker<W, R> {
     state: Arc<ExecutorState<W, R>>,
     id: TaskId,
-    // Whether the waker was woken, where it is lent. Other threads may wake it by reference.
+    // Whether the waker was woken, if it is lent. Other threads may wake it by reference.
     mark: Option<AtomicBool>,
 }
 
@@ -87,7 +87,7 @@ impl LentWake {
 }
 
 impl<W: Wake, R: Wait + Clone + Drop> Wake for TaskWaker<W, R> {
-    /// Schedules the task where it waits for a wake. Where it is being polled, it is scheduled once
+    /// Schedules the task if it waits for a wake. If it is being polled, it is scheduled once
     /// that poll ends.
     ///
     /// Example: `uses::send`, which `uses::receives` calls.
@@ -114,7 +114,7 @@ impl<W: Wake, R: Wait + Clone + Drop> Wake for TaskWaker<W, R> {
     ///
     /// # Errors
     ///
-    /// `OutOfMemory` where another share of the state is refused.
+    /// `OutOfMemory` if another share of the state is refused.
     ///
     /// Example: `uses::receives`, whose copy `uses::send` wakes.
     ///

@@ -26,7 +26,7 @@ escaped name = flat_map (λ c. written (escape_of c) c) name
 abbrev pub mark_of : List ℕ → List ℕ
 mark_of name = if has_escapes name then 92 ∷ [] else []
 
--- the line of a digest: its hex text, two spaces, the name and a line feed, behind a backslash where the
--- name has escapes
+-- the line of a digest: its hex text, two spaces, the name and a line feed, behind a backslash if
+-- the name has escapes
 abbrev pub line_of : List ℕ → List ℕ → List ℕ
 line_of name digest = mark_of name ++ encode_lower digest ++ 32 ∷ 32 ∷ [] ++ escaped name ++ 10 ∷ []

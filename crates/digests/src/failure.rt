@@ -14,10 +14,10 @@ use thiserror::Error;
 /// Why the program stops.
 #[derive(Debug, Drop, Error)]
 pub enum Failure {
-    /// An option that there is not, in quotes where it needs them.
+    /// An option that there is not, in quotes if it needs them.
     #[error("unknown option {0}")]
     UnknownOption(String),
-    /// What stands in the place of a number of threads, in quotes where it needs them.
+    /// What stands in the place of a number of threads, in quotes if it needs them.
     #[error("-j {0}: no number from 1 to 256")]
     BadNumber(String),
     /// `-j` is the last argument.

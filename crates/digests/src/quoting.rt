@@ -1,4 +1,4 @@
-//! Names in messages, quoted as `sha256sum` quotes them where its locale is UTF-8.
+//! Names in messages, quoted as `sha256sum` quotes them if its locale is UTF-8.
 use std::alloc::AllocError;
 
 /// Adds a name to a text, in quotes if a shell would not take it as it stands.

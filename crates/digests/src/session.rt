@@ -162,7 +162,7 @@ fn print_rest<R: System + Send + Sync + 'static>(
     Ok(())
 }
 
-// Spawns a task for each file, and prints what came of the first ones where there is no room.
+// Spawns a task for each file, and prints what came of the first ones when there is no room.
 fn digest_files<R: System + Send + Sync + 'static>(
     alloc: Global,
     window: &mut Window<'_, R>,

@@ -32,7 +32,7 @@ arith_end : (u l : ℕ) {a b : Bool} → (u - 1) + 1 ≡ u → a ≡ true → b 
 arith_end u l e f g = rw (f, g) (omega arith)
 
 module _ {P T W : Type 0} where
-  -- a write of a cell whose future was out and is dropped now, where its handle is there
+  -- a write of a cell whose future was out and is dropped now, and whose handle is there
   pub ended_sound : {next undropped : ℕ} {slots : List (Option (Numbered (Cell P T W)))} {ids : List TaskId}
       → IsSound next slots ids undropped
       → (key : ℕ) (e : Numbered (Cell P T W)) (c : Cell P T W) → get_or slots key None ≡ Some e → is_held e.cell.state ≡ true

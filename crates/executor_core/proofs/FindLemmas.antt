@@ -75,7 +75,7 @@ module _ {P T W : Type 0} where
       → (F : Option (Cell P T W) → Bool) (id : TaskId) {b : Bool} → b ≡ F (cell_at table id) → F (cell_in id.number (get_or slots id.slot None)) ≡ b
   test_at sound q seen_is F id is = sym (is ∙ ap (λ s. F (cell_at s id)) (sym seen_is) ∙ ap F (cell_at_is sound id))
 
-  -- what the id's slot has where a test of the id's cell passes
+  -- what the id's slot has if a test of the id's cell passes
   pub record PassesAt (F : Option (Cell P T W) → Bool) (slots : List (Option (Numbered (Cell P T W)))) (id : TaskId) : Type 0 where
     pub entry : Numbered (Cell P T W)
     pub there : get_or slots id.slot None ≡ Some entry

@@ -198,7 +198,7 @@ module _ {P T W : Type 0} where
   pub push_queue : (slots : List (Option (Numbered (Cell P T W)))) (ids : List TaskId) (id : TaskId) → IsQueue slots ids → HasCell slots id → Beside id.slot ids → IsQueue slots (ids ++ id ∷ [])
   push_queue slots ids id queue has beside = record { placed = All-push (HasCell slots) ids id queue.placed has; apart = apart_push ids id queue.apart beside }
 
-  -- no id has a slot that is cleared, where each of them has a cell then
+  -- no id has a slot that is cleared, if each of them has a cell then
   pub cleared_beside : (slots : List (Option (Numbered (Cell P T W)))) (key : ℕ) (ids : List TaskId) → IsQueue (set slots key None) ids → Beside key ids
   cleared_beside slots key ids queue =
       All-weaker (HasCell (set slots key None)) (λ (id : TaskId). id.slot ≢ key)

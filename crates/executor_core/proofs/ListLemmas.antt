@@ -128,7 +128,7 @@ module _ {X : Type 0} where
   any-push f [] y fails = ap (λ b. b || false) fails
   any-push f (z ∷ zs) y fails = ap (λ b. f z || b) (any-push f zs y fails)
 
-  -- no more items pass the first test, where each that does passes the second
+  -- no more items pass the first test, if each that does passes the second
   pub count_most : (f g : X → Bool) (xs : List X) → ((j : ℕ) (x : X) → slice_get xs j ≡ Some x → f x ≡ true → g x ≡ true) → count_by f xs ≤ count_by g xs
   count_most f g [] gives = omega arith
   count_most f g (z ∷ zs) gives =
@@ -138,7 +138,7 @@ module _ {X : Type 0} where
       let b = sum_by-cons (λ x. cond (g x) 1 0) z zs in
       omega arith
 
-  -- and fewer, where one passes the second alone
+  -- and fewer, if one passes the second alone
   pub count_fewer : (f g : X → Bool) (xs : List X) → ((j : ℕ) (x : X) → slice_get xs j ≡ Some x → f x ≡ true → g x ≡ true) → (k : ℕ) (x : X) → slice_get xs k ≡ Some x → f x ≡ false → g x ≡ true → count_by f xs < count_by g xs
   count_fewer f g [] gives k x is fails passes = absurd (cc)
   count_fewer f g (z ∷ zs) gives zero x is fails passes =

@@ -503,7 +503,7 @@ module _ {X : Type 0} where
       let at : entries_at r locals ≡ (get_or locals r other).entries = ap entries_or (slice_get-get_or locals r other parts.0) in
       absurd (true≢false (sym parts.1 ∙ ap not (eq-eqb (length (get_or locals r other).entries) 0 (ap length (sym at ∙ empty)))))
 
-  -- where it finds none, all queues are empty
+  -- if it finds none, all queues are empty
   pub search_any-none : (q : QueueLists X) → (search_any q).0 ≡ None → (all_entries q ≡ []) × ((search_any q).1 ≡ q)
   unfolding local_entries
   search_any-none q none = by_global q.global refl none

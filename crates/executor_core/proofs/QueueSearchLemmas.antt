@@ -120,7 +120,7 @@ module _ {X : Type 0} where
       found ∙ ap (λ m. find (gives r locals) (range_with_len 0 m)) start
       ∙ sym (victim_is r word locals room within ∙ find-append_none (gives r locals) (range_with_len (word % length locals) (length locals - word % length locals)) (range_with_len 0 (word % length locals)) (sym here))
 
-  -- nothing can be stolen where nothing has room
+  -- nothing can be stolen if nothing has room
   pub victim_none : (r word : ℕ) (locals : List (RunnerQueue X)) → capacity_at r locals ≡ 0 → None ≡ victim r word locals
   victim_none r word locals none =
       sym (find_fails (can_steal r locals) (visits r word (length locals)) (λ s. le-ltb 0 (steal_count (length (entries_at s locals)) (capacity_at r locals)) (omega arith)))
@@ -136,7 +136,7 @@ module _ {X : Type 0} where
   entries_within zero (l ∷ rest) some = omega arith
   entries_within (suc s) (l ∷ rest) some = let inner = entries_within s rest some in omega arith
 
--- what a search finds where the runner's own queue is empty
+-- what a search finds if the runner's own queue is empty
 module _ {X : Type 0} where
   front_none : (es : List X) → slice_get es 0 ≡ None → es ≡ []
   front_none [] none = refl
@@ -146,7 +146,7 @@ module _ {X : Type 0} where
   with_same r None locals is = refl
   with_same r (Some q) locals is = set-here locals r q is
 
-  -- nothing changed where there was no front
+  -- nothing changed if there was no front
   front_kept : (r : ℕ) (q : QueueLists X) → slice_get (entries_at r q.locals) 0 ≡ None → (let l : QueueLists X = record q { locals = with_entries r (drop 1 (entries_at r q.locals)) q.locals } in l) ≡ q
   front_kept r q none =
       let empty = front_none (entries_at r q.locals) none in

@@ -208,7 +208,7 @@ module _ {X : Type 0} where
       ∙ ap (λ n. slice_set (slice_set low i v ++ high) n w) (length-set low i v)
       ∙ ap (λ l. slice_set l (length low) w) (set-low low high i v h)
 
--- the same where the list is split at the higher position
+-- the same if the list is split at the higher position
 pub stolen_up : (xs low high : List LocalQueue) (s r count : ℕ) (d e : LocalQueue) (left added : IdRing) → xs ≡ low ++ high → length low ≡ r → s < r → r < length xs → count ≡ stolen (get_or low s d).ring.ids (get_or high 0 e).ring.ids (get_or high 0 e).ring.capacity → left ≡ record (get_or low s d).ring { ids = drop count (get_or low s d).ring.ids } → added ≡ record (get_or high 0 e).ring { ids = (get_or high 0 e).ring.ids ++ take count (get_or low s d).ring.ids } → map local_of (slice_set low s (with_ring (get_or low s d) left) ++ slice_set high 0 (with_ring (get_or high 0 e) added)) ≡ stolen_locals s r (map local_of xs)
 stolen_up xs low high s r count d e left added split mid below within counted source target =
     let inside : s < length low = omega arith in

@@ -111,7 +111,7 @@ module _ {P T W : Type 0} where
       ∙ hits-found test n (map.entries cells) (map.entries_sorted cells)
       ∙ ap (λ o. cond (passing test o) 1 0) (sym (map.get-entries cells n))
 
--- the order of the entries does not matter where their slots differ
+-- the order of the entries does not matter if their slots differ
 two_ways : {A : Type 0} (p q : Bool) (x y : A) → q ≡ not p → cond p x y ≡ cond q y x
 two_ways true true x y h = absurd (cc)
 two_ways true false x y h = refl
@@ -386,7 +386,7 @@ twice n (suc i) (suc j) (x ∷ xs) before at_i at_j =
     omega arith
 
 module _ {P T W : Type 0} where
-  -- where no two cells have one slot, the slots of the order rise
+  -- if no two cells have one slot, the slots of the order rise
   pub rising-rises : (test : Cell P T W → Bool) (table : Table P T W) → SlotsDiffer table → SlotsRise table.cells (rising test table.cells)
   rising-rises test table differ i j n k s t before at_i at_j found_n found_k =
       let cells = table.cells in

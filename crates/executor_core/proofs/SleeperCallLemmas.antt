@@ -131,14 +131,14 @@ module _ {W : Type 0} where
   length-in_use : (notified : Option ℕ) (pairs : List (ℕ × W)) → length (in_use notified pairs) ≡ length (option_to_list notified) + length pairs
   length-in_use notified pairs = let all = length-append (option_to_list notified) (keys_of pairs) in let keys = length-keys pairs in omega arith
 
-  -- the number is in use, where its waker is found
+  -- the number is in use, if its waker is found
   times-found : (notified : Option ℕ) (pairs : List (ℕ × W)) (id : ℕ) (w : W) → lookup (λ k. k == id) pairs ≡ Some w → 0 < times id (in_use notified pairs)
   times-found notified pairs id w found =
       let all = times-in_use id notified pairs in
       let one = times-remove_same id pairs w found in
       omega arith
 
-  -- it is not, where no waker is found and another number is notified
+  -- it is not, if no waker is found and another number is notified
   times-absent : (notified : Option ℕ) (pairs : List (ℕ × W)) (id : ℕ) → notified ≢ Some id → lookup (λ k. k == id) pairs ≡ None → times id (in_use notified pairs) ≡ 0
   times-absent notified pairs id far none =
       let all = times-in_use id notified pairs in

@@ -124,7 +124,7 @@ module _ {W : Type 0} where
     placed = let used = used-len sound in let within = sound.placed in omega arith;
   }
 
--- the first that passes, where one alone does
+-- the first that passes, if one alone does
 first_passing : (p : ℕ → Bool) (m : ℕ) → ((n : ℕ) → p n ≡ true → n ≡ m) → p m ≡ true → (xs : List ℕ) → list_any (eq_by_cmp nat_cmp m) xs ≡ true → slice_index (filter p xs) 0 ≡ m
 first_passing p m only passes [] there = absurd (cc)
 first_passing p m only passes (x ∷ xs) there = at (first_passing p m only passes xs) (p x) refl there

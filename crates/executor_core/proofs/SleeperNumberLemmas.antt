@@ -18,14 +18,14 @@ times-append n xs ys = sum_by-append (λ k. cond (k == n) 1 0) xs ys
 pub times-cons : (n k : ℕ) (ks : List ℕ) → times n (k ∷ ks) ≡ cond (k == n) 1 0 + times n ks
 times-cons n k ks = sum_by-cons (λ k. cond (k == n) 1 0) k ks
 
--- 1 where they are the same
+-- 1 if they are the same
 pub one-same : (n : ℕ) → ◌≡◌ {A = ℕ} (cond (n == n) 1 0) 1
 one-same n = rw (eq-eqb n n refl) refl
 
 pub one-other : (k n : ℕ) → k ≢ n → ◌≡◌ {A = ℕ} (cond (k == n) 1 0) 0
 one-other k n far = rw (ne_eqb k n far) refl
 
--- a number is in the list exactly where it stands there
+-- a number is in the list if and only if it stands there
 pub any-times : (q : ℕ) (xs : List ℕ) → list_any (λ y. y == q) xs ≡ nat_lt 0 (times q xs)
 any-times q [] = refl
 any-times q (x ∷ xs) = cases (x == q) refl (times-cons q x xs) (any-times q xs)

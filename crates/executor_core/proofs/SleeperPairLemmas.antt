@@ -88,7 +88,7 @@ module _ {W : Type 0} where
       at rest true = refl
       at rest false = ap (λ l. p.0 ∷ l) rest
 
-  -- a number stands in the list exactly where a waker is found
+  -- a number stands in the list if and only if a waker is found
   pub any-lookup : (id : ℕ) (pairs : List (ℕ × W)) → list_any (λ k. k == id) (keys_of pairs) ≡ is_some (lookup (λ k. k == id) pairs)
   any-lookup id [] = refl
   any-lookup id (p ∷ ps) = at (any-lookup id ps) (p.0 == id)

@@ -57,7 +57,7 @@ module _ {P T W : Type 0} where
       some_none : {X : Type 0} (x : X) → Some x ≡ None → ⊥
       some_none x e = cc
 
-  -- the slots keep their count where neither old nor new slot may be queued later
+  -- the slots keep their count if neither old nor new slot may be queued later
   same_count : (old new : List (Option (Numbered (Cell P T W)))) (key : ℕ) (slot : Option (Numbered (Cell P T W))) → Changes old new key slot
       → count_by is_queueable new + cond (is_queueable (get_or old key None)) 1 0 ≡ count_by is_queueable old + cond (is_queueable slot) 1 0
   same_count old new key slot changes =

@@ -27,7 +27,7 @@ times-push_other q n numbers far =
     sum_by-append (λ k. cond (k == q) 1 0) numbers (n ∷ []) ∙ rw other (omega arith)
 
 module _ {P T W : Type 0} where
-  -- a law that is kept where one cell changes, and the number is queued where it becomes scheduled
+  -- a law that is kept when one cell changes and the number is queued if it becomes scheduled
   pub law_put : (m : map.FinMap nat_cmp (Slotted P T W)) (numbers later : List ℕ) (n : ℕ) (s : Slotted P T W)
       → ScheduledOnce m numbers
       → times n later ≡ cond (is_scheduled s.cell.state) 1 0

@@ -51,7 +51,7 @@ module _ {P T W : Type 0} where
       subst (λ l. IsSound next l later undropped) (sym takes.written)
       (unqueued_sound sound id e (taken e.cell) takes.there (taken_number sound takes) scheduled refl (scheduled_state e.cell.state scheduled) refl (λ dropped. absurd (cc (dropped))) refl)
 
-  -- what is seen after a take, where these are the queues then
+  -- what is seen after a take, if these are the queues then
   take_table : {closed : Bool} {next undropped : ℕ} {slots new : List (Option (Numbered (Cell P T W)))} {later : List TaskId} {id : TaskId} {task : Taken P}
       → IsSound next slots (id ∷ later) undropped → (takes : TakesOut slots new id task) → (q : QueueState)
       → table_of next new q closed ≡ with_cell (table_of next slots q closed) id (taken takes.entry.cell)

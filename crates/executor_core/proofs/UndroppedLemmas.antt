@@ -207,7 +207,7 @@ module _ {P T W : Type 0} where
   undropped_is {slots = slots} sound =
       undropped_slots sound ∙ sym (values_sum-from_entries (λ s. cond (is_undropped s.cell.state) 1 0) (by_number 0 slots) (all_fresh 0 slots sound.distinct) ∙ count-by_number 0 slots)
 
-  -- nothing is undropped where the count is zero
+  -- nothing is undropped if the count is zero
   pub all_dropped : {next : ℕ} {slots : List (Option (Numbered (Cell P T W)))} {ids : List TaskId}
       → IsSound next slots ids 0 → (q : QueueState) (closed : Bool) → AllDropped (table_of next slots q closed)
   all_dropped {slots = slots} {ids = ids} sound q closed n s found =

@@ -101,7 +101,7 @@ module _ {P T W : Type 0} (change : Cell P T W → Cell P T W) (n : ℕ) (slots 
       let next : suc n ≡ n + 1 = omega arith in
       is ∙ (λ i. set (visited i) n (changed_slot change (same_slot i))) ∙ changed_below-next change n slots ∙ ap (λ k. changed_below change k slots) next
 
-  -- the idle ones of the slots up to this one, where this is what the slot gives
+  -- the idle ones of the slots up to this one, if this is what the slot gives
   ids_walked : {found : Option TaskId} → found ≡ idle_id n (get_or now n None) → idle_below 0 (n + 1) slots ≡ idle_below 0 n slots ++ cons_option found []
   ids_walked is =
       let next : n + 1 ≡ suc n = omega arith in

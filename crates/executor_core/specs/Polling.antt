@@ -7,7 +7,7 @@ use Rattle.executor_core.specs.declared.task.polling.Ran.TheVariants.{Pending, R
 use Rattle.executor_core.specs.declared.task.values.Taken.{Taken}
 
 module _ {P T : Type 0} where
-  -- the task's own Held comes back, to drop exactly where the task was cancelled
+  -- the task's own Held comes back, to drop if and only if the task was cancelled
   abbrev pub RanFrom : Taken P → Ran P T → Type 0
   RanFrom task (Pending held p) = (task.cancelled ≡ false) × (held ≡ record { id = task.id; to_drop = false })
   RanFrom task (Ready held t) = (task.cancelled ≡ false) × (held ≡ record { id = task.id; to_drop = false })

@@ -32,7 +32,7 @@ module _ {X : Type 0} (x : Coded X) where
 abbrev pub half : ℕ → ℕ
 half k = (k + 1) / 2
 
--- how many entries a steal moves from so many, where so many places are free
+-- how many entries a steal moves from so many, if so many places are free
 abbrev pub steal_count : ℕ → ℕ → ℕ
 steal_count count places = min (half count) places
 
@@ -137,7 +137,7 @@ module _ {X : Type 0} where
   steal_from r None q = (None, q)
   steal_from r (Some s) q = let after = stolen_between s r q in local_front r (entries_at r after.locals) after
 
-  -- where its own queue is empty: the global front, and half of what is left; else from the others
+  -- if its own queue is empty: the global front, and half of what is left; else from the others
   abbrev pub search_shared : ℕ → ℕ → List X → QueueLists X → Option X × QueueLists X
   search_shared r word (x ∷ rest) q = (Some x, global_stolen r (record q { global = rest }))
   search_shared r word [] q = steal_from r (victim r word q.locals) q
@@ -159,7 +159,7 @@ module _ {X : Type 0} where
   abbrev pub first_occupied : List (RunnerQueue X) → Option ℕ
   first_occupied locals = position (λ q. not (length q.entries == 0)) locals
 
-  -- the front of the queue at this position, where there is one
+  -- the front of the queue at this position, if there is one
   abbrev pub front_at : Option ℕ → QueueLists X → Option X × QueueLists X
   front_at None q = (None, q)
   front_at (Some r) q = local_front r (entries_at r q.locals) q

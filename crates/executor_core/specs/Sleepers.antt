@@ -37,7 +37,7 @@ module _ {W : Type 0} where
   abbrev pub is_notified_number : SleeperList W → ℕ → Bool
   is_notified_number s n = set.contains s.used n && not (is_unnotified s n)
 
-  -- the notified number, or 0 where there is none
+  -- the notified number, or 0 if there is none
   abbrev pub notified_number : SleeperList W → ℕ
   notified_number s = slice_index (filter (is_notified_number s) (set.items s.used)) 0
 

@@ -12,7 +12,7 @@ module _ {P : Type 0} where
   refused_future (OutOfMemory p) = p
   refused_future (Exhausted p) = p
 
-  -- this future comes back, as exhausted exactly where the number to be given is the last one
+  -- this future comes back, and the error is Exhausted if and only if the next number is the last one
   abbrev pub Refuses : ℕ → P → SpawnError P → Type 0
   Refuses next p (OutOfMemory q) = (q ≡ p) × (next ≢ last_number)
   Refuses next p (Exhausted q) = (q ≡ p) × (next ≡ last_number)

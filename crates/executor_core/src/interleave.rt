@@ -6,8 +6,8 @@
 //! number and stores the flag, each by a step of its own. A ticker is a tick, which looks at the
 //! global queue alone, or a run, whose runner has a queue of its own while it is registered. The
 //! executor may be closed once, and then its tasks are drained, each to be dropped; or it may be
-//! leaked once, and then it goes on and is never closed. A `World` takes any list of such steps, of
-//! all parties, with steps of others between any two of one party. It makes each on its `Core`, and
+//! leaked once, and then it goes on and is never closed. A `World` takes such steps in any list,
+//! mixed freely: between two of one party, others may take theirs. It makes each on its `Core`, and
 //! logs what happened to which task. A step that is not enabled is answered and changes nothing.
 //!
 //! The notices and the picks that the steps leave to be spent are kept as counts. They float: any
@@ -21,8 +21,8 @@
 //! The log alone says where a task stands: whether it was dropped, is held, is owed a poll or a
 //! drop, or is idle is read off the events. The contracts of `World::step` and `World::run` say
 //! that the queues and the futures that are out agree with the log after every list of steps, and
-//! that no notice is lost: where a task is in the global queue and somebody sleeps, one is notified,
-//! or a notice or a pick is out, or a ticker has still to search. Where every ticker is a run, this
+//! that no notice is lost: if a task is in the global queue and somebody sleeps, one is notified,
+//! or a notice or a pick is out, or a ticker has still to search. If every ticker is a run, this
 //! holds of all queues. They do not say that anybody ever runs. The contract of `World::run` says
 //! besides that a runner which is alone takes tasks in the order in which they were queued.
 ghost use Rattle.std.specs.Prelude.{◌≡◌, ◌≢◌, ◌≤◌, ◌||◌, ◌↔◌, false, true, length, slice_get, option_map, IfOk, IfErr, IsErr, OnErr};
@@ -112,7 +112,7 @@ impl<P: Drop, T: Copy> World<P, T> {
     ///
     /// # Errors
     ///
-    /// `OutOfMemory` where the place of all events to come was refused.
+    /// `OutOfMemory` if the place of all events to come was refused.
     pub fn new(alloc: Global, limit: u32) -> Result<Self, OutOfMemory>
         requires { limit ≤ 1000000 }
         ensures { IfOk result (λ world. world ≡ opening limit default_limits.local) }
@@ -129,8 +129,8 @@ impl<P: Drop, T: Copy> World<P, T> {
     ///
     /// # Errors
     ///
-    /// `BadLimits` exactly where a limit is not in its range, before memory is asked for. Else
-    /// `OutOfMemory` where the place of all events to come was refused.
+    /// `BadLimits` exactly if a limit is not in its range, before memory is asked for. Else
+    /// `OutOfMemory` if the place of all events to come was refused.
     pub fn new_with(alloc: Global, limit: u32, limits: Limits) -> Result<Self, NewError>
         requires { limit ≤ 1000000 }
         ensures ok { IfOk result (λ world. world ≡ opening limit limits.local) }
@@ -220,10 +220,10 @@ impl<P: Drop, T: Copy> World<P, T> {
     ///
     /// # Errors
     ///
-    /// The reply is `LogFull` exactly where the world took as many steps as it may; else `NotNow`
-    /// exactly where the step is not enabled; else, at a spawn or where a ticker is made,
-    /// `OutOfMemory` where a growth was refused, and then the future was dropped. Such a step
-    /// changes nothing and is not counted. No other step takes memory.
+    /// The reply is `LogFull` exactly if the world took as many steps as it may; else `NotNow`
+    /// exactly if the step is not enabled; else, at a spawn or when a ticker is made, `OutOfMemory`
+    /// if a growth was refused, and then the future was dropped. Such a step changes nothing and is
+    /// not counted. No other step takes memory.
     pub fn step(&mut self, step: Step<P, T>) -> Reply<T>
         ensures step { StepTo self.old step result self.new }
         ensures promises { KeepsPromises self.new }
@@ -237,8 +237,8 @@ impl<P: Drop, T: Copy> World<P, T> {
     ///
     /// # Errors
     ///
-    /// `OutOfMemory` where the place of all replies was refused: then no step was taken, and the
-    /// steps were dropped.
+    /// `OutOfMemory` if the place of all replies was refused: then no step was taken, and the steps
+    /// were dropped.
     pub fn run(&mut self, steps: Vec<Step<P, T>>) -> Result<Vec<Reply<T>>, OutOfMemory>
         ensures run { IfOk result (λ replies. RunTo self.old steps.items replies.items self.new) }
         ensures order { IfOk result (λ replies. LoneOrder self.old steps.items replies.items self.new) }
@@ -325,7 +325,7 @@ impl<P: Drop, T: Copy> World<P, T> {
         self.holder
     }
 
-    /// Which step of the ticker comes next. `None` where it was not made.
+    /// Which step of the ticker comes next. `None` if it was not made.
     pub fn phase(&self, k: usize) -> Option<Phase>
         ensures { result ≡ option_map (λ t. t.phase) (slice_get self.now.tickers k) }
     {

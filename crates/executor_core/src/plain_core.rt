@@ -42,7 +42,7 @@ impl<P, T, W> Core<P, T, W> {
     ///
     /// # Errors
     ///
-    /// `OutOfMemory` where the cells could not be made.
+    /// `OutOfMemory` if the cells could not be made.
     pub fn new(alloc: Global) -> Result<Self, OutOfMemory>
         ensures { IfOk result (λ core. core ≡ record { cells = empty_table 0; flag = true; sleepers = no_sleepers }) }
     {

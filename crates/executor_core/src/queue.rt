@@ -1,10 +1,10 @@
 //! The queues of the cells: the tasks that are scheduled, in the order in which they were.
 //!
 //! A task is queued at the end of the global queue. A runner has a queue of its own besides, a
-//! `Ring`. It searches there first; where that is empty, it takes the front of the global queue and
-//! steals half of what is left; where that is empty too, it steals half of another runner's queue.
-//! So most searches touch one queue, and no runner is idle beside a task that another has queued.
-//! A steal moves the front half, so that the order is kept.
+//! `Ring`. It searches there first; if that is empty, it takes the front of the global queue and
+//! steals half of what is left; if that is empty too, it steals half of another runner's queue. So
+//! most searches touch one queue, and no runner is idle beside a task that another has queued. A
+//! steal moves the front half, so that the order is kept.
 ghost use Rattle.std.specs.Prelude.{◌≡◌, ◌↔◌, is_some, option_map, [], true, IfOk, IfErr, IsErr, IsOk, OnOk, OnErr, IfSome, IfNone, None, length, slice_get, slice_index_or};
 ghost use Rattle.executor_core.specs.SpawnError.{last_number};
 ghost use Rattle.executor_core.specs.Queues.{entries_at, fair_count, is_registered};
@@ -24,7 +24,7 @@ pub use ring::{Ring, steal};
 pub use runner::{RunnerError, RunnerKey};
 
 impl<P, T, W> Cells<P, T, W> {
-    /// Takes the task at the global front, or none where the queue is empty. It takes no memory.
+    /// Takes the task at the global front, or none if the queue is empty. It takes no memory.
     ///
     /// The notice says that there may be more to take.
     pub fn take_global(&mut self, again: Option<Again>) -> Option<(Taken<P>, Notice)>
@@ -42,9 +42,9 @@ impl<P, T, W> Cells<P, T, W> {
         Some((taken, Notice { unspent: () }))
     }
 
-    /// Takes the task at the global front, else the one at the front of the first runner's queue that
-    /// has one, in order of registration. None exactly where all queues are empty. It takes no memory,
-    /// and steals nothing.
+    /// Takes the task at the global front, else the one at the front of the first runner's queue
+    /// that has one, in order of registration. It gives none exactly if no task stands in any
+    /// queue. It steals nothing, and takes no memory.
     ///
     /// The notice says that there may be more to take.
     pub fn take_any(&mut self, again: Option<Again>) -> Option<(Taken<P>, Notice)>
@@ -62,7 +62,7 @@ impl<P, T, W> Cells<P, T, W> {
         Some((taken, Notice { unspent: () }))
     }
 
-    /// Takes the task at the global front once the cells were closed. None before, and where the
+    /// Takes the task at the global front once the cells were closed. None before, and none if the
     /// queue is empty. It takes no memory.
     ///
     /// Nobody else is to hear of it, so there is no notice.
@@ -81,7 +81,7 @@ impl<P, T, W> Cells<P, T, W> {
 
     /// Takes a task for a runner, with a word that says where the walk over the other queues starts:
     /// the front of its own queue, else the global front with half of what is left, else the front
-    /// half of the first other queue that has one. None where all are empty, or its own has no room.
+    /// half of the first other queue that has one. None if all are empty, or its own has no room.
     ///
     /// A runner that is not registered takes the global front. It takes no memory, and visits each
     /// other queue once at most.
@@ -119,7 +119,7 @@ impl<P, T, W> Cells<P, T, W> {
     ///
     /// # Errors
     ///
-    /// `Exhausted` exactly where every runner number was given, and `OutOfMemory` where a growth was
+    /// `Exhausted` exactly if every runner number was given, and `OutOfMemory` if a growth was
     /// refused. Nothing else changed then.
     pub fn reserve_runner(&mut self) -> Result<RunnerKey, RunnerError>
         ensures ok { OnOk result (self.new ≡ after_reserve_runner self.old) }
@@ -131,7 +131,7 @@ impl<P, T, W> Cells<P, T, W> {
         self.queues.reserve_runner()
     }
 
-    /// Gives a free place back, where there is one and the runner is not registered.
+    /// Gives a free place back, unless there is none or the runner is registered.
     pub fn release_runner(&mut self, key: RunnerKey)
         ensures { self.new ≡ after_release_runner self.old key.number }
     {
@@ -143,8 +143,8 @@ impl<P, T, W> Cells<P, T, W> {
     ///
     /// # Errors
     ///
-    /// The ring comes back exactly where no reserved place is free or the runner is registered, and
-    /// nothing changes.
+    /// The ring comes back, and nothing changes, exactly if the runner is registered or none of the
+    /// reserved places is free.
     pub fn register(&mut self, key: RunnerKey, ring: Ring) -> Result<(), Ring>
         requires { ring.ids ≡ [] }
         ensures variant { IsOk result ↔ (may_register self.old key.number ≡ true) }
@@ -154,9 +154,9 @@ impl<P, T, W> Cells<P, T, W> {
         self.queues.register(key, ring)
     }
 
-    /// Ends the runner's queue and its place. What stood there goes to the global end in order, with
-    /// a notice exactly where there was something. A runner that is not registered changes nothing.
-    /// It takes no memory.
+    /// Ends the runner's queue and its place. What stood there goes to the global end in order,
+    /// with a notice exactly if there was something. A runner that is not registered changes
+    /// nothing. It takes no memory.
     pub fn unregister(&mut self, key: RunnerKey) -> Option<Notice>
         ensures table { self.new ≡ after_unregister self.old key.number }
         ensures notice { is_some result ≡ unregister_queues self.old key.number }

@@ -14,7 +14,7 @@
 //! | true | nobody sleeps, or one is notified: there is nobody to notify |
 //! | false | there are sleepers, and none is notified |
 //!
-//! A task that is queued leaves a `Notice`. `Flag::exchange` spends it and sets the flag, and where
+//! A task that is queued leaves a `Notice`. `Flag::exchange` spends it and sets the flag, and if
 //! the flag was false it gives the `Pick`. Under the lock `Sleepers::notify` spends the pick: it
 //! takes the waker of the one who went to sleep last, unless one is notified already. That waker is
 //! woken by `Wakeup::wake`, which comes after the lock was given up.

@@ -12,7 +12,7 @@
 //! | gone | dropped | no |
 //!
 //! `spawn` and a wake of an idle task schedule it, and give a `Notice`. A take gives the task out
-//! as `Taken`, which only `run_taken` opens: it polls the future once, or has it dropped where the
+//! as `Taken`, which only `run_taken` opens: it polls the future once, or has it dropped if the
 //! task was cancelled, and gives the `Held` that the end of the poll asks for. `end_pending` puts
 //! the future back, `end_ready` keeps its output for the handle. A wake that comes while the future
 //! is out is a mark in the cell, and the end of the poll schedules the task again.
@@ -20,8 +20,8 @@
 //! A cancel is a mark too, and schedules an idle task. A task with this mark is not polled again
 //! and gives no output: whoever takes it has its future dropped, and whoever holds it gets the
 //! future back from `end_pending`, to be dropped, or the output from `end_ready`. `end_dropped` is
-//! the end of a task whose future was dropped unfinished. A cell whose future was dropped is
-//! removed as soon as its handle is there no more.
+//! the end of a task whose future was dropped unfinished. A cell stays until its future was dropped
+//! and its handle has ended. Then it is removed.
 //!
 //! `wake_all` wakes every task in one change of the table, and `close` cancels every task so. What
 //! was closed is emptied by `drain_next`.

@@ -1,7 +1,7 @@
 -- The product of two numbers of 32 bits.
-use Rattle.std.proofs.Common.{ℕ, ◌≤◌, ◌<◌, ◌^◌, ◌≡◌, arith, w32, w64, ℤ, pos, negsuc, ◌*ℤ◌, FitsSigned, to_z, of_z, mul-le-mul}
+use Rattle.std.proofs.Common.{◌≤◌, ◌^◌, ◌≡◌, arith, w32, w64, ℤ, ◌*ℤ◌, FitsSigned, to_z, of_z, mul-le-mul}
 use Rattle.std.specs.Int.RustNames.{unsigned_abs}
-use Rattle.std.proofs.lemmas.Int.{ints, to_z-of_z, unsigned_abs-mul, fits_signed_from_abs}
+use Rattle.std.proofs.lemmas.Int.{ints, unsigned_abs-mul, fits_signed_from_abs}
 
 pub narrow_abs : (z : ℤ) → FitsSigned w32 z → unsigned_abs z ≤ 2 ^ 31
 narrow_abs z f = omega (arith, ints)

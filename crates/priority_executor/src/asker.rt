@@ -33,8 +33,8 @@ pub trait Asker {
         ensures room { places self.new + 1 ≡ places self.old };
 }
 
-/// Asks the levels from 0 up to n, each once, until one answers true, and gives that level. There is
-/// none exactly if all n were asked and answered false.
+/// Asks the levels from 0 up to n, each once, until one answers true, and gives that level. `None`
+/// means that each of the n levels was asked, and none answered true.
 ///
 /// Example: `uses::prefers`.
 ///

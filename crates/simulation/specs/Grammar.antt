@@ -120,6 +120,6 @@ pub record IsWord (bytes : List ℕ) : Type 0 where
   pub ascii : (i : ℕ) → slice_index bytes i < 128
   pub whole : (i : ℕ) → i < length bytes → slice_index bytes i ≢ 32
 
--- no plus sign stands first, and a zero only where it is all
+-- no plus sign stands first, and a zero only if it is all
 abbrev pub IsPlain : List ℕ → Type 0
 IsPlain digits = (slice_index digits 0 ≢ 43) × (slice_index digits 0 ≡ 48 → length digits ≤ 1)

@@ -5,7 +5,7 @@ use lib.Chars.{codes}
 use Rattle.executor_core.specs.declared.interleave.reply.Reply.{Reply}
 use Rattle.executor_core.specs.declared.interleave.reply.Reply.TheVariants as reply
 
--- said where an awaiter came out
+-- said if an awaiter came out
 abbrev pub awaiter_text : Bool → List ℕ
 awaiter_text true = codes " awaiter"
 awaiter_text false = []

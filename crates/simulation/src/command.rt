@@ -27,7 +27,7 @@ enum Arguments {
     Two(u64, u64),
 }
 
-/// The command that is written so. `None` where no command is.
+/// The command that is written so. `None` if no command is.
 pub fn command_of(line: &[u8]) -> Option<Command>
     ensures found { IfSome result (λ command. line.now ≡ line_of command) }
     ensures read { (command : Command) → AreInRange (numbers_of command) → line.now ≡ line_of command
@@ -37,7 +37,7 @@ pub fn command_of(line: &[u8]) -> Option<Command>
     command_from(word, arguments)
 }
 
-/// The number of places for which a line of limits asks. `None` where the line is no such one.
+/// The number of places for which a line of limits asks. `None` if the line is no such one.
 pub fn local_of(line: &[u8]) -> Option<u64>
     ensures found { IfSome result (λ places. line.now ≡ local_line places) }
     ensures read { (places : ℕ) → places < 2 ^ 64 → line.now ≡ local_line places → result ≡ Some places }

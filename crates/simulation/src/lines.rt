@@ -19,7 +19,7 @@ pub struct Lines<R> {
 
 impl<R: Read + Drop> Lines<R> {
     /// The lines that the reader gives from here on. All memory is taken here, and nothing is read.
-    /// Where memory is refused the reader is dropped.
+    /// If memory is refused, the reader is dropped.
     pub fn new(alloc: Global, reader: R) -> Result<Self, OutOfMemory> {
         match (
             BufReader::new(alloc, reader),
@@ -34,7 +34,7 @@ impl<R: Read + Drop> Lines<R> {
         }
     }
 
-    /// The next line, without its line feed, or `None` where no line is left. Of a line of more
+    /// The next line, without its line feed, or `None` if no line is left. Of a line of more
     /// than `LINE_LIMIT` bytes these are the first `LINE_LIMIT + 1`. Past the end the reader isn't
     /// asked again. After an error what was read of the line is lost.
     pub fn next_line(&mut self) -> io::Result<Option<&[u8]>> {

@@ -6,7 +6,7 @@ use executor_core::interleave::{Reply, World};
 use executor_core::task::Cells;
 use std::fmt;
 
-// Said where an awaiter came out.
+// Said if an awaiter came out.
 fn awaiter_suffix(awaiter: bool) -> &'static str
     ensures { result.now ≡ awaiter_text awaiter }
 {

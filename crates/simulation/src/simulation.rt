@@ -37,12 +37,18 @@ struct Simulation<R, W: Write + Drop> {
 }
 
 /// Runs each line of the reader as a step of a new world, and writes a line of reply to each. The
-/// first line may be `local l` in place of a step, for runs whose queues have room for l tasks. The
-/// answer is the exit status: 0 at the end of the input; 1 after `bad line k` for the first line
-/// that is no step, k counted from 1, and nothing after it is read; 2 after `out of memory`, where
-/// no world, reader or writer could be made; 3 after `read failed`; 4 where a write failed, and
-/// nothing more was written; 5 after `bad limits`, where a queue cannot have room for l tasks, and
-/// nothing after that line is read.
+/// first line may be `local l` in place of a step, for runs whose queues have room for l tasks.
+///
+/// The answer is the exit status:
+///
+/// - 0: the input ended.
+/// - 1: line k is no step, the first line being line 1. `bad line k` is the last reply, and no
+///   later line is read.
+/// - 2: memory for the world or for a buffer was refused. `out of memory` is all that is written.
+/// - 3: a read failed. `read failed` is the last reply.
+/// - 4: a write failed, and was the last one.
+/// - 5: no queue can have room for l tasks. `bad limits` is the only reply, and only the first line
+///   is read.
 pub fn run_lines<R: Read + Drop, W: Write + Drop>(alloc: Global, reader: R, mut writer: W) -> u8
     ensures { result < 6 }
 {
@@ -108,7 +114,7 @@ impl<R: Read + Drop, W: Write + Drop> Simulation<R, W> {
         }
     }
 
-    // Answers the first line, and then the others. It is no command where it said the limits.
+    // Answers the first line, and then the others. It is no command if it said the limits.
     fn answer_in(
         &mut self,
         world: &mut World<(), u64>,

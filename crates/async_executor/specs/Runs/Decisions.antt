@@ -41,7 +41,7 @@ module _ {W : Type 0} where
   abbrev pub searching : Runner → ℕ → RunNext W
   searching runner number = ask runner (Ticking Work (record { state = tick.Searching number })) (asks.Tick (Search None))
 
-  -- a tick acts for the run, to leave the sleepers where it has a number
+  -- a tick acts for the run, to leave the sleepers if it has a number
   abbrev pub dropping : Runner → ℕ → RunNext W
   dropping runner number =
       cond (number == 0) (run_ended runner) (ask runner (Ticking Leave (record { state = tick.Leaving (Removing number None) })) (asks.Tick (Remove number)))

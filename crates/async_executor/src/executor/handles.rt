@@ -11,7 +11,7 @@ use std::sync::Wait;
 
 /// The handle of a task that was spawned: a future of its output, or of `Cancelled`.
 ///
-/// Where it is dropped before it has answered, the task is cancelled: its future is dropped in
+/// If it is dropped before it has answered, the task is cancelled: its future is dropped in
 /// place of its next poll, and an output that is there is dropped with the handle. It stands for
 /// the `Task` of the Rust crate.
 ///
@@ -126,7 +126,7 @@ where
 
     /// Gives the output, which goes out once: a handle that has answered answers `Cancelled` from
     /// then on. While there is no answer, a copy of the waker is kept, in place of an earlier one,
-    /// and is woken once there is one. Where the copy is refused, the waker itself is woken and
+    /// and is woken once there is one. If the copy is refused, the waker itself is woken and
     /// nothing is kept.
     ///
     /// Example: `uses::asks_again`.
@@ -160,7 +160,7 @@ where
 /// The handle of a task that was cancelled: a future that ends once the future of the task was
 /// dropped.
 ///
-/// It gives the output where the task had ended before it was cancelled. Where it is dropped, the
+/// It gives the output if the task had ended before it was cancelled. When it is dropped, the
 /// task is let go. It stands for the future that `Task::cancel` of the Rust crate gives.
 ///
 /// Example: `uses::cancels`.
@@ -216,7 +216,7 @@ where
     }
 }
 
-/// The handle of a task: a future of its output, or of `None` where the task was cancelled.
+/// The handle of a task: a future of its output, or of `None` if the task was cancelled.
 ///
 /// Its drop is that of `Task`. It stands for the `FallibleTask` of the Rust crate.
 ///

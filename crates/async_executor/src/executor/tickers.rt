@@ -13,7 +13,7 @@ use std::sync::Wait;
 
 /// A future that runs one task of an executor, and sleeps while none is scheduled.
 ///
-/// Where it is dropped asleep, it leaves the sleepers, and if it was notified, another sleeper is
+/// If it is dropped asleep, it leaves the sleepers, and if it was notified, another sleeper is
 /// woken in its place. It stands for the future that `Executor::tick` of the Rust crate gives.
 ///
 /// Example: `uses::sleeps`, and on threads that park `uses::parks`.
@@ -40,8 +40,8 @@ where
 {
     type Output = ();
 
-    /// Runs the task that was scheduled first, and is ready then. Where none is scheduled, a copy
-    /// of the waker is kept, in place of an earlier one, and is woken once there may be one. Where
+    /// Runs the task that was scheduled first, and is ready then. If none is scheduled, a copy
+    /// of the waker is kept, in place of an earlier one, and is woken once there may be one. If
     /// the copy is refused, the waker itself is woken and nothing is kept. A tick that was ready
     /// stays so, and does nothing more.
     ///
@@ -76,7 +76,7 @@ where
 /// A future that runs tasks of an executor beside the future G, and ends with the output of G.
 ///
 /// Each thread that polls one takes part in the work: a run has a queue of its own, and steals from
-/// the others. Where it is dropped, its tasks go to the queue that all share, and if it was
+/// the others. When it is dropped, its tasks go to the queue that all share, and if it was
 /// notified, another sleeper is woken in its place. It stands for the future that `Executor::run` of
 /// the Rust crate gives.
 ///
@@ -106,11 +106,11 @@ where
 {
     type Output = G::Output;
 
-    /// Polls the own future, and is ready with its output where that is. Else runs tasks until none
-    /// is left, or a whole turn was run since it yielded last. Where none is left, a copy of the waker
-    /// is kept, in place of an earlier one, and is woken once there may be a task. After a turn, or
-    /// where the copy is refused, the waker itself is woken. A run that was ready wakes it and is
-    /// pending, and does nothing more.
+    /// Polls the own future, and if that is ready, is ready with its output. Else runs tasks until
+    /// none is left, or a whole turn was run since it yielded last. If none is left, a copy of the
+    /// waker is kept, in place of an earlier one, and is woken once there may be a task. After a
+    /// turn, or if the copy is refused, the waker itself is woken. A run that was ready wakes it
+    /// and is pending, and does nothing more.
     ///
     /// Example: `uses::keeps_turns`.
     ///

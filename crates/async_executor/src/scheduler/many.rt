@@ -24,8 +24,8 @@ use thiserror::Error;
 pub struct SpawnMany<F> {
     /// How many were spawned.
     pub spawned: usize,
-    /// The future that was refused. `None` where the place for its handle was refused, before the
-    /// iterator was asked for it.
+    /// The future that was refused. `None` if its handle got no place: the iterator is asked only
+    /// once there is one.
     pub refused: Option<F>,
     /// What there was none of: memory, or a number for the task.
     pub cause: RunnerError,
@@ -50,6 +50,14 @@ impl<F> SpawnMany<F> {
     }
 
     /// The future that was refused.
+    ///
+    /// Example: `uses::spawn_two`, which `uses::winds_up` calls.
+    ///
+    /// ```text
+    /// match executor.spawn_many(sums, tasks) {
+    ///     Ok(_) => Ok(()),
+    ///     Err(refused) => Err(refused.into_inner()),
+    /// ```
     pub fn into_inner(self) -> Option<F>
         ensures { result ≡ self.refused }
     {

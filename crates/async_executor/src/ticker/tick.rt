@@ -64,8 +64,8 @@ pub(crate) enum Slept<A> {
     Rested(Rested<A>),
 }
 
-/// Puts a copy of the waker into the list, in place of an earlier one, and stores the flag where the
-/// list was changed. Where the copy is refused, the waker itself is woken. If this poll has put a copy
+/// Puts a copy of the waker into the list, in place of an earlier one, and stores the flag if the
+/// list was changed. If the copy is refused, the waker itself is woken. If this poll has put a copy
 /// there, one that was not notified since sleeps on by that.
 #[inline(always)]
 pub(crate) fn sleep<A, W: Wake, R: Wait + Clone + Drop>(
@@ -163,8 +163,8 @@ pub(crate) fn leave<A, W: Wake, R: Wait + Clone + Drop>(
 impl<H: Home> Future<H::Waker> for TickIn<'_, H> {
     type Output = ();
 
-    /// Runs the task that was scheduled first, and is ready then. Where none is scheduled, a copy
-    /// of the waker is kept, in place of an earlier one, and is woken once there may be one. Where
+    /// Runs the task that was scheduled first, and is ready then. If none is scheduled, a copy
+    /// of the waker is kept, in place of an earlier one, and is woken once there may be one. If
     /// the copy is refused, the waker itself is woken and nothing is kept. A tick that was ready
     /// stays so, and does nothing more.
     fn poll(&mut self, w: &H::Waker) -> Poll<()>

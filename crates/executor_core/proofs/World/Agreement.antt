@@ -36,7 +36,7 @@ module _ {T : Type 0} where
   abbrev pub idle_of : Status T → Bool
   idle_of s = s.spawned && not s.dropped && not s.held && not (owed_of s)
 
-  -- where a log that goes on has this status of a number, and the others theirs
+  -- a log that goes on has this status of a number, and the others keep theirs
   pub record LogChange (log later : List (Event T)) (n : ℕ) (s : Status T) : Type 0 where
     pub here : status n later ≡ s
     pub others : (q : ℕ) → q ≢ n → status q later ≡ status q log
@@ -50,7 +50,7 @@ module _ {T : Type 0} where
 abbrev pub id_of : ℕ → TaskInfo → TaskId
 id_of n i = record { number = n; slot = i.slot }
 
--- where what is kept of the tasks changes at a number
+-- what is kept of the tasks changes at a number
 pub record EntryChange {P : Type 0} (entries later : List (TaskEntry P)) (n : ℕ) (e : TaskEntry P) : Type 0 where
   pub here : slice_get later n ≡ Some e
   pub others : (q : ℕ) → q ≢ n → slice_get later q ≡ slice_get entries q
@@ -68,7 +68,7 @@ entry_set entries n before e is =
     }
 
 module _ {P T : Type 0} where
-  -- where the cells change at a number
+  -- the cells change at a number
   pub record CellChange (table later : Table P T (Unit {0})) (n : ℕ) (o : Option (Slotted P T (Unit {0}))) : Type 0 where
     pub next : later.next ≡ table.next
     pub here : map.get later.cells n ≡ o
@@ -185,7 +185,7 @@ module _ {P T : Type 0} where
         held = λ n. held_is (map.get table.cells n) (status n log) (slice_get entries n) (agree.each n);
       }
 
-  -- a future is out exactly where its task is held
+  -- a future is out if and only if its task is held
   out_held : (o : Option (Slotted P T (Unit {0}))) (s : Status T) (i : Option (TaskEntry P)) → NumberAgrees o s i → is_out i ≡ s.held
   out_held None s None h = sym (ap (λ x. x.held) h)
   out_held None s (Some e) h = h.out
@@ -230,7 +230,7 @@ module _ {P T : Type 0} where
   pub state_agrees : (slotted : Slotted P T (Unit {0})) (s : Status T) (e : TaskEntry P) (st : CellState P T) → slotted.cell.state ≡ st → CellAgrees slotted s e → StateAgrees st slotted.cell.woken s
   state_agrees slotted s e st is h = subst (λ x. StateAgrees x slotted.cell.woken s) is h.state
 
-  -- every future was dropped by the cells exactly where it was by the log
+  -- every future was dropped by the cells if and only if every one was by the log
   pub each_dropped : {table : Table P T (Unit {0})} {log : List (Event T)} {entries : List (TaskEntry P)} → Agree table log entries → AllDropped table → EachDropped log
   each_dropped {table} {log} {entries} agree all n is = by_slotted (map.get table.cells n) (slice_get entries n) refl (agree.each n)
     where
@@ -271,7 +271,7 @@ module _ {P T : Type 0} {table : Table P T (Unit {0})} {log : List (Event T)} {e
       by_slotted None here = inr (record { here = here; cell = cell_agreed agree n e found None here; agrees = agreed_at agree n e found None here })
       by_slotted (Some slotted) here = inl (record { slotted = slotted; here = here; cell = cell_agreed agree n e found (Some slotted) here; agrees = agreed_at agree n e found (Some slotted) here })
 
-  -- the future is in the cell exactly where the task is owed a poll or a drop, or is idle
+  -- the future is in the cell if and only if the task is owed a poll or a drop, or is idle
   pub kept_is : future_in (cell_at table (id_of n e.info)) ≡ owed n log || idle n log
   kept_is = elim cell_or_none [
     | inl at ↦ ap future_in at.cell ∙ by_state at.slotted.cell.state at.slotted.cell.woken at.agrees.state

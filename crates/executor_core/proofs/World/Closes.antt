@@ -118,7 +118,7 @@ store_busy Leaving storing = absurd (cc)
 store_busy Forgotten storing = absurd (cc)
 store_busy Ended storing = absurd (cc)
 
--- some future is out exactly where some task is held
+-- some future is out if and only if some task is held
 any-range : {X : Type 0} (f : X → Bool) (g : ℕ → Bool) (xs : List X) (first : ℕ) → ((i : ℕ) (x : X) → slice_get xs i ≡ Some x → f x ≡ g (first + i)) → list_any f xs ≡ list_any g (range_with_len first (length xs))
 any-range f g [] first same = refl
 any-range f g (x ∷ xs) first same =

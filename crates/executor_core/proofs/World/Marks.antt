@@ -114,7 +114,7 @@ module _ {P T : Type 0} where
       }
 
   module _ {event : ℕ → Event T} {mark : Cell P T (Unit {0}) → Cell P T (Unit {0})} {change : Status T → Status T} (marking : Marking event mark change) {slotted : Slotted P T (Unit {0})} {s : Status T} {e : TaskEntry P} (h : CellAgrees slotted s e) {slot : ℕ} (same : slot ≡ e.info.slot) where
-    -- the cell agrees again once it is marked, with the event where its future is not dropped
+    -- the cell agrees again once it is marked, with the event if its future is not dropped
     pub marked_cell : is_undropped slotted.cell.state ≡ true → CellAgrees (record { slot = slot; cell = mark slotted.cell }) (change s) e
     marked_cell alive =
         let now = marking.alive slotted.cell s alive h.cancelled h.state in
@@ -128,7 +128,7 @@ module _ {P T : Type 0} where
           polled = h.polled;
         }
 
-    -- and without it where its future was dropped
+    -- and without it if its future was dropped
     pub ended_cell : is_undropped slotted.cell.state ≡ false → CellAgrees (record { slot = slot; cell = mark slotted.cell }) s e
     ended_cell ended =
         let now = marking.ended slotted.cell s ended h.state in

@@ -32,7 +32,7 @@ picked_obliges w out b = or_right b _ (or_left _ (some_search w) (or_right (nat_
 searching_obliges : {T : Type 0} (w : Execution T) → some_search w ≡ true → (b : Bool) → b || is_obliged w ≡ true
 searching_obliges w some b = or_right b _ (or_right (nat_lt 0 (notices_out w) || nat_lt 0 w.picks) _ some)
 
--- where somebody is obliged, a notice or a pick is out, or a ticker has still to search
+-- if somebody is obliged, a notice or a pick is out, or a ticker has still to search
 abbrev Obliges : {T : Type 0} → Execution T → Type 0
 Obliges w = (0 < notices_out w) ⊎ ((0 < w.picks) ⊎ (some_search w ≡ true))
 
@@ -62,7 +62,7 @@ holder_obliges w spends = by_holder w.holder spends
     by_holder None spends = absurd (false≢true spends)
     by_holder (Some k) spends = at k (slice_get w.tickers k) refl spends
 
--- one is notified, where somebody is there to be
+-- one is notified, if somebody is there to be
 pub some_in_use : {W : Type 0} (s : SleeperList W) → is_notified s ≡ true → 0 < set.len s.used → some_notified s ≡ true
 some_in_use s notified asleep = elim (or_cases (set.len s.used == 0) (nat_lt (length s.unnotified) (set.len s.used)) notified) [
   | inl none ↦ let nobody = eqb-true _ _ none in absurd (omega arith)
@@ -108,7 +108,7 @@ module _ {T : Type 0} {w v : Execution T} (law : NoNoticeLost w) where
         | inr same ↦ rw (sleepers, picks, tickers, same.1) (covers (λ none. queued (stay same.0 none)) (subst (λ s. 0 < set.len s.used) sleepers asleep))
       ]
 
-  -- a notice was spent: where the flag was false, a pick is out
+  -- a notice was spent: if the flag was false, a pick is out
   pub notices_exchanged : v.sleepers ≡ w.sleepers → v.tickers ≡ w.tickers → v.holder ≡ w.holder → v.picks ≡ cond (not w.flag) (w.picks + 1) w.picks → NoNoticeLost v
   notices_exchanged sleepers tickers holder picks = elim (cases_Bool w.flag) [
     | inl on ↦

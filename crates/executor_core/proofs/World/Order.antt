@@ -116,7 +116,7 @@ module _ {T : Type 0} (r : ℕ) (old new : Execution T) (answer : Reply T) (befo
   queueing : (queued : List ℕ) → queues new ≡ queued_last queued → Moves queued []
   queueing queued is = append_assoc (entries_of r old.locals) old.global queued ∙ sym (ap (line r) is)
 
-  -- this one stands there, where this holds
+  -- this one stands there, if this holds
   abbrev queued_if : Bool → ℕ → QueueLists ℕ
   queued_if b n = record { global = cond b (old.global ++ n ∷ []) old.global; locals = old.locals }
 
@@ -131,7 +131,7 @@ module _ {T : Type 0} (r : ℕ) (old new : Execution T) (answer : Reply T) (befo
   pending true woke n i does = queueing_if false n requeued_task (reply.Drop n, informed n i old) does refl refl
   pending false woke n i does = queueing_if woke n requeued_task (return_reply n woke, queued_where woke n (logged (Returned n) old)) does refl (requeued-return T n woke)
 
-  -- another one takes nothing, where this runner takes what is taken
+  -- another one takes nothing, if this runner takes what is taken
   takes_none : (n : ℕ) (cancel : Bool) → answer ≡ take_reply n cancel → (taken_task answer ≢ [] → ⊥) → ⊥
   takes_none n cancel is never = never (λ none. let one : n ∷ [] ≡ [] = sym (ap taken_task is ∙ taken-take T n cancel) ∙ none in cc)
 

@@ -1,4 +1,4 @@
--- What the calls of a runner make of its line, where no other runner is registered.
+-- What the calls of a runner make of its line, if no other runner is registered.
 use Rattle.std.proofs.Common.{◌≡◌, ◌≢◌, ℕ, zero, suc, ◌+◌, ◌%◌, Bool, not, cond, List, [], ◌∷◌, ◌++◌, map, take, drop, Option, Some, None, refl, sym, ap, ◌∙◌, subst, inl, inr, append_assoc}
 use Rattle.std.proofs.lemmas.Bool.{cases_eq, eq-eqb, ne_eqb}
 use Rattle.std.proofs.lemmas.List.{take-append-drop}
@@ -18,7 +18,7 @@ abbrev first_if : Bool → Option ℕ
 first_if passes = cond (nat_lt (cond (not passes) (1 + 0) 0) 1) (Some (cond (not passes) (1 + 0) 0)) None
 
 module _ {X : Type 0} where
-  -- the queues where this runner alone is registered
+  -- the queues, if this runner alone is registered
   abbrev own_queue : ℕ → List X → ℕ → List (RunnerQueue X)
   own_queue r entries capacity = record { runner = r; entries = entries; capacity = capacity } ∷ []
 

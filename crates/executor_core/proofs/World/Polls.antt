@@ -130,7 +130,7 @@ module _ {P T : Type 0} {table : Table P T (Unit {0})} {log : List (Event T)} {e
     takes_back_is : takes_back_in (cell_at table (id_of n e.info)) ≡ not (cancelled n log)
     takes_back_is = ap takes_back_in the_cell.cell ∙ ap (λ b. b && not the_cell.slotted.cell.cancelled) cell_held ∙ ap not the_cell.agrees.cancelled
 
-    -- where a poll of the task may end, its future was not polled
+    -- if a poll of the task may end, its future was not polled
     pub unpolled_there : e.info.to_drop ≡ false → is_unpolled (slice_get entries n) ≡ true
     unpolled_there fresh = ap (λ (o : Option (TaskEntry P)). is_unpolled o) found ∙ by_future e.out e.info.to_drop fresh (the_cell.agrees.out ∙ now_held) the_cell.agrees.polled
       where
@@ -193,7 +193,7 @@ module _ {P T : Type 0} {table : Table P T (Unit {0})} {log : List (Event T)} {e
       pub global : later.global ≡ table.global
       pub runners : fixed_part later ≡ fixed_part table
 
-    -- the cell ends in this state, where the handle is there, and else is gone
+    -- the cell ends in this state if the handle is there, and else is gone
     ended : (s : Status T) (st : CellState P T) {later : Table P T (Unit {0})} {more : List (Event T)}
         → later ≡ cond the_cell.slotted.cell.has_handle (with_cell table (id_of n e.info) (record the_cell.slotted.cell { state = st; awaiter = None })) (without_cell table (id_of n e.info))
         → LogChange log more n s → InOrder more → s.spawned ≡ true → s.dropped ≡ true → s.held ≡ false → s.cancelled ≡ cancelled n log → StateAgrees st the_cell.slotted.cell.woken s → FewPollsFor s → Ended later more
@@ -256,7 +256,7 @@ module _ {P T : Type 0} {table : Table P T (Unit {0})} {log : List (Event T)} {e
     pub gone_awaiter_is : is_some (dropped_answer (cell_at table (id_of n e.info))) ≡ e.info.awaited
     gone_awaiter_is = ap (λ o. is_some (dropped_answer o)) the_cell.cell ∙ ap is_some (cond-true (is_held the_cell.slotted.cell.state) (wakeup_of the_cell.slotted.cell.awaiter) None cell_held) ∙ wakeup_some the_cell.slotted.cell.awaiter ∙ the_cell.agrees.awaited
 
--- where a poll of the task may end, its future was not polled
+-- if a poll of the task may end, its future was not polled
 pub unpolled_now : {P T : Type 0} (a : Inside P T) → IsWorld (execution_of a) a.core.cells a.entries.items a.rings.items (vec_capacity a.log) → {w : Execution T} → execution_of a ≡ w → (n : ℕ) → (held n w.log && not (info n w).to_drop) ≡ true → is_unpolled (slice_get a.entries.items n) ≡ true
 unpolled_now {P} a sound view n enabled =
     let parts = and_parts (held n a.log.items) (not (info n (execution_of a)).to_drop) (ap (λ w. held n w.log && not (info n w).to_drop) view ∙ enabled) in

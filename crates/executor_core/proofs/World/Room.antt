@@ -60,12 +60,12 @@ module _ {T : Type 0} {w : Execution T} {room : ℕ} (has : HasRoom w room) wher
         let h7 = has.few_tickers in
         record { within = omega arith; bounded = omega arith; few_unspent = omega arith; few_tasks = omega arith; few_events = omega arith; few_before = λ unclosed unleaked. let h8 = has.few_before (sym closed ∙ unclosed) (sym leaked ∙ unleaked) in omega arith; few_tickers = omega arith; enough = omega arith }
 
--- one item more fits where a place for it was reserved
+-- one item more fits if a place for it was reserved
 pub reserved_fits : {A E : Type 0} (r : Result A E) {count capacity : ℕ} → OnOk r (count + 1 ≤ capacity) → is_err r ≡ false → count < capacity
 reserved_fits (Ok x) fits is = omega arith
 reserved_fits (Err e) fits is = absurd (cc)
 
--- what holds where a call was not refused, and where it was
+-- what holds if a call was not refused, and what holds if it was
 pub on_ok : {A E P : Type 0} (r : Result A E) → OnOk r P → is_err r ≡ false → P
 on_ok (Ok x) holds is = holds
 on_ok (Err e) holds is = absurd (cc)

@@ -136,7 +136,7 @@ module _ {P T W : Type 0} where
   abbrev pub fixed_part : Table P T W → List (RunnerQueue ℕ) × (ℕ × (ℕ × Bool))
   fixed_part table = (table.locals, (table.next_runner, (table.free_places, table.closed)))
 
--- where that is as it was, so is each part of it
+-- if that is as it was, so is each part of it
 module _ {later table : List (RunnerQueue ℕ) × (ℕ × (ℕ × Bool))} (same : later ≡ table) where
   pub same_locals : later.0 ≡ table.0
   same_locals = ap (λ p. p.0) same

@@ -1,4 +1,4 @@
--- A run's search finds nothing only where nothing is queued.
+-- A run's search finds nothing only if nothing is queued.
 use Rattle.std.proofs.Common.{◌≡◌, ◌≢◌, ℕ, zero, suc, ◌+◌, ◌<◌, ◌≤◌, Bool, true, false, not, ◌||◌, inl, inr, List, [], ◌∷◌, ◌++◌, length, take, drop, Option, Some, None, refl, sym, ap, ◌∙◌, length-take, arith}
 use Rattle.std.proofs.lemmas.Bool.{cases_Bool, cases_eq, cases_lt, eq-eqb, eqb-true, ne_eqb, lt-ltb, ltb-true, or_left, or_right, or_cases, true≢false, cond-true, cond-false}
 use Rattle.std.proofs.lemmas.List.{take-append-drop}
@@ -97,7 +97,7 @@ module _ (word : ℕ) (q : QueueLists ℕ) (roomy : (i : ℕ) (x : RunnerQueue �
   by_victim mine None is none = refl
   by_victim mine (Some s) is none = absurd (steal_brings s mine (find_passes (can_steal r q.locals) (visits r word (length q.locals)) s is) none)
 
-  -- where nobody can be stolen from, nobody has anything
+  -- if nobody can be stolen from, nobody has anything
   others_empty : victim r word q.locals ≡ None → (i : ℕ) (x : RunnerQueue ℕ) → slice_get q.locals i ≡ Some x → i ≢ r → x.entries ≡ []
   others_empty nobody i x at other =
       let never = find_none (can_steal r q.locals) (visits r word (length q.locals)) i nobody (visited r word (length q.locals) i (within_get q.locals i x at) other) in

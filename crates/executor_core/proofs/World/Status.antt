@@ -5,7 +5,7 @@ use Rattle.executor_core.specs.World.Agreement.{Status}
 use Rattle.executor_core.specs.declared.interleave.event.Event.{Event}
 use Rattle.executor_core.specs.declared.interleave.event.Event.TheVariants.{Spawned, Woken, Cancelled, Took, Returned, Finished, Dropped, Got}
 
--- the list with one more item, where there is one
+-- the list with one more item, if there is one
 abbrev pub with_some : {X : Type 0} → Option X → List X → List X
 with_some None xs = xs
 with_some (Some x) xs = xs ++ x ∷ []

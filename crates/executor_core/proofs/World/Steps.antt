@@ -37,7 +37,7 @@ module _ {P T : Type 0} where
     pub sound : IsWorld later table entries rings room
     pub does : row r answer later
 
--- a step that leaves the flag, the sleepers and the picks as they are, with a notice where it queues a task
+-- a step that leaves the flag, the sleepers and the picks as they are, with a notice if it queues a task
 module _ {P T : Type 0} (a : Inside P T) (sound : IsWorld (execution_of a) a.core.cells a.entries.items a.rings.items (vec_capacity a.log)) {w : Execution T} (view : execution_of a ≡ w) (far : w.accepted ≢ w.limit) where
   pub stepped_sound : (queues : Bool) (table : Table P T (Unit {0})) (log : List (Event T)) (entries : List (TaskEntry P)) → (queues ≡ false → table.global ≡ a.core.cells.global) → fixed_part table ≡ fixed_part a.core.cells → length entries ≤ length a.entries.items + 1 → length log ≤ length a.log.items + 2 → Agree table log entries → (a.core.cells.closed ≡ true → AllMarked a.log.items → AllMarked log)
       → IsWorld (stepped a (a.accepted + 1) (record a.core { cells = table }) log entries (cond queues (a.notices + 1) a.notices) a.picks) table entries a.rings.items (vec_capacity a.log)

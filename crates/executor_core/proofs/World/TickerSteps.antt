@@ -111,7 +111,7 @@ is_store Leaving h = absurd (cc)
 is_store Forgotten h = absurd (cc)
 is_store Ended h = absurd (cc)
 
--- one notice more floats, where some are kept
+-- one notice more floats, if some are kept
 floating : (kept n : ℕ) → (cond (nat_lt 0 kept) (n + 1) n ≤ n + 1) × (cond (nat_lt 0 kept) (n + 1) n ≤ n + kept)
 floating kept n = by_test (nat_lt 0 kept) refl
   where
@@ -160,7 +160,7 @@ over_ended Leaving h = refl
 over_ended Forgotten h = refl
 over_ended Ended h = absurd (cc)
 
--- where a ticker takes steps, the executor is not closed
+-- if a ticker takes steps, the executor is not closed
 pub goes_open : {P T : Type 0} (a : Inside P T) → IsWorld (execution_of a) a.core.cells a.entries.items a.rings.items (vec_capacity a.log) → (k : ℕ) (t : Ticker) → slice_get a.tickers.items k ≡ Some t → is_over t.phase ≡ false → a.core.cells.closed ≡ false
 goes_open a sound k t found goes = elim (cases_Bool a.core.cells.closed) [
   | inl on ↦ absurd (true≢false (sym ((sound.closing on).over k t found) ∙ goes))
@@ -664,7 +664,7 @@ module _ {P T : Type 0} (a : Inside P T) (sound : IsWorld (execution_of a) a.cor
       kept_by : (b : Bool) → kept_notices (dropped_world b) ≡ kept_notices (execution_of a) + cond b 1 0
       kept_by b = let change = kept_is (execution_of a) (dropped_world b) sound.notices k before (dropped b before) found_rest refl in let none = rests.kept in omega arith
 
-      -- the notice of a notified number stands in the change; where another number is notified, it stays so
+      -- the notice of a notified number stands in the change; if another number is notified, it stays so
       drop_law : SleeperLaw a.core.sleepers → (b : Bool) → is_notified_number a.core.sleepers before.number ≡ b → NoNoticeLost (dropped_world b)
       drop_law law true notified =
           let kept = kept_by true in

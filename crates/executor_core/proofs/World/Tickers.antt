@@ -134,7 +134,7 @@ module _ {W : Type 0} {tickers : List Ticker} {s : SleeperList W} (tied : Number
         ];
       }
 
-  -- a ticker that has not ended has a place, which is free where it is awake
+  -- a ticker that has not ended has a place, which is free if it is awake
   pub has_free : is_awake t ≡ true → has_ended t.phase ≡ false → set.len s.used < s.places
   has_free up going =
       let fewer = count_fewer (λ (t : Ticker). not (is_awake t)) (λ (t : Ticker). not (has_ended t.phase)) tickers (sleeps_placed tied) k t found (ap not up) (ap not going) in

@@ -47,7 +47,7 @@ module _ {P T W : Type 0} where
   abbrev pub pended : Cell P T W → P → Cell P T W
   pended c p = record c { state = cond c.woken (Scheduled p) (Idle p) }
 
-  -- after its future gave an output, where its handle is there
+  -- after its future gave an output, if its handle is there
   abbrev pub readied : Cell P T W → T → Cell P T W
   readied c t = record c { state = cond c.cancelled Gone (Finished t); awaiter = None }
 
@@ -59,11 +59,11 @@ module _ {P T W : Type 0} where
   abbrev pub cancelled_cell : Cell P T W → Cell P T W
   cancelled_cell c = record c { state = state_woken c.state; cancelled = cond (is_undropped c.state) true c.cancelled }
 
-  -- after its handle ended, where its future is not dropped
+  -- after its handle ended, if its future is not dropped
   abbrev pub detached : Cell P T W → Cell P T W
   detached c = record c { has_handle = false; awaiter = None }
 
-  -- after its future was dropped without an output, where its handle is there
+  -- after its future was dropped without an output, if its handle is there
   abbrev pub disposed : Cell P T W → Cell P T W
   disposed c = record c { state = Gone; awaiter = None }
 

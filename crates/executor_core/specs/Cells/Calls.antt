@@ -80,7 +80,7 @@ module _ {P T W : Type 0} where
   abbrev pub without_cell : Table P T W → TaskId → Table P T W
   without_cell table id = record table { cells = map.remove table.cells id.number }
 
-  -- the number goes to the global end, where it is asked for
+  -- the number goes to the global end, if that is asked for
   abbrev pub queued_if : Bool → Table P T W → TaskId → Table P T W
   queued_if b table id = record table { global = cond b (table.global ++ id.number ∷ []) table.global }
 
@@ -213,7 +213,7 @@ module _ {P T W : Type 0} where
   abbrev pub after_end_pending : Table P T W → TaskId → P → Table P T W
   after_end_pending table id p = end_pending_at table id p (cell_at table id)
 
-  -- the future goes back, with a notice where its task was woken; else it comes back to be dropped
+  -- either the future goes back, with a notice if its task was woken, or it comes back to be dropped
   abbrev pub EndsPending : Table P T W → Held → P → EndPending P → Type 0
   EndsPending table held p (Back notice) = (takes_back_in (cell_at table held.id) ≡ true) × (is_some notice ≡ woken_in (cell_at table held.id))
   EndsPending table held p (Drop q again) = (takes_back_in (cell_at table held.id) ≡ false) × (q ≡ p) × (again ≡ record { id = held.id; to_drop = true })

@@ -13,7 +13,7 @@ module _ {P T W : Type 0} where
   scheduled_in None = false
   scheduled_in (Some s) = is_scheduled s.cell.state
 
-  -- a number stands once among these where its cell is scheduled, and else it does not
+  -- a number stands once among these if its cell is scheduled, and else it does not
   abbrev pub ScheduledOnce : map.FinMap nat_cmp (Slotted P T W) → List ℕ → Type 0
   ScheduledOnce cells numbers = (n : ℕ) → times n numbers ≡ cond (scheduled_in (map.get cells n)) 1 0
 

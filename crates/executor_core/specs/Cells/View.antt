@@ -49,7 +49,7 @@ module _ {P T W : Type 0} where
   is_queueable None = false
   is_queueable (Some e) = is_idle e.cell.state || is_held e.cell.state
 
-  -- what becomes of a cell where every task is cancelled, or woken
+  -- what becomes of a cell when every task is cancelled, or woken
   abbrev pub change_by : Bool → Cell P T W → Cell P T W
   change_by true c = cancelled_cell c
   change_by false c = woken c

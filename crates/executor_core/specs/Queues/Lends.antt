@@ -1,4 +1,4 @@
--- What the queues and the slots end as, where a `&mut` to one of the cells is returned.
+-- What the queues and the slots are in the end, if a `&mut` to one of the cells is returned.
 use Rattle.std.specs.Borrow.{Lends, Fml, RattleType, MutBor}
 use Rattle.executor_core.specs.Queues.Slots.{QueuedSlots}
 use Rattle.executor_core.specs.Slots.{put_cell}

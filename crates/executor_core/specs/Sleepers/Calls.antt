@@ -114,7 +114,7 @@ module _ {W : Type 0} where
 
 -- notify
 module _ {W : Type 0} where
-  -- every number in use stands in the list
+  -- the list has every number that is in use
   abbrev pub all_unnotified : SleeperList W → Bool
   all_unnotified s = length s.unnotified == set.len s.used
 

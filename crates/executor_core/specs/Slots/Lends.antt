@@ -1,4 +1,4 @@
--- What the slots end as, where a `&mut` to one of their cells is returned.
+-- What the slots are in the end, if a `&mut` to one of their cells is returned.
 use Rattle.std.specs.Borrow.{Lends, Fml, RattleType, MutBor}
 use Rattle.executor_core.specs.Slots.{LinkedSlots, with_cell_at}
 use Rattle.executor_core.specs.declared.task.cell.Cell.{Cell}

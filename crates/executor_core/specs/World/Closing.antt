@@ -29,9 +29,9 @@ module _ {T : Type 0} where
   pub record Closing (w : Execution T) : Type 0 where
     -- each task whose future is not dropped is owed a drop, or held
     pub undropped : (n : ℕ) → spawned n w.log ≡ true → dropped n w.log ≡ false → owed n w.log || held n w.log ≡ true
-    -- a drain finds none exactly where no task is owed a drop
+    -- a drain finds none if and only if no task is owed a drop
     pub drained : ((drain_row w.global w).0 ≡ reply.NoTask) ↔ NoneOwed w.log
-    -- and then, where none is held, each future that was spawned was dropped, once
+    -- and then, if none is held, each future that was spawned was dropped, once
     pub dropped : (drain_row w.global w).0 ≡ reply.NoTask → NoneHeld w.log → (n : ℕ) → spawned n w.log ≡ true → drops n w.log ≡ 1
     -- a task that finished still gives its output
     pub outputs : (n : ℕ) (t : T) → (info n w).has_handle ≡ true → outputs n w.log ≡ t ∷ [] → (handle_row n w).0 ≡ reply.Output t

@@ -19,12 +19,12 @@ module _ {T : Type 0} where
   new_task (reply.Task n) = n ∷ []
   new_task _ = []
 
-  -- this task, where something was queued
+  -- this task, if something was queued
   abbrev pub noticed_task : ℕ → Reply T → List ℕ
   noticed_task n reply.Notice = n ∷ []
   noticed_task n _ = []
 
-  -- the task whose future went back, where it was queued again
+  -- the task whose future went back, if it was queued again
   abbrev pub requeued_task : Reply T → List ℕ
   requeued_task (reply.Queued n) = n ∷ []
   requeued_task _ = []
@@ -90,7 +90,7 @@ module _ {P T : Type 0} where
     pub taker : taken_by step answer ≢ [] → searcher step old ≡ Some r
     pub goes_on : new.closed ≡ old.closed
 
-  -- these replies to these steps, where the runner is alone before and after each, and takes each task that is taken
+  -- these replies to these steps, with the runner alone before and after each, and taking each task that is taken
   abbrev pub LoneSteps : ℕ → Execution T → List (Step P T) → List (Reply T) → Execution T → Type 0
   LoneSteps r old steps answers new = IsAlone r old.locals × FoldTo (LoneStep r) old steps answers new
 

@@ -14,13 +14,13 @@ use Rattle.executor_core.specs.declared.interleave.event.Event.{Event}
 use Rattle.executor_core.specs.declared.interleave.event.Event.TheVariants.{Took, Finished, Dropped, Got}
 
 module _ {T : Type 0} where
-  -- a task stands once in the queue where it is owed a poll or a drop, and else it does not
+  -- a task stands once in the queue if it is owed a poll or a drop, and else it does not
   abbrev pub OnePlace : List (Event T) → List ℕ → Type 0
   OnePlace log queue = (n : ℕ) → times n queue ≡ cond (owed n log) 1 0
 
   -- the event may stand right after these
   abbrev pub MayFollow : List (Event T) → Event T → Type 0
-  -- a task is taken while it is neither held nor dropped: to be polled where it was not cancelled, else to be dropped
+  -- a task is taken while it is neither held nor dropped: to be polled if it was not cancelled, else to be dropped
   MayFollow before (Took n ToPoll) = (cancelled n before ≡ false) × (held n before ≡ false) × (dropped n before ≡ false)
   MayFollow before (Took n ToDrop) = (cancelled n before ≡ true) × (held n before ≡ false) × (dropped n before ≡ false)
   -- a future is dropped once
@@ -83,11 +83,12 @@ module _ {T : Type 0} where
   abbrev pub is_obliged : Execution T → Bool
   is_obliged w = nat_lt 0 (notices_out w) || nat_lt 0 w.picks || some_search w
 
-  -- where the flag is true, no number is in use, or one is notified, or a pick is out, or the holder has something to spend
+  -- a flag that is true has a cause: nobody sleeps, a sleeper is notified, a pick is out, or the lock's
+  -- holder has something left to spend
   abbrev pub FlagLaw : Execution T → Type 0
   FlagLaw w = w.flag ≡ true → is_notified w.sleepers || nat_lt 0 w.picks || holder_spends w.holder w.tickers ≡ true
 
-  -- where these are queued and a number is in use, one is notified, or an obligation is out
+  -- if there is a task among these while somebody sleeps, a sleeper is notified, or an obligation is out
   abbrev pub CoversQueued : List ℕ → Execution T → Type 0
   CoversQueued queued w = queued ≢ [] → 0 < set.len w.sleepers.used → some_notified w.sleepers || is_obliged w ≡ true
 
@@ -95,7 +96,7 @@ module _ {T : Type 0} where
   abbrev pub Covered : Execution T → Type 0
   Covered w = CoversQueued w.global w
 
-  -- and of all queues together where every ticker is a run, since a run searches all of them
+  -- and of all queues together if every ticker is a run, since a run searches all of them
   abbrev pub RunsCovered : Execution T → Type 0
   RunsCovered w = only_runs w.tickers ≡ true → CoversQueued (all_queues w) w
 
@@ -124,7 +125,7 @@ module _ {W : Type 0} where
     pub awake : (k : ℕ) (t : Ticker) → slice_get tickers k ≡ Some t → gave_up t.phase ≡ true → t.number ≡ 0
     pub asleep : (k : ℕ) (t : Ticker) → slice_get tickers k ≡ Some t → in_wake t.phase ≡ true → is_awake t ≡ false
 
--- a ticker holds the lock exactly where it has the flag to store
+-- a ticker holds the lock if and only if it has the flag to store
 abbrev pub HolderStores : Option ℕ → List Ticker → Type 0
 HolderStores holder tickers = (k : ℕ) → in_store (ticker_or (slice_get tickers k)).phase ≡ holds k holder
 
@@ -132,5 +133,5 @@ module _ {W : Type 0} where
   pub record TickersTied (tickers : List Ticker) (holder : Option ℕ) (s : SleeperList W) : Type 0 where
     pub tied : NumbersTied tickers s
     pub stores : HolderStores holder tickers
-    -- the list is open exactly where somebody holds the lock
+    -- the list is open if and only if somebody holds the lock
     pub opened : s.is_open ≡ is_some holder

@@ -16,7 +16,7 @@ module _ {P T W : Type 0} (local : ℕ) where
   -- what holds of the run of this runner
   pub record RunTied (t : Ticker) (runner : ℕ) (table : Table P T W) (rings : List (Option IdRing)) : Type 0 where
     pub made : runner < table.next_runner
-    -- where it goes on with its queue, it is registered
+    -- if it goes on with its queue, it is registered
     pub registered : needs_queue t.phase ≡ true → is_registered runner table.locals ≡ true
     -- a new run is awake, and its ring waits
     pub awake : is_new_run table.locals t ≡ true → t.number ≡ 0

@@ -56,11 +56,11 @@ module _ {T : Type 0} where
   abbrev pub noticed_where : Bool → Execution T → Execution T
   noticed_where b w = record w { notices = cond b (w.notices + 1) w.notices }
 
-  -- the event is logged where this holds
+  -- the event is logged if this holds
   abbrev pub logged_where : Bool → Event T → Execution T → Execution T
   logged_where b e w = record w { log = cond b (w.log ++ e ∷ []) w.log }
 
-  -- the number goes to the global end, and a notice is out, where this holds
+  -- the number goes to the global end, and a notice is out, if this holds
   abbrev pub queued_where : Bool → ℕ → Execution T → Execution T
   queued_where b n w = record w { global = cond b (w.global ++ n ∷ []) w.global; notices = cond b (w.notices + 1) w.notices }
 
@@ -121,7 +121,7 @@ module _ {T : Type 0} where
   take_any_row (None, q) w = (reply.NoTask, w)
   take_any_row (Some n, q) w = (take_reply n (cancelled n w.log), noticed (with_queues q (taking n w.global w)))
 
-  -- where a future went back, by whether its task was queued
+  -- the reply for a future that went back, by whether its task was queued
   abbrev pub return_reply : ℕ → Bool → Reply T
   return_reply n noticed = cond noticed (reply.Queued n) (reply.Idle n)
 
@@ -176,7 +176,7 @@ module _ {T : Type 0} where
   abbrev pub pick_reply : Bool → Reply T
   pick_reply picked = cond picked reply.Pick reply.Nothing
 
-  -- exchange: a notice is spent, and a pick is out where the flag was false
+  -- exchange: a notice is spent, and a pick is out if the flag was false
   abbrev pub exchange_row : Execution T → Reply T × Execution T
   exchange_row w = (pick_reply (not w.flag), record w { notices = w.notices - 1; flag = true; picks = cond (not w.flag) (w.picks + 1) w.picks })
 
@@ -274,7 +274,7 @@ module _ {T : Type 0} where
   abbrev pub fair_row : ℕ → Execution T → Reply T × Execution T
   fair_row k w = let r = runner_of (ticker k w) in (reply.Moved (fair_count r (queues w)), with_queues (fair r (queues w)) w)
 
-  -- unregister k: its queue goes to the global end, with a notice where it had something
+  -- unregister k: its queue goes to the global end, with a notice if it had something
   abbrev pub unregister_row : ℕ → Execution T → Reply T × Execution T
   unregister_row k w =
       let r = runner_of (ticker k w) in
@@ -310,7 +310,7 @@ module _ {T : Type 0} where
       let number = next_number w.sleepers in
       (reply.Number number, held_by k (with_ticker k (slept number (ticker k w)) (record w { sleepers = after_insert w.sleepers tt })))
 
-  -- sleep k of one that has a number: it goes to sleep again where it was notified, and else sleeps on
+  -- sleep k of one that has a number: it goes to sleep again if it was notified, and else sleeps on
   abbrev pub update_row : ℕ → Execution T → Reply T × Execution T
   update_row k w =
       let number = (ticker k w).number in
@@ -440,13 +440,13 @@ module _ {P T : Type 0} where
   Does Drain old answer new = row (drain_row old.global old) answer new
   Does Leak old answer new = ByRisingSlot leak_row old answer new
 
-  -- a step: refused where the log is full, else where it is not enabled, else done
+  -- a step: refused if the log is full, else refused if it is not enabled, else done
   pub record StepTo (old : Execution T) (step : Step P T) (answer : Reply T) (new : Execution T) : Type 0 where
     pub full : old.accepted ≡ old.limit → (answer ≡ reply.LogFull) × (new ≡ old)
     pub not_now : old.accepted ≢ old.limit → enabled step old ≡ false → (answer ≡ reply.NotNow) × (new ≡ old)
     pub done : old.accepted ≢ old.limit → enabled step old ≡ true → Does step old answer new
 
--- these replies to these steps, one after another, where a relation says what one step does
+-- these replies to these steps, one after another, by a relation that says what one step does
 abbrev pub FoldTo : {W S R : Type 0} → (W → S → R → W → Type 0) → W → List S → List R → W → Type 0
 FoldTo does old [] [] new = new ≡ old
 FoldTo {W} does old (step ∷ steps) (answer ∷ answers) new = (mid : W) × does old step answer mid × FoldTo does mid steps answers new

@@ -23,7 +23,7 @@ searched found t = record t { phase = cond found (cond (is_awake t) (after_task 
 abbrev pub slept : ℕ → Ticker → Ticker
 slept number t = record t { phase = Store Slept; number = number }
 
--- sleep where it stands in the list already, or yield
+-- sleep, if it stands in the list already, or yield
 abbrev pub rested : Ticker → Ticker
 rested t = record t { phase = Rest }
 

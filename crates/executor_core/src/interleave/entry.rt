@@ -1,4 +1,4 @@
-//! What a world keeps of each task beside its log: what is known of it, and its future where it is
+//! What a world keeps of each task beside its log: what is known of it, and its future if it is
 //! out.
 ghost use Rattle.std.specs.Prelude.{◌≡◌, ◌<◌, Some, None, false, true, is_some, length, slice_get, slice_set};
 ghost use Rattle.std.specs.List.{list_any};
@@ -16,7 +16,7 @@ pub struct TaskInfo {
     pub(crate) has_handle: bool,
     /// Its handle was polled in vain, and the awaiter did not come out yet.
     pub(crate) awaited: bool,
-    /// Where its future is out, it is to be dropped.
+    /// If its future is out, it is to be dropped.
     pub(crate) to_drop: bool,
 }
 
@@ -80,7 +80,7 @@ pub(crate) enum FutureOut<P> {
 #[derive(Drop)]
 pub(crate) struct TaskEntry<P> {
     pub(crate) info: TaskInfo,
-    // Its future, where it is out.
+    // Its future, if it is out.
     pub(crate) out: Option<FutureOut<P>>,
 }
 
@@ -139,7 +139,7 @@ pub(crate) fn set_info<P>(entries: &mut Vec<TaskEntry<P>>, n: u64, info: TaskInf
     entries[n as usize].info = info;
 }
 
-// Puts this in the place of the task's entry, and gives its future, where it was out.
+// Puts this in the place of the task's entry, and gives its future if it was out.
 pub(crate) fn set_entry<P: Drop>(
     entries: &mut Vec<TaskEntry<P>>,
     n: u64,

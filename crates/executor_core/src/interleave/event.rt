@@ -58,7 +58,7 @@ impl<T: Copy> Clone for Event<T> {
     }
 }
 
-// Logs the event, where it happened.
+// Logs the event if it happened.
 pub(crate) fn log_if<T: Copy>(log: &mut Vec<Event<T>>, happened: bool, event: Event<T>)
     requires { length log.old.items < vec_capacity log.old }
     ensures items { log.new.items ≡ cond happened (log.old.items ++ event ∷ []) log.old.items }

@@ -28,8 +28,8 @@ pub enum Reply<T> {
     Finished { awaiter: bool },
     /// No handle will give this output; and whether an awaiter came out.
     Unwanted { output: T, awaiter: bool },
-    /// This output came out, and the handle ended: a poll of the handle gave it, or nobody asked
-    /// for it where the handle was detached or dropped.
+    /// This output came out, and the handle ended: a poll of the handle gave it, or, if the handle
+    /// was detached or dropped, nobody asked for it.
     Output(T),
     /// The future was dropped and gave no output; and whether an awaiter came out.
     Gone { awaiter: bool },

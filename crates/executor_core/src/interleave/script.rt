@@ -5,7 +5,7 @@ ghost use Rattle.executor_core.specs.Polling.{polled_output};
 use crate::interleave::entry::FutureOut;
 use crate::task::{Held, Polled, Poller, Ran, Taken, TaskId, run_taken};
 
-/// Answers each poll with this output, or pending where there is none.
+/// Answers each poll with this output, or pending if there is none.
 #[derive(Drop)]
 struct Script<T> {
     output: Option<T>,
@@ -47,7 +47,7 @@ fn taken<P>(id: TaskId, future: P, cancelled: bool) -> Taken<P>
     }
 }
 
-// A script that answers each poll with this output, or pending where there is none.
+// A script that answers each poll with this output, or pending if there is none.
 fn answering<T>(output: Option<T>) -> Script<T>
     ensures { result ≡ record { output = output; polls = 0; disposals = 0 } }
 {

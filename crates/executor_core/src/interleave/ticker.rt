@@ -2,7 +2,7 @@
 //! sleeps.
 //!
 //! A ticker searches for a task. While it finds none it goes to sleep, and searches once more
-//! before it rests. Where it finds one it removes its number, which it has where it slept before.
+//! before it rests. If it finds one it removes its number, which it has if it slept before.
 //!
 //! | phase | the next step |
 //! |---|---|
@@ -53,9 +53,9 @@ pub enum ListChange {
     /// It went to sleep. The change carries an `Again`.
     Slept,
     /// It found a task, and its number is removed. It keeps the notice of the task, and the change
-    /// carries another one where the number was notified.
+    /// carries another one if the number was notified.
     Woke { notified: bool },
-    /// It was dropped, and its number is removed. The change carries a notice where the number was
+    /// It was dropped, and its number is removed. The change carries a notice if the number was
     /// notified.
     Dropped { notified: bool },
 }
@@ -65,9 +65,9 @@ pub enum ListChange {
 pub struct Ticker {
     /// Which of its steps comes next.
     pub(crate) phase: Phase,
-    /// The number under which it sleeps, or 0 where it is awake.
+    /// The number under which it sleeps, or 0 if it is awake.
     pub(crate) number: usize,
-    /// The number of its runner, where it is a run.
+    /// The number of its runner, if it is a run.
     pub(crate) runner: Option<u64>,
 }
 

@@ -28,7 +28,7 @@ impl FlagValue {
         FlagValue { value: true }
     }
 
-    /// Spends the notice: the flag is true afterwards, and the pick is there exactly where it was
+    /// Spends the notice: the flag is true afterwards, and the pick is there exactly if it was
     /// false.
     pub fn exchange(&mut self, notice: Notice) -> Option<Pick>
         ensures flag { self.new ≡ true }

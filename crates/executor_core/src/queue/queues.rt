@@ -120,9 +120,9 @@ impl<P, T, W> Queues<P, T, W> {
         self.slots.reserve(cells)
     }
 
-    // Makes the cell of a new task of this future, and queues the task at the global end. Where a
-    // growth was refused, the future comes back. Nobody queues a task without its notice, which comes
-    // from here.
+    // Makes the cell of a new task of this future, and queues the task at the global end. If a
+    // growth was refused, the future comes back. Nobody queues a task without its notice, which
+    // comes from here.
     #[inline(always)]
     pub(crate) fn insert(&mut self, number: u64, future: P) -> Result<(TaskId, Notice), P>
         requires { length self.old.state.lists.global + 1 < 2 ^ 64 }
@@ -378,7 +378,7 @@ impl<P, T, W> Queues<P, T, W> {
         Some(position)
     }
 
-    // The same, where nobody knows where it stood.
+    // The same, if nobody knows where it stood.
     fn look_for(&self, key: RunnerKey) -> Option<usize>
         ensures { result ≡ position_of key.number self.now.state.lists.locals }
     {

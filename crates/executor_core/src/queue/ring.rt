@@ -32,7 +32,7 @@ impl Ring {
     ///
     /// # Errors
     ///
-    /// `OutOfMemory` where its memory was refused.
+    /// `OutOfMemory` if its memory was refused.
     pub fn new(alloc: Global, capacity: usize) -> Result<Self, OutOfMemory>
         ensures { IfOk result (λ ring. ring ≡ record { ids = []; capacity = capacity }) }
     {
@@ -44,7 +44,7 @@ impl Ring {
     ///
     /// # Errors
     ///
-    /// The id comes back exactly where the ring is full, and nothing changes.
+    /// The id comes back exactly if the ring is full, and nothing changes.
     pub fn push(&mut self, id: TaskId) -> Result<(), TaskId>
         ensures variant { IsOk result ↔ (length self.old.ids < self.old.capacity) }
         ensures ok { OnOk result (self.new ≡ record self.old { ids = self.old.ids ++ id ∷ [] }) }
@@ -53,7 +53,7 @@ impl Ring {
         self.ids.try_push_back(id)
     }
 
-    /// Takes the id at the front, or none where the ring is empty.
+    /// Takes the id at the front, or none if the ring is empty.
     pub fn pop(&mut self) -> Option<TaskId>
         ensures front { result ≡ slice_get self.old.ids 0 }
         ensures rest { self.new ≡ record self.old { ids = drop 1 self.old.ids } }

@@ -24,9 +24,9 @@ pub enum Update<W> {
 
 /// What a sleeper that was removed leaves.
 pub struct Removed<W> {
-    /// The news that it was notified of, where it was.
+    /// The news that it was notified of, if it was.
     pub notice: Option<Notice>,
-    /// Its waker, where it was not notified.
+    /// Its waker, if it was not notified.
     pub waker: Option<W>,
 }
 
@@ -60,7 +60,7 @@ impl<W> Model for Sleepers<W> {
     ghost invariant = { λ a. IsSoundList a.notified a.unnotified.items a.free.items a.places (vec_capacity a.unnotified) (vec_capacity a.free) };
 }
 
-// Room for this many items in all. Where there is room, nothing is refused.
+// Room for this many items in all. If there is room, nothing is refused.
 fn reserve_places<T>(items: &mut Vec<T>, places: usize) -> Result<(), OutOfMemory>
     ensures items { items.new.items ≡ items.old.items }
     ensures capacity { vec_capacity items.old ≤ vec_capacity items.new }
@@ -89,7 +89,7 @@ fn place_of<W>(pairs: &[(usize, W)], id: usize) -> Option<usize>
     pairs.iter().position(|pair| pair.0 == id)
 }
 
-// Puts the waker in the place of the number's, which comes out; it comes back where there is none.
+// Puts the waker in the place of the number's, which comes out; it comes back if there is none.
 fn replace_waker<W>(pairs: &mut Vec<(usize, W)>, id: usize, waker: W) -> Update<W>
     ensures items { pairs.new.items ≡ set_value (λ k. k == id) pairs.old.items waker }
     ensures answer { MatchOption (lookup (λ k. k == id) pairs.old.items) (result ≡ Update.Unknown waker) (λ old. result ≡ Update.Asleep old) }
@@ -133,7 +133,7 @@ impl<W> Sleepers<W> {
     ///
     /// # Errors
     ///
-    /// `OutOfMemory` where a growth was refused. Nothing else changed.
+    /// `OutOfMemory` if a growth was refused. Nothing else changed.
     pub fn reserve(&mut self) -> Result<(), OutOfMemory>
         ensures ok { OnOk result (self.new ≡ after_reserve self.old) }
         ensures refused { OnErr result (self.new ≡ self.old) }
@@ -146,7 +146,7 @@ impl<W> Sleepers<W> {
         Ok(())
     }
 
-    /// Gives one place back, where one is free, and else changes nothing. It gives no memory back.
+    /// Gives one place back if one is free, and else changes nothing. It gives no memory back.
     pub fn release(&mut self)
         ensures list { self.new ≡ after_release self.old }
         ensures law { SleeperLaw self.new }
@@ -163,7 +163,7 @@ impl<W> Sleepers<W> {
     ///
     /// # Errors
     ///
-    /// The waker comes back exactly where no reserved place is free. Nothing changed.
+    /// The waker comes back exactly if no reserved place is free. Nothing changed.
     pub fn insert(&mut self, waker: W) -> Result<(usize, Change<Again>), W>
         requires { self.old.is_open ≡ false }
         ensures list { self.new ≡ after_insert self.old waker }
@@ -202,9 +202,9 @@ impl<W> Sleepers<W> {
 
     /// Takes the sleeper of this number out, and the number is free again.
     ///
-    /// It leaves its waker, or the notice where it was notified, or neither where the number is not
-    /// in use: then nothing changed. The list has to be closed, and is open afterwards in each
-    /// case. It takes no memory.
+    /// It leaves its waker, or the notice if it was notified, or neither if the number is not in
+    /// use: then nothing changed. The list has to be closed, and is open afterwards in each case.
+    /// It takes no memory.
     pub fn remove(&mut self, id: usize) -> Change<Removed<W>>
         requires { self.old.is_open ≡ false }
         ensures list { self.new ≡ after_remove self.old id }
@@ -235,8 +235,8 @@ impl<W> Sleepers<W> {
     }
 
     /// Takes the waker of the one who went to sleep last, to be woken; that number is notified from
-    /// now on. There is none where nobody sleeps, or where somebody is notified already: then
-    /// nothing changed. The list has to be closed, and stays so. It takes no memory.
+    /// now on. There is none if nobody sleeps, or if somebody is notified already: then nothing
+    /// changed. The list has to be closed, and stays so. It takes no memory.
     pub fn notify(&mut self, pick: Pick) -> Option<Wakeup<W>>
         requires { self.old.is_open ≡ false }
         ensures list { self.new ≡ after_notify self.old }
@@ -271,7 +271,7 @@ impl<W> Sleepers<W> {
         }
     }
 
-    /// The number that is notified, or 0 where none is.
+    /// The number that is notified, or 0 if none is.
     pub fn notified(&self) -> usize
         ensures { result ≡ notified_number self.now }
     {

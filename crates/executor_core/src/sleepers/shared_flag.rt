@@ -29,7 +29,7 @@ impl Flag {
         self.value.load(Ordering::SeqCst)
     }
 
-    /// Spends the notice: in one atomic step the flag is set, and the pick is there where it was
+    /// Spends the notice: in one atomic step the flag is set, and the pick is there if it was
     /// false. It stands for the first half of `State::notify` in the Rust crate.
     pub fn exchange(&self, notice: Notice) -> Option<Pick> {
         let Notice { unspent: () } = notice;

@@ -15,7 +15,7 @@ impl<P, T, W> Cells<P, T, W> {
     /// Wakes every task, by rising slot: an idle one is scheduled at the global end, and one whose
     /// future is out is marked. It stands for what `Executor::leak` does to each task.
     ///
-    /// The notice is there exactly where a task was idle. No two tasks have one slot, so this is one
+    /// The notice is there exactly if a task was idle. No two tasks have one slot, so this is one
     /// order. It takes no memory.
     pub fn wake_all(&mut self) -> Option<Notice>
         ensures table { self.new ≡ after_wake_all self.old }
@@ -31,8 +31,8 @@ impl<P, T, W> Cells<P, T, W> {
     /// stands in the runners' queues goes there, in order of registration. These queues stay, empty.
     /// From now on `drain_next` takes. It stands for what the drop of an `Executor` does to each task.
     ///
-    /// The notice is there exactly where the global queue grew. No two tasks have one slot, so this
-    /// is one order. It takes no memory.
+    /// The notice is there exactly if the global queue grew. No two tasks have one slot, so this is
+    /// one order. It takes no memory.
     pub fn close(&mut self) -> Option<Notice>
         ensures table { self.new ≡ after_close self.old }
         ensures notice { is_some result ≡ close_queues self.old }
@@ -52,8 +52,8 @@ impl<P, T, W> Cells<P, T, W> {
     }
 }
 
-// Cancels each task, or wakes it, by rising slot, and queues the idle ones at the global end. Says
-// whether one was idle.
+// Cancels or wakes each task, by rising slot: an idle one goes to the end of the global queue.
+// Says whether one was idle.
 fn change_all<P, T, W>(queues: &mut Queues<P, T, W>, cancels: bool) -> bool
     requires queue { IsQueue queues.old.slots (queues.old.state.lists.global ++ idle_ids 0 queues.old.slots) }
     requires counted { length (queues.old.state.lists.global ++ idle_ids 0 queues.old.slots) < 2 ^ 64 }
@@ -71,7 +71,7 @@ fn change_all<P, T, W>(queues: &mut Queues<P, T, W>, cancels: bool) -> bool
     idle
 }
 
-// Cancels the task in this slot, or wakes it. Gives its id where it was idle.
+// Cancels the task in this slot, or wakes it. Gives its id if it was idle.
 fn change_slot<P, T, W>(queues: &mut Queues<P, T, W>, slot: usize, cancels: bool) -> Option<TaskId>
     ensures slots { queues.new.slots ≡ slice_set queues.old.slots slot (changed_slot (change_by cancels) (slice_index_or queues.old.slots slot None)) }
     ensures state { queues.new.state ≡ queues.old.state }

@@ -18,7 +18,7 @@ pub trait Wake: Drop {
     ///
     /// # Errors
     ///
-    /// `OutOfMemory` where memory for it is refused.
+    /// `OutOfMemory` if memory for it is refused.
     fn copy(&self) -> Result<Self, OutOfMemory>;
 }
 

@@ -27,8 +27,8 @@ pub enum PollHandle<T, W> {
 impl<P, T, W> Cells<P, T, W> {
     /// Asks the handle of a task for its output. It takes no memory.
     ///
-    /// Where the future is not dropped yet, the waker is kept in the place of the one before.
-    /// A handle that is there no more answers `Cancelled`.
+    /// If the future is not dropped yet, the waker is kept in the place of the one before. A handle
+    /// that is there no more answers `Cancelled`.
     pub fn poll_handle(&mut self, id: TaskId, waker: W) -> PollHandle<T, W>
         ensures table { self.new ≡ after_poll_handle self.old id waker }
         ensures answer { result ≡ poll_answer waker (cell_at self.old id) }
@@ -51,8 +51,8 @@ impl<P, T, W> Cells<P, T, W> {
     /// idle one at the global end. It stands for `async_task::Task::cancel`, whose answer comes
     /// here from later polls of the handle.
     ///
-    /// The notice is there exactly where the task was idle. A task whose future was dropped stays
-    /// as it was, and so does one whose handle is there no more. It takes no memory.
+    /// The notice is there exactly if the task was idle. A task whose future was dropped stays as
+    /// it was, and so does one whose handle is there no more. It takes no memory.
     pub fn cancel(&mut self, id: TaskId) -> Option<Notice>
         ensures table { self.new ≡ after_cancel self.old id }
         ensures notice { is_some result ≡ cancel_queues self.old id }
@@ -70,8 +70,8 @@ impl<P, T, W> Cells<P, T, W> {
     /// `async_task::Task::detach`.
     ///
     /// The output of a finished task comes out, whose cell is removed, and so does the waker that a
-    /// poll of the handle left. Where the handle is there no more, nothing changes and nothing
-    /// comes out. It takes no memory.
+    /// poll of the handle left. If the handle is there no more, nothing changes and nothing comes
+    /// out. It takes no memory.
     pub fn detach(&mut self, id: TaskId) -> (Option<T>, Option<W>)
         ensures table { self.new ≡ after_detach self.old id }
         ensures answer { result ≡ detach_answer (cell_at self.old id) }

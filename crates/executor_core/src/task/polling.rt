@@ -51,7 +51,7 @@ pub enum Ran<P, T> {
     Dropped(Held),
 }
 
-/// Polls the future of a taken task once, or, where the task is cancelled, drops it.
+/// Polls the future of a taken task once, or drops it if the task is cancelled.
 ///
 /// The `Held` that comes back is the taken task's own: only from here does anyone get it.
 #[inline(always)]

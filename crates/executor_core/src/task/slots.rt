@@ -1,7 +1,7 @@
 //! The slots of the table, and the global queue, which is linked through them.
 //!
 //! A slot has a cell under its task's number, and a link: the slot of the task behind it in the
-//! global queue. A number stands in one queue at most, so one link is enough, and a task is queued
+//! global queue. No number stands in two queues, so one link is enough, and a task is queued
 //! without any memory. The slots of the first and of the last task are kept beside them, and how
 //! many tasks are queued. The link of a task that is not queued is cleared.
 ghost use Rattle.std.specs.Prelude.{◌≡◌, ◌+◌, ◌<◌, ◌≤◌, ◌^◌, ◌∷◌, ◌++◌, [], None, Some, take, drop, length, map, option_copied, option_map, slice_get, slice_index_or, slice_set, IfOk, IfErr, OnErr};
@@ -114,7 +114,7 @@ impl<P, T, W> Slots<P, T, W> {
         self.slots.reserve(cells)
     }
 
-    // Makes the cell of a new task of this future, and queues it. Where a growth was refused, the
+    // Makes the cell of a new task of this future, and queues it. If a growth was refused, the
     // future comes back.
     #[inline(always)]
     pub(crate) fn insert(&mut self, number: u64, future: P) -> Result<TaskId, P>
@@ -168,7 +168,7 @@ impl<P, T, W> Slots<P, T, W> {
         self.len += 1;
     }
 
-    // Takes the first task, or none where none is queued.
+    // Takes the first task, or none if none is queued.
     pub(crate) fn pop(&mut self) -> Option<TaskId>
         ensures front { result ≡ slice_get self.old.queue 0 }
         ensures rest { self.new ≡ with_queue (drop 1 self.old.queue) self.old }

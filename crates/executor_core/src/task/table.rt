@@ -19,13 +19,13 @@ use std::marker::Model;
 pub struct EndReady<T, W> {
     /// Whoever polled the handle in vain, to be woken.
     pub awaiter: Option<Wakeup<W>>,
-    /// The output, where no handle is to give it.
+    /// The output, if no handle is to give it.
     pub unwanted: Option<T>,
 }
 
 /// What becomes of a future whose poll ended pending.
 pub enum EndPending<P> {
-    /// It is in its cell again. The notice is there where the task was woken during the poll.
+    /// It is in its cell again. The notice is there if the task was woken during the poll.
     Back(Option<Notice>),
     /// It is to be dropped: the task was cancelled, or it is none of these cells'.
     Drop(P, Held),
@@ -34,7 +34,7 @@ pub enum EndPending<P> {
 /// The cells of the tasks by number, and the global queue of the scheduled ones.
 ///
 /// A contract sees it as a `Table`: a finite map from task numbers to cells, and lists of numbers.
-/// Its law, which every call keeps: a number stands once in the queues where its cell is scheduled,
+/// Its law, which every call keeps: a number stands once in the queues if its cell is scheduled,
 /// and else in none.
 #[derive(Drop)]
 pub struct Cells<P, T, W> {
@@ -89,7 +89,7 @@ impl<P, T, W> Cells<P, T, W> {
     ///
     /// # Errors
     ///
-    /// `OutOfMemory` where a growth was refused. The spawns then ask for their room.
+    /// `OutOfMemory` if a growth was refused. The spawns then ask for their room.
     pub fn reserve(&mut self, tasks: usize) -> Result<(), OutOfMemory>
         ensures { self.new ≡ self.old }
     {
@@ -101,8 +101,8 @@ impl<P, T, W> Cells<P, T, W> {
     ///
     /// # Errors
     ///
-    /// `Exhausted` exactly where every number was given, and `OutOfMemory` where a growth was
-    /// refused. The future comes back, and nothing else changed.
+    /// `Exhausted` exactly if every number was given, and `OutOfMemory` if a growth was refused.
+    /// The future comes back, and nothing else changed.
     #[inline(always)]
     pub fn spawn(&mut self, future: P) -> Result<(TaskId, Notice), SpawnError<P>>
         ensures ok { IfOk result (λ r. self.new ≡ after_spawn self.old r.0.slot future) }
@@ -126,7 +126,7 @@ impl<P, T, W> Cells<P, T, W> {
 
     /// Schedules an idle task at the global end, and marks one whose future is out.
     ///
-    /// The notice is there exactly where the task was idle. It takes no memory.
+    /// The notice is there exactly if the task was idle. It takes no memory.
     pub fn wake(&mut self, id: TaskId) -> Option<Notice>
         ensures table { self.new ≡ after_wake self.old id }
         ensures notice { is_some result ≡ wakes self.old id }
@@ -160,7 +160,7 @@ impl<P, T, W> Cells<P, T, W> {
 
     /// The end of a poll that gave this output, whose future was dropped.
     ///
-    /// The output waits for the handle, or comes back where no handle will give it. It takes no
+    /// The output waits for the handle, or comes back if no handle will give it. It takes no
     /// memory.
     #[inline(always)]
     pub fn end_ready(&mut self, held: Held, output: T) -> EndReady<T, W>
@@ -283,7 +283,7 @@ impl<P, T, W> Cells<P, T, W> {
     }
 
     /// The law of the queues, which every call keeps: a number stands once in all of them together
-    /// where its cell is scheduled, and else in none. It does nothing.
+    /// if its cell is scheduled, and else in none. It does nothing.
     pub fn law_holds(&self)
         ensures { LockLaw self.now }
     {

@@ -4,7 +4,7 @@ ghost use Rattle.std.specs.Prelude.{◌≡◌, false, is_some};
 use crate::task::future::Wake;
 use crate::task::id::TaskId;
 
-/// A task was queued, or such news is passed on: the flag is still to be exchanged.
+/// A task was queued, or somebody passes such news on: an exchange of the flag has still to follow.
 pub struct Notice {
     pub(crate) unspent: (),
 }
@@ -34,12 +34,12 @@ impl Notice {
     }
 }
 
-/// An exchange of the flag won: the sleepers are still to be notified.
+/// An exchange of the flag won: a notification of the sleepers has still to follow.
 pub struct Pick {
     pub(crate) unspent: (),
 }
 
-/// The list of sleepers was changed by one who goes to sleep: a search is still to be made.
+/// One who goes to sleep changed the list of sleepers: a search has still to follow.
 pub struct Again {
     pub(crate) unspent: (),
 }
@@ -51,7 +51,7 @@ impl Again {
     }
 }
 
-/// A list of sleepers was changed: the flag is still to be stored.
+/// A list of sleepers was changed: a store of the flag has still to follow.
 pub struct Change<X> {
     pub(crate) notified: bool,
     pub(crate) carried: X,

@@ -11,7 +11,7 @@ use crate::interleave::reply::{Reply, has_awaiter, reply_of_pick, reply_of_sleep
 use crate::sleepers::Sleepers;
 use crate::task::{Notice, Pick};
 
-// Counts one more, where this holds.
+// Counts one more if this holds.
 pub(crate) fn count_if(count: &mut u32, holds: bool)
     requires { count.old < u32.MAX }
     ensures { count.new ≡ cond holds (count.old + 1) count.old }

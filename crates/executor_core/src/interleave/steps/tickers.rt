@@ -58,7 +58,7 @@ fn search_of<P, T>(
     }
 }
 
-// Gives the runner's place back where the ticker is a new run.
+// Gives the runner's place back if the ticker is a new run.
 fn release_place<P, T>(core: &mut Core<P, T, ()>, ticker: Ticker, is_new: bool)
     requires { is_new ≡ is_new_run core.old.cells.locals ticker }
     ensures { core.new ≡ record core.old { cells = record core.old.cells { free_places = cond is_new (core.old.cells.free_places - 1) core.old.cells.free_places } } }

@@ -1,5 +1,5 @@
 use Rattle.std.proofs.Common.{◌≡◌, ◌≢◌, subst, sym, ◌∙◌}
-use Rattle.executor_core.proofs.World.Steps.{step_full, step_not_now, step_done}
+use Rattle.executor_core.proofs.World.Steps.{step_full, step_not_now}
 use Rattle.executor_core.proofs.interleave.World.take_step.Goals as goal
 
 pub returns-then-self : goal.returns-then-self
