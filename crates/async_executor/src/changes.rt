@@ -94,7 +94,9 @@ pub(crate) fn end_then_search<'a, H: Home>(
 {
     let mut store = store!(home);
     let cells = cells!(state);
-    store.get().end_then_search(cells, id, ran, out, search, words)
+    store
+        .get()
+        .end_then_search(cells, id, ran, out, search, words)
 }
 
 // Whether no queue has a task, so that a search is in vain.

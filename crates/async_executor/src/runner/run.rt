@@ -190,11 +190,7 @@ impl<'x, 'y, H: Home, G: Drop> Driver<'x, 'y, H, G> {
 
     // Ends the task and searches for the next one.
     #[inline(always)]
-    fn end_then_search(
-        &mut self,
-        id: TaskId,
-        ran: Ran<(), OutputIn<H>>,
-    ) -> Option<NextTask>
+    fn end_then_search(&mut self, id: TaskId, ran: Ran<(), OutputIn<H>>) -> Option<NextTask>
         requires { IsHeldRight ran }
     {
         let own = &mut *self.own;
