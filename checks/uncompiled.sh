@@ -6,8 +6,8 @@
 #
 # A check reports the errors of all functions together, up to some number. So the marked lines of a
 # file, each a function, are tried together, and so are edits that change the bodies of different
-# functions. What is judged is taken away, and the rest is tried again. An edit that changes more
-# than a body is tried alone. `--only=` proves nothing: these errors come before any proof.
+# functions and name one error. What is judged is taken away, and the rest is tried again. An edit that
+# changes more than a body is tried alone. `--only=` proves nothing: these errors come before any proof.
 # Usage: checks/uncompiled.sh, anywhere. RT names the command rt. Its last line counts the files.
 # Runs beside the gate.
 set -eu
