@@ -4,8 +4,9 @@
 #
 # Both are run under the name sha256sum, since a message begins with the program's name. They get 2,000
 # small files, names of all kinds, files that cannot be read, standard input, and a sparse file of 1 GB,
-# on 1, 2 and 4 threads. Then digests gets what is its own: bad arguments, an output that takes no more,
-# and requests for memory that are refused; and it is measured how much memory it takes at most.
+# on 1, 2 and 4 threads. Then digests gets what is its own: a long file that a short one need not wait
+# for, bad arguments, an output that takes no more, and requests for memory that are refused; and it is
+# measured how much memory it takes at most.
 #
 # The program is the one that the gate built, or is built by `rt run` if a source is newer; PROGRAM names
 # another one. The library of fail_nth.c refuses the Nth request for memory, for N = 1, 2, .. until none is
@@ -119,6 +120,34 @@ input=$work/text
 
 truncate -s 1G large
 compare "a sparse file of 1 GB before small ones" large small/fileaaa?
+
+# Whether one of the two takes all that comes through the pipe short while the one who writes the pipe
+# long waits for that, on one thread. The seconds are how long it may take.
+takes_turns() {
+    whose=$1 seconds=$2
+    shift 2
+    mkfifo long short taken
+    { head -c 64M /dev/zero; cat taken; } > long &
+    run "$whose" "$@" long short &
+    timeout "$seconds" sh -c 'head -c 4M /dev/zero > short' && turns=yes || turns=no
+    : > taken
+    # One that has not come to it yet waits for somebody who writes it.
+    [ "$turns" = yes ] || timeout 10 sh -c ': > short' || :
+    wait
+    rm long short taken
+    [ "$turns" = yes ] && [ "$(cat "$work/$whose.status")" = 0 ]
+}
+input=$work/text
+if takes_turns ours 60 -j 1 --; then
+    pass "a short file is digested while a long one has no end, -j 1"
+else
+    fail "a short file waits for the end of a long one, -j 1"
+fi
+if ! takes_turns theirs 1 --; then
+    pass "sha256sum, which digests one file after another, is refused by that"
+else
+    fail "sha256sum, which digests one file after another, is not refused by that"
+fi
 
 # Runs ours alone, and compares what came with this status, this standard error and this output.
 expect() {

@@ -4,7 +4,7 @@
 use async_executor::Executor;
 use async_utilities::{Ready, run_until};
 use std::alloc::Global;
-use std::io;
+use std::io::{self, ErrorKind};
 use std::sync::Wait;
 
 /// Spawns a task and awaits it. This thread polls its handle, and runs tasks between the polls.
@@ -15,8 +15,6 @@ fn add<R: Wait + Clone + Drop + Send + Sync>(rt: &R, alloc: Global) -> Option<u6
 }
 
 fn main(rt: HostRuntime) -> io::Result<()> {
-    match add(&rt, rt.alloc()) {
-        Some(sum) => println!(rt; "1 + 2 is {sum}"),
-        None => println!(rt; "no memory"),
-    }
+    let sum = add(&rt, rt.alloc()).ok_or(ErrorKind::OutOfMemory)?;
+    println!(rt; "1 + 2 is {sum}")
 }
