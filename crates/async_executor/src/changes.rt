@@ -86,7 +86,7 @@ pub(crate) fn end_then_search<'a, H: Home>(
     id: TaskId,
     ran: Ran<(), OutputIn<H>>,
     out: &mut OutIn<H>,
-    search: Search,
+    search: &Search,
     words: &mut Words,
 ) -> EndThenSearch<H::Waker, OutputIn<H>>
     requires { IsHeldRight ran }
@@ -225,7 +225,7 @@ impl<F: Drop, W: Drop, R: Drop, T: Drop> Store<F, Arc<ExecutorState<W, R>>, T> {
         id: TaskId,
         ran: Ran<(), T>,
         out: &mut Out<F, W, R>,
-        search: Search,
+        search: &Search,
         words: &mut Words,
     ) -> EndThenSearch<W, T>
         requires { IsHeldRight ran }

@@ -144,14 +144,14 @@ impl Search {
     /// Searches for a task, with a word that says where the walk over the other queues starts.
     #[inline(always)]
     pub(crate) fn make<W>(
-        self,
+        &self,
         cells: &mut Cells<(), (), W>,
         word: u64,
         again: Option<Again>,
     ) -> Option<NextTask>
-        ensures table { cells.new ≡ after_search cells.old self.key.number word }
-        ensures none { IfNone result ((search_in cells.old self.key.number word).0 ≡ None) }
-        ensures some { IfSome result (λ next. TakesFound cells.old self.key.number word next.taken) }
+        ensures table { cells.new ≡ after_search cells.old self.now.key.number word }
+        ensures none { IfNone result ((search_in cells.old self.now.key.number word).0 ≡ None) }
+        ensures some { IfSome result (λ next. TakesFound cells.old self.now.key.number word next.taken) }
     {
         let Some((taken, notice)) = cells.search(self.key, word, again) else {
             return None;

@@ -140,9 +140,7 @@ impl<'x, 'y, H: Home, G: Drop> Driver<'x, 'y, H, G> {
     fn search(&mut self, again: Option<Again>) -> Option<NextTask> {
         let own = &mut *self.own;
         let word = own.words.next();
-        let mut cells = cells!(self.state);
-        let found = self.search.make(&mut cells, word, again);
-        drop(cells);
+        let found = self.search.make(&mut *cells!(self.state), word, again);
         if let Some(next) = &found {
             // Nobody else takes the future of a task that was taken, and no other one is out.
             let mut store = store!(self.executor.home());
@@ -195,7 +193,7 @@ impl<'x, 'y, H: Home, G: Drop> Driver<'x, 'y, H, G> {
     {
         let own = &mut *self.own;
         let (home, out, words) = (self.executor.home(), &mut self.out, &mut own.words);
-        match changes::end_then_search(home, self.state, id, ran, out, self.search, words) {
+        match changes::end_then_search(home, self.state, id, ran, out, &self.search, words) {
             EndThenSearch::Searched(None, found) => found,
             EndThenSearch::Searched(Some(notice), found) => {
                 announce!(self.state, notice);
