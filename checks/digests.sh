@@ -121,8 +121,8 @@ input=$work/text
 truncate -s 1G large
 compare "a sparse file of 1 GB before small ones" large small/fileaaa?
 
-# Whether one of the two takes all that comes through the pipe short while the one who writes the pipe
-# long waits for that, on one thread. The seconds are how long it may take.
+# Whether one of the two reads the pipe short to its end while the pipe long has none yet: who writes long
+# waits for that. The seconds are the most that it may take.
 takes_turns() {
     whose=$1 seconds=$2
     shift 2
