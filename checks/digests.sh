@@ -127,11 +127,11 @@ takes_turns() {
     whose=$1 seconds=$2
     shift 2
     mkfifo long short taken
-    { head -c 64M /dev/zero; cat taken; } > long &
+    timeout 100 sh -c '{ head -c 64M /dev/zero; cat taken; } > long' &
     run "$whose" "$@" long short &
     timeout "$seconds" sh -c 'head -c 4M /dev/zero > short' && turns=yes || turns=no
-    : > taken
-    # One that has not come to it yet waits for somebody who writes it.
+    timeout 100 sh -c ': > taken' || :
+    # One that has not come to short yet waits for somebody who writes it.
     [ "$turns" = yes ] || timeout 10 sh -c ': > short' || :
     wait
     rm long short taken
