@@ -9,12 +9,12 @@
 # a folder it names the program. What was proved there is kept.
 # Runs beside the gate.
 set -eu
-. "$(dirname "$0")/edits"
+. "$(dirname "$0")/lib/edits"
 
 # Copies the repository, with the program as a crate.
 lay_out() {
     copy_sources
-    add_crate bench ' may_wait=80: executor_core async_executor priority_executor'
+    add_crate bench ' may_wait=90: executor_core async_executor priority_executor sharded_executor async_utilities'
     cp "$top/bench/stdout" "$copy/crates/bench/stdout"
 }
 
@@ -31,7 +31,7 @@ if [ $# = 1 ]; then
     exit
 fi
 
-. "$top/checks/builds"
+. "$top/checks/lib/builds"
 lay_out
 seconds=300
 try bench src/main.rt

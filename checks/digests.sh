@@ -10,27 +10,14 @@
 #
 # The program is the one that the gate built, or is built by `rt run` if a source is newer; PROGRAM names
 # another one. The library of fail_nth.c refuses the Nth request for memory, for N = 1, 2, .. until none is
-# refused.
+# refused. The edits of checks/wrong_bodies with the line 'program: digests' are built together with the
+# right bodies, unproved, and each is seen in what the program reads and in what it says of its progress.
 # Usage: checks/digests.sh, anywhere. RT names the command rt. Its last line counts the comparisons.
 set -eu
-rt=${RT:-rt}
-top=$(cd "$(dirname "$0")/.." && pwd)
-work=$(mktemp -d)
-trap 'rm -rf "$work"' EXIT
-trap 'exit 1' INT TERM
-passed=0
-failed=0
+. "$(dirname "$0")/lib/edits"
+work=$copy/work
+mkdir "$work"
 export LC_ALL=C.UTF-8
-
-pass() {
-    echo "$1"
-    passed=$((passed + 1))
-}
-
-fail() {
-    echo "$1"
-    failed=$((failed + 1))
-}
 
 program=${PROGRAM:-$top/crates/digests/out/digests}
 if [ -z "${PROGRAM:-}" ] && { [ ! -x "$program" ] ||
@@ -149,6 +136,29 @@ else
     fail "sha256sum, which digests one file after another, is not refused by that"
 fi
 
+# Whether a program that reads these four pipes reads the last one while the others are open and have
+# nothing. The first word is for how many seconds 4 MiB may wait to be read: a pipe has room for less.
+reads_last() {
+    seconds=$1
+    shift
+    mkfifo "$@"
+    timeout 300 sh -c 'exec 4> "$2" 5> "$3" 6> "$4" 7> "$5" && timeout "$1" head -c 4M /dev/zero >&7' \
+        sh "$seconds" "$@" && last=yes || last=no
+    rm "$@"
+    [ "$last" = yes ]
+}
+for threads in 3 4; do
+    [ "$threads" = 3 ] && seconds=1 || seconds=60
+    run ours -j "$threads" -- a b c d &
+    reads_last "$seconds" a b c d && read=yes || read=no
+    wait
+    case "$threads $read" in
+        '3 no') pass "three threads read three files at a time" ;;
+        '4 yes') pass "four threads read four files at a time" ;;
+        *) fail "with $threads threads the fourth file is read: $read" ;;
+    esac
+done
+
 # Runs ours alone, and compares what came with this status, this standard error and this output.
 expect() {
     what=$1 status=$2 err=$3 out=$4
@@ -183,6 +193,13 @@ run ours one -j4
 expect 'an option behind a file' 0 '' "$line"
 run ours --progress one
 expect 'progress' 0 '1 of 1 files, 0 MiB' "$line"
+head -c 3M /dev/zero > three
+run ours --progress one three
+if [ "$(tail -n 1 "$work/ours.err")" = '2 of 2 files, 3 MiB' ]; then
+    pass 'progress counts what is read'
+else
+    fail "progress of 3 MiB: $(tail -n 1 "$work/ours.err")"
+fi
 run ours --help absent
 expect 'help, and nothing else' 0 '' 'usage: digests [-j N] [--progress] [--] [FILE..]
 Prints the SHA-256 digest of each FILE, in their order. - is standard input, and so is no FILE.
@@ -211,7 +228,7 @@ expect 'a pipe that nobody reads' 3 'sha256sum: write error: Broken pipe' ''
 
 # Each request for memory is refused in turn. What was written before is right.
 "$(dirname "$("$rt" doc)")/toolchain/bin/clang" --target=x86_64-unknown-linux-gnu -shared -fPIC \
-    -O1 -nostdlib -fuse-ld=lld -o "$work/fail_nth.so" "$top/checks/fail_nth.c"
+    -O1 -nostdlib -fuse-ld=lld -o "$work/fail_nth.so" "$top/checks/lib/fail_nth.c"
 sha256sum one empty 'a b' > "$work/whole"
 for n in $(seq 1 999); do
     timeout 60 env PATH="$work/ours:$PATH" LD_PRELOAD="$work/fail_nth.so" FAIL_ALLOC="$n" \
@@ -252,5 +269,44 @@ for files in one 'small/*' large 'large small/* large'; do
     fi
 done
 
-echo "$passed passed, $failed failed"
-[ "$failed" = 0 ] && [ "$passed" != 0 ]
+# The program with its wrong bodies: which of them is chosen stands on its standard input, as a number, and
+# 0 is none. Each is run once, on four threads, and reads four pipes.
+. "$top/checks/lib/builds"
+try_bodies() {
+    copy_sources
+    python3 -B "$top/checks/lib/choose.py" program "$copy" "$@"
+    mkdir "$copy/cases"
+    number=0
+    for edit in none "$@"; do
+        echo "$number 0" > "$copy/cases/$(basename "$edit" .edit)"
+        number=$((number + 1))
+    done
+    for name in $(ls "$copy/cases"); do
+        [ "$name" = none ] && seconds=60 || seconds=20
+        reads_last "$seconds" "$work/1" "$work/2" "$work/3" "$work/4" && read=yes || read=no
+        echo "$name: $read"
+    done > "$work/read" &
+    try digests src/main.rt --cases "$copy/cases" --arg -j --arg 4 --arg --progress --arg -- \
+        --arg "$work/1" --arg "$work/2" --arg "$work/3" --arg "$work/4"
+    wait
+}
+
+# Whether the program of this case reads the fourth pipe beside the others, and the last line of its progress.
+seen() {
+    sed -n "s/^$1: //p" "$work/read"
+    awk -v head="== $1" '/^== / { is_it = $0 == head; next } is_it' "$copy/log" |
+        grep -o '[0-9]* of 4 files, [0-9]* MiB' | tail -n 1
+}
+wanted=$(printf 'yes\n4 of 4 files, 4 MiB')
+set -- $(edits_of wrong_bodies | xargs grep -lx 'program: digests')
+try_bodies "$@"
+[ "$(seen none)" = "$wanted" ] || fail "without an edit: $(seen none)" "$copy/log"
+for edit in "$@"; do
+    edit=$(basename "$edit" .edit)
+    if [ "$(seen "$edit")" = "$wanted" ]; then
+        fail "$edit: not refused"
+    else
+        pass "$edit: refused, as it must be"
+    fi
+done
+count

@@ -5,18 +5,18 @@
 #
 # A guard is a file of checks/guards with the lines 'crate: NAME', 'function: PATH' as a check
 # prints it below the crate, 'file: PATH', 'old: TEXT' and 'new: TEXT'. It changes the body of that
-# function and nothing else. checks/guards.py lays out those of one check, a round.
+# function and nothing else. checks/lib/guards.py lays out those of one check, a round.
 # Usage: checks/guards.sh [CRATE [FUNCTION..]], anywhere: all guards, or those of a crate, or those
 # of some functions of it. RT names the command rt. Its last line counts the guards.
 # Runs beside the gate.
 set -eu
-. "$(dirname "$0")/edits"
-. "$top/checks/built"
+. "$(dirname "$0")/lib/edits"
+. "$top/checks/lib/built"
 checks=$top/checks
 
 # The guards that are asked for.
 asked() {
-    for guard in "$checks"/guards/*.edit; do
+    for guard in $(edits_of guards); do
         [ $# = 0 ] || [ "$(field "$guard" crate)" = "$1" ] || continue
         [ $# -le 1 ] || (shift && printf '%s\n' "$@") |
             grep -qFx "$(field "$guard" function)" || continue
@@ -31,7 +31,7 @@ try_round() {
     rm -rf "$room/crates/$1"
     mkdir -p "$room/crates/$1"
     (cd "$top/crates/$1" && tar cf - --exclude=./out .) | (cd "$room/crates/$1" && tar xf -)
-    if ! xargs python3 -B "$checks/guards.py" "$room" "$1" < "$room/left" > "$room/round"; then
+    if ! xargs python3 -B "$checks/lib/guards.py" "$room" "$1" < "$room/left" > "$room/round"; then
         fail "guards of $1 that cannot be tried, so that none of it is:" "$room/round"
         : > "$room/left"
         return
@@ -39,12 +39,16 @@ try_round() {
     (cd "$room/crates/$1" &&
         awk '{ print "--only"; print $1 }' "$room/round" | cat "$room/words" - |
         xargs -d '\n' "$kit/bin/rattle" check) > "$room/log" 2>&1 || :
-    (cd "$room/crates/$1" && awk -v crate="$1" -f "$checks/refused.awk" "$room/log") > "$room/found"
+    (cd "$room/crates/$1" && awk -v crate="$1" -f "$checks/lib/refused.awk" "$room/log") > "$room/found"
+    # Who waits for the proof of a function that another guard of the round changes is tried again.
+    awk '$1 == "waiting" { sub(/:$/, "", $2); print $2 }' "$room/found" > "$room/waiting"
+    awk 'NR == FNR { waits[$1]; next } !($1 in waits)' "$room/waiting" "$room/round" > "$room/judged"
+    [ -s "$room/judged" ] || cp "$room/round" "$room/judged"
     while read -r function guard; do
         judge "$function" "$(basename "$guard")"
-    done < "$room/round"
+    done < "$room/judged"
     grep -qx read "$room/found" || cat "$room/log"
-    cut -d' ' -f2 "$room/round" | grep -vxF -f - "$room/left" > "$room/rest" || :
+    cut -d' ' -f2 "$room/judged" | grep -vxF -f - "$room/left" > "$room/rest" || :
     mv "$room/rest" "$room/left"
 }
 

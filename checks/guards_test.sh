@@ -4,9 +4,10 @@
 # Usage: checks/guards_test.sh, anywhere. RT names the command rt. Its last line counts the cases.
 # Runs beside the gate.
 set -eu
-. "$(dirname "$0")/edits"
-mkdir -p "$copy/checks/guards" "$copy/crates/sums/src" "$copy/crates/sums/proofs/thrice"
-(cd "$top/checks" && cp built edits edits.py guards.py guards.sh refused.awk "$copy/checks")
+. "$(dirname "$0")/lib/edits"
+mkdir -p "$copy/checks/guards" "$copy/checks/lib" "$copy/crates/sums/src" "$copy/crates/sums/proofs/thrice"
+(cd "$top/checks" && cp guards.sh "$copy/checks" &&
+    cd lib && cp built edits edits.py guards.py refused.awk "$copy/checks/lib")
 echo 'sums:' > "$copy/crates.txt"
 cat > "$copy/crates/sums/src/lib.rt" <<'END'
 //! Sums of small numbers.
@@ -100,7 +101,7 @@ guard by_an_answer_of_nothing thrice 'double + x\n' 'x + double\n'
 guard of_a_name thrice 'double = twice(x);\n    double + x' 'other = twice(x);\n    other + 1'
 try_guards sums four thrice
 says 'a body that is right' 'of_nothing.edit: four is not refused by a goal of its own:$'
-says 'a second body that is right' 'by_an_answer_of_nothing.edit: thrice_2 is not refused by a goal of its own:$'
+says 'a second body that is right, which waited for the first' 'by_an_answer_of_nothing.edit: thrice is not refused by a goal of its own:$'
 says 'an answer that names what is there no more' 'of_a_name.edit: thrice_3 is not refused by a goal of its own:$'
 ends 'wrong guards fail' '1 passed, 3 failed' 1
 

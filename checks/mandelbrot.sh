@@ -78,7 +78,7 @@ fi
 
 for size in '64 48' '31 17' '1 1' '5 300' '300 5'; do
     set -- $size
-    python3 -B "$top/checks/mandelbrot.py" "$@" > "$work/wanted"
+    python3 -B "$top/checks/lib/mandelbrot.py" "$@" > "$work/wanted"
     for threads in 1 2 4; do
         compare "$1 by $2 on $threads threads as python computes it" is_picture "$@" -j "$threads"
     done
@@ -109,7 +109,7 @@ compare "a closed standard output" ends_shut 64 48
 compare "a pipe that nobody reads" ends_unread 1000 1000
 
 "$(dirname "$("$rt" doc)")/toolchain/bin/clang" --target=x86_64-unknown-linux-gnu -shared -fPIC \
-    -O1 -nostdlib -fuse-ld=lld -o "$work/fail_nth.so" "$top/checks/fail_nth.c"
+    -O1 -nostdlib -fuse-ld=lld -o "$work/fail_nth.so" "$top/checks/lib/fail_nth.c"
 for threads in 1 2; do
     "$program" 8 20 > "$work/wanted"
     n=1

@@ -4,11 +4,11 @@
 # the worked interleaving of exsim, examples and their lines, links, and figures.
 # Usage: checks/readme.sh, anywhere. RT names the command rt. Its last line counts the comparisons.
 set -u
-. "$(dirname "$0")/edits"
+. "$(dirname "$0")/lib/edits"
 cd "$top" || exit 1
 calling=crates/async_executor/CALLING.md
 utilities=crates/async_utilities/CALLING.md
-sources=$(find crates uses -path '*/out' -prune -o \( -name '*.rt' -o -name '*.antt' -o -name '*.rt.txt' \) -print)
+sources=$(find crates uses -path '*/out' -prune -o \( -name '*.rt' -o -name '*.antt' -o -name '*.rs' \) -print)
 
 printf '%s\n' "$sources" | xargs cat > "$copy/sources"
 
@@ -46,12 +46,12 @@ run_exsim() {
 is_there() {
     case $1 in
         *[!A-Za-z0-9_:./]* | F | R | S | W | self | break | unsafe | specs/ | proofs/ | src/ | out/) return 0 ;;
-        uses::*) grep -qE "fn ${1#uses::}\b" uses/src/*.rt.txt ;;
+        uses::*) grep -qE "fn ${1#uses::}\b" uses/src/*.rs ;;
         */* | *.md | *.txt | *.svg) [ -e "$1" ] || [ -e "docs/$1" ] || [ -e "crates/executor_core/src/$1.rt" ] ||
             [ -e "crates/async_executor/src/$1.rt" ] || [ -e "crates/async_utilities/src/$1.rt" ] ;;
         [A-Z]*::[a-z]*) stands "fn ${1#*::}\b" ;;
         [A-Z]*) stands "(struct|enum|trait|type|const) $1\b" || stands "^ +$1(\(|,| \{|$)" ;;
-        *) [ -d "$1" ] || stands "(fn|mod|ensures|pub) $1\b" || stands "codes \"$1\"" || grep -qw "$1" crates.txt ||
+        *) [ -d "$1" ] || stands "(fn|mod|ensures|pub|ghost) $1\b" || stands "codes \"$1\"" || grep -qw "$1" crates.txt ||
             grep -q "^$1 " bench/stdout ;;
     esac
 }
@@ -84,11 +84,11 @@ else
 fi
 
 block "$calling" rust "## A caller" > "$copy/said"
-cp uses/src/calling.rt.txt "$copy/wanted"
+cp uses/src/calling.rs "$copy/wanted"
 same "CALLING.md, the caller and the folder uses"
 
 block "$utilities" rust "## A caller" > "$copy/said"
-cp uses/src/timing.rt.txt "$copy/wanted"
+cp uses/src/timing.rs "$copy/wanted"
 same "CALLING.md of async_utilities, the caller and the folder uses"
 
 # A clause is quoted with S for what self points to.
@@ -112,7 +112,7 @@ for page in README.md docs/PROVED.md docs/ARCHITECTURE.md docs/MEASURED.md "$cal
     fi
 done
 
-for crate in executor_core async_executor priority_executor async_utilities simulation digests mandelbrot; do
+for crate in executor_core async_executor priority_executor sharded_executor async_utilities simulation digests mandelbrot; do
     (cd crates/$crate/src && find . -name '*.rt') | sed 's/^\.\///; s/\.rt$//' |
         grep -vxE 'lib|main|tests(/.*)?' | sort > "$copy/wanted"
     quoted docs/ARCHITECTURE.md | grep -Fxf "$copy/wanted" | sort > "$copy/said"
@@ -144,8 +144,9 @@ fi
 
 # The examples in comments: each has one to three lines, which stand in a file of the folder uses
 # that defines a caller which the line 'Example: ' above them names.
-for folder in uses crates/executor_core crates/async_executor crates/priority_executor crates/async_utilities; do
-    printf '%s\n' "$sources" | grep "^$folder/src/.*\.rt"
+for folder in uses crates/executor_core crates/async_executor crates/priority_executor crates/sharded_executor \
+    crates/async_utilities; do
+    printf '%s\n' "$sources" | grep "^$folder/src/"
 done | xargs awk '
     function stands(line, word, file) {
         for (word = 2; word <= words; word += 2)

@@ -4,7 +4,7 @@
 # The program of the folder refusals prints which of its calls met the refusal: one call each time, no
 # answer may be wrong, and in the end each call has to have met one. It is built once, from a build that
 # checks each index, each sum and each access to memory as it runs, and is told on its standard input
-# which request fails (checks/fail_nth.c). Besides it orders itself which requests fail, and says for how
+# which request fails (checks/lib/fail_nth.c). Besides it orders itself which requests fail, and says for how
 # many ticks and runs there is room before and after runs that were refused, and how many requests 1,000
 # spawns make. Over each edit of checks/wrong_bodies that has the line 'program: refusals', it has to say
 # that something is wrong.
@@ -14,9 +14,8 @@
 # after which it has to go on as if that step had not been asked for.
 # Usage: checks/refusals.sh, anywhere. RT names the command rt. Its last line counts the runs and the edits.
 set -eu
-. "$(dirname "$0")/edits"
-edits=$top/checks/wrong_bodies
-. "$top/checks/builds"
+. "$(dirname "$0")/lib/edits"
+. "$top/checks/lib/builds"
 most=150
 
 give_up() {
@@ -31,10 +30,10 @@ lay_out() {
     copy_sources
     add_crate refusals ': executor_core async_executor async_utilities slab'
     mkdir "$copy/cases"
-    (cd "$edits" && python3 -B "$top/checks/choose.py" program "$copy" "$@")
+    python3 -B "$top/checks/lib/choose.py" program "$copy" "$@"
     number=0
     for edit in none "$@"; do
-        echo "$number 0" > "$copy/cases/${edit%.edit}"
+        echo "$number 0" > "$copy/cases/$(basename "$edit" .edit)"
         number=$((number + 1))
     done
     for n in $(seq 1 $most); do
@@ -88,7 +87,8 @@ order_requests() {
 # Says whether the program finds something wrong over each of these edits, as it must.
 judge() {
     for edit in "$@"; do
-        if said "${edit%.edit}" | grep -q '^refused: .*; wrong: [1-9][0-9]*$'; then
+        edit=$(basename "$edit" .edit)
+        if said "$edit" | grep -q '^refused: .*; wrong: [1-9][0-9]*$'; then
             pass "$edit: refusals finds something wrong, as it must"
         else
             fail "$edit: not refused by refusals"
@@ -110,7 +110,7 @@ find_exsim() {
     others=$(grep -aowE "$others" "$program" | sort -u)
     [ -z "$others" ] || give_up "exsim takes memory by what is not counted: $others"
     "$kit/toolchain/bin/clang" --target=x86_64-unknown-linux-gnu -shared -fPIC \
-        -O1 -nostdlib -fuse-ld=lld -o "$copy/fail_nth.so" "$top/checks/fail_nth.c"
+        -O1 -nostdlib -fuse-ld=lld -o "$copy/fail_nth.so" "$top/checks/lib/fail_nth.c"
 }
 
 # Runs exsim with its Nth request refused, and keeps what it answered.
@@ -158,7 +158,7 @@ leave_refused_step() {
         give_up "exsim, $1, request $n: $out"
 }
 
-set -- $(cd "$edits" && grep -lx 'program: refusals' *.edit)
+set -- $(edits_of wrong_bodies | xargs grep -lx 'program: refusals')
 lay_out "$@"
 seconds=60
 try refusals src/main.rt --cases "$copy/cases"

@@ -1,5 +1,5 @@
 #!/bin/sh
-# Misuse that must not compile. A file NAME.rt.txt is a crate above those that its lines 'use' name:
+# Misuse that must not compile. A file NAME.rs is a crate above those that its lines 'use' name:
 # each line that ends in '//~ ERROR' has to be refused with that error, and no other line. A file
 # NAME.edit changes a crate of the repository, which then has to be refused with the error that it
 # names, in the function that it changes, and nowhere else.
@@ -11,11 +11,10 @@
 # Usage: checks/uncompiled.sh, anywhere. RT names the command rt. Its last line counts the files.
 # Runs beside the gate.
 set -eu
-. "$(dirname "$0")/edits"
-. "$top/checks/built"
+. "$(dirname "$0")/lib/edits"
+. "$top/checks/lib/built"
 copy_sources
 mkdir -p "$copy/crates/misuse/src"
-edits=$top/checks/uncompiled
 crates=$copy/crates.txt
 
 # Reads a crate of the copy, and keeps its errors as 'FILE LINE ERROR'. Where some errors are not
@@ -67,7 +66,7 @@ try_lines() {
 
 # Prints for each line of a file the number of the function that it is a part of, and whether of its
 # head or its body; or 'no function'.
-functions() { python3 -B "$top/checks/edits.py" functions "$1"; }
+functions() { python3 -B "$top/checks/lib/edits.py" functions "$1"; }
 
 # Prints where an edit changes the copy, as FILE:NUMBER of the function, and whether it is tried
 # beside others or alone.
@@ -75,7 +74,7 @@ place_of() {
     file=$(field "$1" file)
     add_edit "$1" "$copy" || return 1
     functions "$top/crates/$(field "$1" crate)/$file" |
-        sed -n "$(python3 -B "$top/checks/edits.py" lines "$1" "$top")p" | sort -u > "$copy/parts"
+        sed -n "$(python3 -B "$top/checks/lib/edits.py" lines "$1" "$top")p" | sort -u > "$copy/parts"
     echo "$file:$(cut -d' ' -f1 "$copy/parts" | sort -u | paste -sd-)" \
         "$(grep -qv body "$copy/parts" && echo alone || echo beside)"
 }
@@ -83,12 +82,12 @@ place_of() {
 # Plans the edits of a crate, as lines 'PLACE ERROR EDIT beside|alone' of the file left.
 plan_edits() {
     : > "$copy/left"
-    for edit in $(cd "$edits" && grep -lx "crate: $1" *.edit); do
+    for edit in $(edits_of uncompiled | xargs grep -lx "crate: $1"); do
         restore_sources "$1"
-        if place=$(place_of "$edits/$edit" 2> "$copy/log"); then
-            echo "${place% *} $(field "$edits/$edit" error) $edit ${place#* }" >> "$copy/left"
+        if place=$(place_of "$edit" 2> "$copy/log"); then
+            echo "${place% *} $(field "$edit" error) $edit ${place#* }" >> "$copy/left"
         else
-            fail "$edit: it cannot be applied:" "$copy/log"
+            fail "${edit##*/}: it cannot be applied:" "$copy/log"
         fi
     done
 }
@@ -105,7 +104,7 @@ apply_round() {
         $4 == "alone" { exit }' "$copy/left" > "$copy/round"
     : > "$copy/tried"
     while read -r place error edit way; do
-        ! add_edit "$edits/$edit" "$copy" 2> "$copy/log" ||
+        ! add_edit "$edit" "$copy" 2> "$copy/log" ||
             echo "$place $error $edit $way" >> "$copy/tried"
     done < "$copy/round"
 }
@@ -120,7 +119,7 @@ judge_round() {
     awk 'NR == FNR { refused[$0]; next } ($1 " " $2) in refused' \
         "$copy/refused" "$copy/tried" > "$copy/judged"
     while read -r _ _ edit _; do
-        pass "$edit: refused, as it must be"
+        pass "${edit##*/}: refused, as it must be"
     done < "$copy/judged"
     cut -d' ' -f1,2 "$copy/tried" > "$copy/wanted"
     ! lacks "$copy/refused" "$copy/wanted" ||
@@ -128,7 +127,7 @@ judge_round() {
     if [ "$is_cut" = 0 ] || [ ! -s "$copy/judged" ]; then
         lacks "$copy/tried" "$copy/judged" || :
         while read -r _ error edit _; do
-            fail "$edit: not refused as $error:" "$copy/log"
+            fail "${edit##*/}: not refused as $error:" "$copy/log"
         done < "$copy/lacking"
         cp "$copy/tried" "$copy/judged"
     fi
@@ -136,10 +135,10 @@ judge_round() {
     mv "$copy/lacking" "$copy/left"
 }
 
-for file in "$edits"/*.rt.txt; do
+for file in "$top"/checks/uncompiled/*.rs; do
     try_lines "$file"
 done
-for crate in $(cat "$edits"/*.edit | sed -n 's/^crate: //p' | sort -u); do
+for crate in $(edits_of uncompiled | xargs sed -n 's/^crate: //p' | sort -u); do
     plan_edits "$crate"
     while [ -s "$copy/left" ]; do
         apply_round "$crate"

@@ -2,21 +2,30 @@
 """Writes the figures of docs/figures.txt where readers look for them.
 
 They become tables in README.md, docs/MEASURED.md and docs/EXSIM.md, between the lines
-'<!-- figures: KIND -->' and '<!-- end -->', and the chart docs/benchmark.svg. With the argument
---check nothing is written: each page that does not say what docs/figures.txt says is named, and the
-last line counts the pages.
+'<!-- figures: KIND -->' and '<!-- end -->', and the charts docs/benchmark.svg and docs/throughput.svg.
+With the argument --check nothing is written: each page that does not say what docs/figures.txt says
+is named, and the last line counts the pages.
+
+The arguments --busy FILE put what FILE says of the polls that work into docs/figures.txt first. Its
+lines are 'value WHO ROW NANOSECONDS ..': WHO is ours, rust or tokio, ROW busy_W_T or parked_busy_W_T,
+and each number is that of a pass. A line 'swept ..' says how they were taken. Its other lines are
+left out.
 """
 import pathlib
 import re
 import sys
 
+sys.dont_write_bytecode = True
+import throughput
+
 TOP = pathlib.Path(__file__).resolve().parent.parent
 PAGES = ("README.md", "docs/MEASURED.md", "docs/EXSIM.md")
-CHART = "docs/benchmark.svg"
 HEADS = {
     "time": ("from a fresh clone", "what it does", "time"),
     "bench": ("row", "one operation", "instructions", "the Rust crate", "nanoseconds"),
     "threads": ("row, on T threads", "one operation", "T", "nanoseconds", "the Rust crate"),
+    "busy": ("work in a poll, nanoseconds", "runs that never park", "the Rust crate"),
+    "parked_busy": ("work in a poll, nanoseconds", "runs that park", "the Rust crate", "tokio 1.24"),
     "exsim": ("lines", "milliseconds", "million instructions", "peak memory, MB"),
 }
 CODE = {"time", "bench"}
@@ -33,9 +42,13 @@ def figures():
 
 
 def table(kind, found):
-    """The rows of a kind as a table, or the text of its one field."""
+    """The rows of a kind as a table, or what there is of it as text."""
     if kind == "taken":
         return f"Taken at {found[kind][0][0]}."
+    if kind == "swept":
+        return f"These are {found[kind][0][0]}."
+    if kind == "ahead":
+        return throughput.ahead(found)
     lines = [HEADS[kind], ("---",) * len(HEADS[kind])]
     for first, *rest in found[kind]:
         lines.append((f"`{first}`" if kind in CODE else first, *rest))
@@ -79,9 +92,13 @@ def chart(found):
 
 
 def main():
+    if sys.argv[1:2] == ["--busy"]:
+        file = TOP / "docs/figures.txt"
+        file.write_text(throughput.with_measured(file.read_text(), pathlib.Path(sys.argv[2]).read_text()))
     found = figures()
     wanted = {name: page((TOP / name).read_text(), found) for name in PAGES}
-    wanted[CHART] = chart(found)
+    wanted["docs/benchmark.svg"] = chart(found)
+    wanted["docs/throughput.svg"] = throughput.picture(found)
     if sys.argv[1:] != ["--check"]:
         for name, text in wanted.items():
             (TOP / name).write_text(text)

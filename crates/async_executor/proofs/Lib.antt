@@ -1,6 +1,6 @@
 mod Counts
 mod Fairs
 mod Handles
+mod Machines
 mod Places
-mod RunRows
-mod Runs
+mod RunMachines

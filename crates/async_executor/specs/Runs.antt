@@ -1,14 +1,14 @@
 -- What a run asks for, and what answers it.
 pub mod Counts
-pub mod Decisions
 pub mod Fairs
 pub mod Fixed
+pub mod Replies
 pub mod Rows
 pub mod Steps
 pub mod Table
 pub mod Tickers
 pub mod Turns
-use Rattle.std.specs.Prelude.{◌≡◌, ℕ, Bool, true, false, cond, List, [], Option, Some, None}
+use Rattle.std.specs.Prelude.{◌≡◌, ℕ, Bool, true, false, List, [], Option, Some, None}
 use Rattle.executor_core.specs.Ring.{IdRing}
 use Rattle.executor_core.specs.declared.limits.Limits.{Limits}
 use Rattle.executor_core.specs.declared.queue.runner.RunnerKey.{RunnerKey}
@@ -16,11 +16,10 @@ use Rattle.executor_core.specs.declared.task.id.TaskId.{TaskId}
 use Rattle.async_executor.specs.Runs.Counts.{up_to}
 use Rattle.async_executor.specs.Ticks.{Asked, is_return}
 use Rattle.async_executor.specs.Ticks as ticks
-use Rattle.async_executor.specs.Ticks.Courses.{Course, Waiting, Seeking, Departing, course}
-use Rattle.async_executor.specs.declared.machine.run.Aim.{Aim}
-use Rattle.async_executor.specs.declared.machine.run.Aim.TheVariants.{Work, PassOn, Leave}
+use Rattle.async_executor.specs.Ticks.Replies.{actor_of}
 use Rattle.async_executor.specs.declared.machine.run.RunState.{RunState}
-use Rattle.async_executor.specs.declared.machine.run.RunState.TheVariants.{Starting, Resting, Registering, PollingOwn, Ticking, Sharing, Unregistering, Releasing}
+use Rattle.async_executor.specs.declared.machine.run.RunState.TheVariants as state
+use Rattle.async_executor.specs.declared.machine.run.Runner.{Runner}
 use Rattle.async_executor.specs.declared.machine.run.Stage.{Stage}
 use Rattle.async_executor.specs.declared.machine.run.Stage.TheVariants as stage
 use Rattle.async_executor.specs.declared.machine.run.RunAction.{RunAction}
@@ -31,8 +30,8 @@ use Rattle.async_executor.specs.declared.machine.run.RunNext.TheVariants.{Act, R
 use Rattle.async_executor.specs.declared.machine.run.RunReply.{RunReply}
 use Rattle.async_executor.specs.declared.machine.run.RunReply.TheVariants.{Begin, Dropped, Registered, NotRegistered, OwnPending, OwnReady, Tick, Moved, Unregistered, Released}
 use Rattle.async_executor.specs.declared.machine.run.RunRest.{RunRest}
-use Rattle.async_executor.specs.declared.machine.tick.TickNext.{TickNext}
-use Rattle.async_executor.specs.declared.machine.tick.TickNext.TheVariants as tick
+use Rattle.async_executor.specs.declared.machine.run_steps.Begun.{Begun}
+use Rattle.async_executor.specs.declared.machine.run_steps.Begun.TheVariants as begun
 
 -- what is asked: to begin or to be dropped, one of the actions, or what is asked of a tick
 pub data RunAsked : Type 0 where
@@ -43,30 +42,40 @@ pub data RunAsked : Type 0 where
   AskFair : Asked → RunAsked
   AskUnregister : RunAsked
   AskRelease : RunAsked
-  AskNothing : RunAsked
 
--- whether the tick does what it acts for
-abbrev pub is_fit : Aim → Course → Bool
-is_fit Work Seeking = true
-is_fit Work _ = false
-is_fit (PassOn number) Departing = true
-is_fit (PassOn number) _ = false
-is_fit Leave Departing = true
-is_fit Leave _ = false
-
--- what a machine waits for: one whose tick does not what it acts for, for nothing
+-- what a machine waits for
 abbrev pub asked_in : RunState → RunAsked
-asked_in Starting = AskFirst
-asked_in (Resting number) = AskFirst
-asked_in Registering = AskRegister
-asked_in (PollingOwn number) = AskOwn
-asked_in (Ticking aim tick) = cond (is_fit aim (course tick)) (AskTick (ticks.asked tick)) AskNothing
-asked_in (Sharing tick taken) = cond (is_fit Work (course tick)) (AskFair (ticks.asked tick)) AskNothing
-asked_in (Unregistering number) = AskUnregister
-asked_in Releasing = AskRelease
+asked_in (state.Resting begun) = AskFirst
+asked_in (state.Registering registering) = AskRegister
+asked_in (state.PollingOwn polling) = AskOwn
+asked_in (state.Waiting waiting) = AskTick (ticks.asked_of waiting)
+asked_in (state.Sharing sharing) = AskFair ticks.AskRun
+asked_in (state.Running under_way) = AskTick ticks.AskRun
+asked_in (state.Unregistering unregistering) = AskUnregister
+asked_in (state.PassingOn spending left) = AskTick (ticks.asked_of_spending spending)
+asked_in (state.Releasing releasing) = AskRelease
 
 abbrev pub asked : RunMachine → RunAsked
 asked machine = asked_in machine.state
+
+-- the runner of a machine
+abbrev pub runner_begun : Begun → Runner
+runner_begun (begun.Register registering) = registering.runner
+runner_begun (begun.PollOwn polling) = polling.runner
+
+abbrev pub runner_at : RunState → Runner
+runner_at (state.Resting begun) = runner_begun begun
+runner_at (state.Registering registering) = registering.runner
+runner_at (state.PollingOwn polling) = polling.runner
+runner_at (state.Waiting waiting) = actor_of waiting
+runner_at (state.Sharing sharing) = sharing.runner
+runner_at (state.Running under_way) = under_way.runner
+runner_at (state.Unregistering unregistering) = unregistering.runner
+runner_at (state.PassingOn spending left) = left.runner
+runner_at (state.Releasing releasing) = releasing.runner
+
+abbrev pub runner_of : RunMachine → Runner
+runner_of machine = runner_at machine.state
 
 -- a rest has ended
 abbrev pub is_end : Stage → Bool
@@ -114,7 +123,6 @@ module _ {W : Type 0} where
   answers AskUnregister _ = false
   answers AskRelease Released = true
   answers AskRelease _ = false
-  answers AskNothing _ = false
 
   -- the store that a change of the list is followed by
   abbrev pub store_after : RunReply W → Option Asked
@@ -134,11 +142,6 @@ module _ {W : Type 0} where
 abbrev pub IsAsked : {W : Type 0} → RunNext W → Type 0
 IsAsked (Act machine action) = asked machine ≡ asked_by action
 IsAsked (Rest rest end) = has_ended rest ≡ is_return end
-
--- a tick that goes on does what it acts for
-abbrev pub IsFitNext : {W : Type 0} → Aim → TickNext W → Type 0
-IsFitNext aim (tick.Act machine action) = is_fit aim (course machine) ≡ true
-IsFitNext aim (tick.Rest rest end) = Unit {0}
 
 -- a run that was never polled, of an executor with these limits, and its ring
 abbrev pub IsNewRun : Limits → RunRest → Option IdRing → Type 0

@@ -1,5 +1,5 @@
 -- What comes of futures that are spawned in turn.
-use Rattle.std.specs.Prelude.{◌≡◌, ℕ, Bool, false, Option, Some, Result, Ok, Err, MatchOption, List, ◌++◌, length, All}
+use Rattle.std.specs.Prelude.{◌≡◌, ◌<◌, IfErr, IfSome, ℕ, Bool, false, Option, Some, Result, Ok, Err, MatchOption, List, ◌++◌, length, All}
 use Rattle.std.specs.Iterator.{Yields, YieldsThen, Drains}
 use Rattle.executor_core.specs.declared.queue.runner.RunnerError.{RunnerError}
 use Rattle.executor_core.specs.declared.queue.runner.RunnerError.TheVariants as runner
@@ -24,6 +24,10 @@ module _ {F : Type 0} where
   SpawnsInTurn steps s (Ok n) = (xs : List F) × Drains steps s xs × (length xs ≡ n)
   SpawnsInTurn {S} steps s (Err e) = (xs : List F) × (length xs ≡ e.spawned)
       × MatchOption e.refused ((t : S) × Yields steps s xs t × (e.cause ≡ runner.OutOfMemory)) (λ future. (t : S) × YieldsThen steps s xs (Some future) t)
+
+-- a future that is refused was asked for, since its handle has a place
+abbrev pub HasPlace : {F : Type 0} → ℕ → ℕ → Result ℕ (SpawnMany F) → Type 0
+HasPlace len capacity result = IfErr result (λ e. IfSome e.refused (λ _. len < capacity))
 
 -- the list with n handles after it, none of which has answered
 abbrev pub AddsHandles : {T : Type 0} → (T → Bool) → List T → ℕ → List T → Type 0

@@ -1,23 +1,25 @@
 -- What a tick asks for, and what answers it.
-pub mod Courses
-pub mod Decisions
+pub mod Replies
 pub mod Rows
 pub mod Steps
 pub mod Table
 pub mod Tickers
 use Rattle.std.specs.Prelude.{◌≡◌, ℕ, Bool, true, false, Option, Some, None}
 use Rattle.async_executor.specs.declared.machine.tick.TickState.{TickState}
-use Rattle.async_executor.specs.declared.machine.tick.TickState.TheVariants.{Resting, Searching, Inserting, Updating, Storing, Leaving}
-use Rattle.async_executor.specs.declared.machine.tick.LeavingState.TheVariants.{Removing, StoringRemoved, Exchanging, Notifying, Waking, Running}
-use Rattle.async_executor.specs.declared.machine.tick.TickAction.{TickAction}
-use Rattle.async_executor.specs.declared.machine.tick.TickAction.TheVariants.{Search, Insert, Update, Store, Remove, StoreRemoved, Exchange, Notify, Wake, Run}
-use Rattle.async_executor.specs.declared.machine.tick.TickEnd.{TickEnd}
-use Rattle.async_executor.specs.declared.machine.tick.TickEnd.TheVariants.{Park, Yield, Return}
+use Rattle.async_executor.specs.declared.machine.tick.TickState.TheVariants as state
+use Rattle.async_executor.specs.declared.machine.waiting.TickAction.{TickAction}
+use Rattle.async_executor.specs.declared.machine.waiting.TickAction.TheVariants.{Search, Insert, Update, Store, Remove, StoreRemoved, Exchange, Notify, Wake, Run}
+use Rattle.async_executor.specs.declared.machine.waiting.TickEnd.{TickEnd}
+use Rattle.async_executor.specs.declared.machine.waiting.TickEnd.TheVariants.{Park, Yield, Return}
 use Rattle.async_executor.specs.declared.machine.tick.TickMachine.{TickMachine}
 use Rattle.async_executor.specs.declared.machine.tick.TickNext.{TickNext}
 use Rattle.async_executor.specs.declared.machine.tick.TickNext.TheVariants.{Act, Rest}
-use Rattle.async_executor.specs.declared.machine.tick.TickReply.{TickReply}
-use Rattle.async_executor.specs.declared.machine.tick.TickReply.TheVariants.{Begin, Dropped, Found, Empty, NoWaker, NoPlace, Inserted, Asleep, WasNotified, Unknown, Stored, RemovedIt, StoredRemoved, Exchanged, Notified, Woken, Ran}
+use Rattle.async_executor.specs.declared.machine.waiting.Spending.{Spending}
+use Rattle.async_executor.specs.declared.machine.waiting.Spending.TheVariants.{Exchanging, Notifying, Waking}
+use Rattle.async_executor.specs.declared.machine.waiting.TickReply.{TickReply}
+use Rattle.async_executor.specs.declared.machine.waiting.TickReply.TheVariants.{Begin, Dropped, Found, Empty, NoWaker, NoPlace, Inserted, Asleep, WasNotified, Unknown, Stored, RemovedIt, StoredRemoved, Exchanged, Notified, Woken, Ran}
+use Rattle.async_executor.specs.declared.machine.waiting.Waiting.{Waiting}
+use Rattle.async_executor.specs.declared.machine.waiting.Waiting.TheVariants.{Searching, Inserting, Updating, Storing, Removing, StoringRemoved, Announcing, Leaving, StoringLeft, PassingOn}
 
 -- what is asked: to begin or to be dropped, or one of the actions, of the sleeper of a number
 pub data Asked : Type 0 where
@@ -33,19 +35,29 @@ pub data Asked : Type 0 where
   AskWake : Asked
   AskRun : Asked
 
+-- what a step waits for
+abbrev pub asked_of_spending : Spending → Asked
+asked_of_spending Exchanging = AskExchange
+asked_of_spending Notifying = AskNotify
+asked_of_spending Waking = AskWake
+
+abbrev pub asked_of : {A : Type 0} → Waiting A → Asked
+asked_of (Searching searching) = AskSearch
+asked_of (Inserting inserting) = AskInsert
+asked_of (Updating updating) = AskUpdate updating.number
+asked_of (Storing storing) = AskStore
+asked_of (Removing removing) = AskRemove removing.number
+asked_of (StoringRemoved storing) = AskStoreRemoved
+asked_of (Announcing spending announcing) = asked_of_spending spending
+asked_of (Leaving leaving) = AskRemove leaving.number
+asked_of (StoringLeft storing) = AskStoreRemoved
+asked_of (PassingOn spending departed) = asked_of_spending spending
+
 -- what a machine waits for
 abbrev pub asked_in : TickState → Asked
-asked_in (Resting number) = AskStart
-asked_in (Searching number) = AskSearch
-asked_in Inserting = AskInsert
-asked_in (Updating number) = AskUpdate number
-asked_in (Storing number) = AskStore
-asked_in (Leaving (Removing number found)) = AskRemove number
-asked_in (Leaving (StoringRemoved found)) = AskStoreRemoved
-asked_in (Leaving (Exchanging taken)) = AskExchange
-asked_in (Leaving (Notifying taken)) = AskNotify
-asked_in (Leaving (Waking taken)) = AskWake
-asked_in (Leaving Running) = AskRun
+asked_in (state.Resting number) = AskStart
+asked_in (state.Waiting waiting) = asked_of waiting
+asked_in (state.Running departed) = AskRun
 
 abbrev pub asked : TickMachine → Asked
 asked machine = asked_in machine.state

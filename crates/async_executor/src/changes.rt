@@ -251,11 +251,12 @@ impl<F: Drop, W: Drop, R: Drop, T: Drop> Store<F, Arc<ExecutorState<W, R>>, T> {
         };
         // After the end, which may have queued this very task: no search before it would find that.
         let found = search.make(&mut cells, words.next(), None);
-        drop(cells);
         if let Some(next) = &found {
-            // The last one is not out any more.
+            // The last one is not out any more. Before the table is given up, which waits for what was
+            // asked of memory: its cell and its place come from there together.
             *out = self.take(next.id());
         }
+        drop(cells);
         EndThenSearch::Searched(notice, found)
     }
 

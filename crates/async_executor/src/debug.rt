@@ -159,7 +159,9 @@ where
     R: Wait + Clone + Drop,
 {
     fn fmt<O: Write>(&self, f: &mut Formatter<O>) -> fmt::Result {
-        self.inner.write_text("StaticExecutor", Active::Zero, f)
+        self.executor
+            .inner
+            .write_text("StaticExecutor", Active::Zero, f)
     }
 }
 
@@ -170,7 +172,8 @@ where
     R: Wait + Clone + Drop,
 {
     fn fmt<O: Write>(&self, f: &mut Formatter<O>) -> fmt::Result {
-        self.inner
+        self.executor
+            .inner
             .write_text("StaticLocalExecutor", Active::Zero, f)
     }
 }

@@ -9,10 +9,11 @@ ghost use Rattle.executor_core.specs.SpawnError.{refused_future};
 ghost use Rattle.async_executor.specs.RunError.{run_future};
 ghost use Rattle.async_executor.specs.Runs.{has_ended, IsNewRun};
 ghost use Rattle.executor_core.specs.declared.limits.NewError.TheVariants as NewError;
-ghost use Rattle.async_executor.specs.SpawnMany.{spawned, SpawnsInTurn, AddsHandles};
+ghost use Rattle.async_executor.specs.SpawnMany.{spawned, SpawnsInTurn, AddsHandles, HasPlace};
 
 mod handles;
 mod tickers;
+mod workers;
 
 use crate::home::SharedHome;
 pub use crate::runner::RunError;
@@ -28,6 +29,7 @@ pub use handles::{Cancel, FallibleTask, Task};
 use std::alloc::Global;
 use std::sync::Wait;
 pub use tickers::{Run, Tick};
+pub use workers::{Sleeper, Worker};
 
 /// An executor of futures of the type F, whose handles are awaited by wakers of the type W, and
 /// which waits for its locks by the right R.
@@ -162,6 +164,7 @@ where
         ensures futures { SpawnsInTurn I.next_gives futures result }
         ensures handles { AddsHandles (λ task. task.inner.answered) handles.old.items (spawned result) handles.new.items }
         ensures room { IfErr result (λ e. IfNone e.refused (vec_len handles.new ≡ vec_capacity handles.new)) }
+        ensures place { HasPlace (vec_len handles.new) (vec_capacity handles.new) result }
     {
         self.inner.spawn_many(futures, handles)
     }
@@ -284,11 +287,16 @@ where
     /// let after = server.spawn(Sum::of(3, 4)).ok()?;
     /// ```
     pub fn leak(self) -> StaticExecutor<F, W, R>
-        ensures { result.inner ≡ self.inner }
+        ensures { result.executor ≡ self }
     {
+        self.inner.wake_all();
+        StaticExecutor { executor: self }
+    }
+
+    /// Lets the executor go, and cancels nothing.
+    pub(crate) fn let_go(self) {
         let Executor { inner } = self;
-        inner.wake_all();
-        StaticExecutor { inner }
+        drop(inner);
     }
 }
 

@@ -25,6 +25,7 @@ pub(crate) mod machine;
 pub(crate) mod poller;
 pub mod runner;
 pub(crate) mod scheduler;
+pub(crate) mod sleeper;
 pub(crate) mod state;
 pub mod static_executors;
 pub(crate) mod store;
@@ -34,7 +35,7 @@ pub(crate) mod waker;
 
 pub use executor::{
     Cancel, Cancelled, Executor, FallibleTask, Limits, NewError, Run, RunError, RunnerError,
-    SpawnMany, Task, TaskWaker, Tick,
+    Sleeper, SpawnMany, Task, TaskWaker, Tick, Worker,
 };
 pub use executor_core::task::{Future, OutOfMemory, Poll, SpawnError, Wake};
 pub use local_executor::{

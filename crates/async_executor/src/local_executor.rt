@@ -9,7 +9,7 @@ ghost use Rattle.executor_core.specs.SpawnError.{refused_future};
 ghost use Rattle.async_executor.specs.RunError.{run_future};
 ghost use Rattle.async_executor.specs.Runs.{has_ended, IsNewRun};
 ghost use Rattle.executor_core.specs.declared.limits.NewError.TheVariants as NewError;
-ghost use Rattle.async_executor.specs.SpawnMany.{spawned, SpawnsInTurn, AddsHandles};
+ghost use Rattle.async_executor.specs.SpawnMany.{spawned, SpawnsInTurn, AddsHandles, HasPlace};
 
 mod handles;
 mod tickers;
@@ -149,6 +149,7 @@ where
         ensures futures { SpawnsInTurn I.next_gives futures result }
         ensures handles { AddsHandles (λ task. task.inner.answered) handles.old.items (spawned result) handles.new.items }
         ensures room { IfErr result (λ e. IfNone e.refused (vec_len handles.new ≡ vec_capacity handles.new)) }
+        ensures place { HasPlace (vec_len handles.new) (vec_capacity handles.new) result }
     {
         self.inner.spawn_many(futures, handles)
     }
@@ -248,11 +249,16 @@ where
     /// Some(executor.leak())
     /// ```
     pub fn leak(self) -> StaticLocalExecutor<F, W, R>
-        ensures { result.inner ≡ self.inner }
+        ensures { result.executor ≡ self }
     {
+        self.inner.wake_all();
+        StaticLocalExecutor { executor: self }
+    }
+
+    /// Lets the executor go, and cancels nothing.
+    pub(crate) fn let_go(self) {
         let LocalExecutor { inner } = self;
-        inner.wake_all();
-        StaticLocalExecutor { inner }
+        drop(inner);
     }
 }
 

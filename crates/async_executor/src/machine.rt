@@ -1,27 +1,31 @@
-//! What ticks and runs do next. It is decided here alone, and nothing that is shared is touched.
+//! What ticks and runs do next.
 //!
-//! There are two forms. A `TickMachine` or a `RunMachine` is told what came of its last action, and
-//! answers with the next one. That is the form of the tables, and of callers who drive a core of
-//! their own.
+//! It is decided by *steps*: small values, each of which says what its holder does next. Only this
+//! module makes them. A step can be neither copied nor dropped, and it leads on by its own calls
+//! alone. So a run whose turn is over has nothing with which to search on, and one that owes its
+//! queue a fair part has no task to run before it took that. A step that changes the list of
+//! sleepers or the table makes its call itself, on the list or the table that it is handed.
 //!
-//! The ticks and runs of this crate hold *steps*: small values, each of which says what its holder
-//! does next. Only this module makes them. A step can be neither copied nor dropped, and it leads on
-//! by its own calls alone. So a run whose turn is over has nothing with which to search on, and one
-//! that owes its queue a fair part has no task to run before it took that. The machine of a tick
-//! decides by the same steps, and that of a run counts by the same calls on its `Runner`.
+//! A `TickMachine` or a `RunMachine` is the step that waits for the reply to its last action, for
+//! callers who drive a core of their own: it is told what came of that, goes on by the same calls,
+//! and answers with the next action.
 
 mod count;
 mod run;
 mod run_steps;
 mod steps;
 mod tick;
+mod waiting;
+mod worker_steps;
 
 pub(crate) use run::Runner;
 pub use run::{RunAction, RunMachine, RunNext, RunReply, RunRest};
 pub(crate) use run_steps::{
-    Begun, Dropped, NextTask, NotRegistered, OwnPolled, PollingOwn, Registering, Search, Sharing,
-    Started, UnderWay, Unregistering,
+    Begun, Dropped, NextTask, NotRegistered, OwnPolled, PollingOwn, Registering, Search, Started,
+    TurnOver, Unregistering,
 };
-pub(crate) use steps::{Departing, Found, GoingToSleep, Rested, Running, Searching, Yielding};
-pub(crate) use tick::Alone;
-pub use tick::{TickAction, TickEnd, TickMachine, TickNext, TickReply, TickRest};
+pub(crate) use steps::{
+    Departed, Departing, Found, GoingToSleep, Rested, Running, Searching, Went,
+};
+pub use tick::{TickMachine, TickNext, TickRest};
+pub use waiting::{TickAction, TickEnd, TickReply};

@@ -26,5 +26,5 @@ mod words;
 
 pub use crate::machine::{RunAction, RunMachine, RunNext, RunReply, RunRest};
 pub use run::RunError;
-pub(crate) use run::RunIn;
+pub(crate) use run::{RunIn, WorkerIn};
 pub use words::Words;

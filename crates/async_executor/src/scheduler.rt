@@ -15,6 +15,7 @@ ghost use Rattle.async_executor.specs.LeftOver.{IsHeldRight, IsLeftRight};
 
 mod closing;
 mod many;
+mod workers;
 
 use crate::changes;
 use crate::home::{Home, OutIn, OutputIn, Shareable};

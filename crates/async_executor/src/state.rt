@@ -5,10 +5,11 @@ ghost use Rattle.executor_core.specs.Cells.Law.{LockLaw};
 ghost use Rattle.executor_core.specs.Sleepers.{SleeperLaw};
 ghost use Rattle.executor_core.specs.Sleepers.Calls.{closed};
 
+use crate::lock::{APART, CacheLine, Lock};
 use executor_core::sleepers::{ClosedSleepers, Flag, Sleepers};
 use executor_core::task::{Cells, Change, Notice, OutOfMemory, Pick, Wake, Wakeup};
 use std::alloc::Global;
-use std::sync::{Mutex, MutexGuard, Wait};
+use std::sync::{MutexGuard, Wait};
 
 /// Spends the notice of a task that was queued or taken: if somebody sleeps and nobody was
 /// notified since, a sleeper is woken. No lock may be held. It stands for `State::notify` of the
@@ -66,17 +67,12 @@ pub struct ExecutorState<W, R> {
 
 #[derive(Drop)]
 pub(crate) struct Parts<W, R> {
-    pub(crate) cells: Mutex<Cells<(), (), W>>,
+    pub(crate) cells: Lock<Cells<(), (), W>>,
     before_sleepers: CacheLine,
-    pub(crate) sleepers: Mutex<ClosedSleepers<W>>,
+    pub(crate) sleepers: Lock<ClosedSleepers<W>>,
     rt: R,
     alloc: Global,
 }
-
-/// As many bytes as a cache line has, between fields that different threads write.
-pub(crate) type CacheLine = [u64; 8];
-
-pub(crate) const APART: CacheLine = [0; 8];
 
 // What waits for no lock. It asks for no right to wait, so that it costs its caller no test.
 impl<W, R> ExecutorState<W, R> {
@@ -116,9 +112,9 @@ impl<W: Wake, R: Wait + Clone + Drop> ExecutorState<W, R> {
     /// The state of an executor that has no tasks.
     pub(crate) fn new(rt: R, alloc: Global) -> Result<ExecutorState<W, R>, OutOfMemory> {
         let parts = Parts {
-            cells: Mutex::new(Cells::new(alloc)?),
+            cells: Lock::new(Cells::new(alloc)?),
             before_sleepers: APART,
-            sleepers: Mutex::new(ClosedSleepers::new(alloc)),
+            sleepers: Lock::new(ClosedSleepers::new(alloc)),
             rt,
             alloc,
         };

@@ -1,8 +1,8 @@
 //! A tick: a future that runs one task, and sleeps while there is none.
 //!
-//! What it does next is decided in `machine`, which reads and changes nothing that is shared. A `Tick`
-//! goes the steps that are decided there, each of which is one step on what is shared. Between its
-//! polls it keeps a `TickRest`, which holds nothing that must be spent.
+//! What it does next is decided in `machine`. A `Tick` goes the steps that are made there, each of
+//! which is one step on what is shared. Between its polls it keeps a `TickRest`, which holds nothing
+//! that must be spent.
 //!
 //! A tick is *awake* at first. If its search finds no task, it goes to sleep: its waker stands in
 //! the list of sleepers, under a number that the tick keeps from then on. Then it searches once

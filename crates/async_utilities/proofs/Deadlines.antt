@@ -19,12 +19,12 @@ pub same_number : (one other : Deadline) → is_at (by_time one) other ≡ true 
 same_number one other equal = exact_unsigned one.number other.number (equal_then (nat_cmp one.nanos other.nanos) _ equal)
 
 module _ {W : Type 0} where
-  changed : (is_it : Bool) (w old : Option (Option W)) → old ≡ None → (is_it ≡ true → w ≡ None) → cond is_it w old ≡ None
+  changed : (is_it : Bool) (w old : Option W) → old ≡ None → (is_it ≡ true → w ≡ None) → cond is_it w old ≡ None
   changed true w old none at_it = at_it refl
   changed false w old none at_it = none
 
   -- a change at a deadline leaves those numbers free that were, if that deadline is removed or has none of them
-  pub fresh_after : (old new : BTreeMap Deadline (Option W)) (deadline : Deadline) (w : Option (Option W)) (number number' : ℕ)
+  pub fresh_after : (old new : BTreeMap Deadline W) (deadline : Deadline) (w : Option W) (number number' : ℕ)
       → IsFresh old number → number ≤ number' → Updates by_time old new deadline w → (number' ≤ deadline.number → w ≡ None) → IsFresh new number'
   fresh_after old new deadline w number number' fresh le updates at_it other above =
       updates.0 other ∙ changed (is_at (by_time deadline) other) w _ (fresh other (omega arith)) (λ is_it. at_it (subst (λ n. number' ≤ n) (sym (same_number deadline other is_it)) above))

@@ -1,1 +1,4 @@
 pub mod Deadlines
+pub mod LinkLemmas
+pub mod LinkedLemmas
+pub mod WaitLemmas

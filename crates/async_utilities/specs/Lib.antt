@@ -1,7 +1,14 @@
+pub mod ChannelSteps
 pub mod Channels
 pub mod Deadlines
 pub mod Halves
 pub mod Joins
-pub mod Lines
+pub mod Links
 pub mod Places
 pub mod Polls
+pub mod Signals
+pub mod Stages
+pub mod TimerErrors
+pub mod Times
+pub mod Unsent
+pub mod WaitQueue

@@ -60,15 +60,29 @@ impl ThreadWaker {
 
     /// The same, but no longer than this. It may return before.
     ///
-    /// Example: `uses::rest`, which `uses::rests` calls.
+    /// Example: `uses::dozes`.
     ///
     /// ```text
-    /// if let Some(left) = timer.fire().ok()? {
-    ///     mine.park_timeout(rt, left);
-    /// }
+    /// mine.park_timeout(rt, Duration::from_millis(2));
     /// ```
     pub fn park_timeout<R: Wait>(&self, rt: &R, duration: Duration) {
         self.parker.park_timeout(rt, duration);
+    }
+
+    /// Polls the future on this thread until it is ready, and gives its output. The thread parks while
+    /// the future is not ready. It is `block_on` with a waker that is kept, so nothing is refused, and
+    /// a thread that awaits one future after another takes no memory for that.
+    ///
+    /// Example: `uses::reuses`.
+    ///
+    /// ```text
+    /// let waker = ThreadWaker::new(alloc).ok()?;
+    /// let first = waker.block_on(rt, Ready::new(1u64));
+    /// let second = waker.block_on(rt, Ready::new(2u64));
+    /// ```
+    pub fn block_on<G: Future<ThreadWaker>>(&self, rt: &impl Wait, future: G) -> G::Output {
+        let mut future = future;
+        poll_until_ready(rt, self, |w| future.poll(w))
     }
 }
 
@@ -143,11 +157,10 @@ pub fn block_on<G: Future<ThreadWaker>>(
 ) -> Result<G::Output, BlockOnError<G>>
     ensures refused { IfErr result (λ error. error.future ≡ future) }
 {
-    let Ok(waker) = ThreadWaker::new(alloc) else {
-        return Err(BlockOnError { future });
-    };
-    let mut future = future;
-    Ok(poll_until_ready(rt, &waker, |w| future.poll(w)))
+    match ThreadWaker::new(alloc) {
+        Ok(waker) => Ok(waker.block_on(rt, future)),
+        Err(_) => Err(BlockOnError { future }),
+    }
 }
 
 /// Polls the future on this thread until it is ready, gives its output, and runs tasks of the executor

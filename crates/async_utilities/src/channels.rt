@@ -1,50 +1,47 @@
-//! A channel of bounded room, with many senders and many receivers.
+//! A channel with many senders and many receivers, of bounded room or of as much as there is memory.
 //!
 //! What its ends share stands under one lock: the messages, in the order in which they were sent, and
 //! who waits at either side. A sender waits while there is no room, and a receiver while there is no
 //! message. Each message that comes tells the first receiver that waits, and each that goes the first
-//! sender. One that was told and goes away has the next one be told, so nothing is lost by that.
+//! sender. One that was told and goes away has the next one told, so nothing is lost by that. One that
+//! was told and takes what it came for tells nobody. `state` has the laws of both sides in its type.
+//!
+//! A place among those who wait belongs to the future that waits, so any number of futures of one end
+//! wait at once. It is taken by the first poll that has to wait.
 //! Nobody is woken, and no waker is copied or dropped, while the lock is held.
-ghost use Rattle.std.specs.Prelude.{◌<◌};
+ghost use Rattle.std.specs.Prelude.{◌≡◌, ◌<◌, IfOk, None};
+ghost use Rattle.std.specs.Arc.{arc_value};
 
+pub(crate) mod receiver;
+pub(crate) mod sender;
 pub(crate) mod side;
 pub(crate) mod state;
 
-use crate::channels::state::{Received, Sent, State};
-use crate::due::{Due, wake_unless_kept};
-use async_executor::{Future, OutOfMemory, Poll, Wake};
+use crate::channels::state::State;
+use async_executor::{OutOfMemory, Wake};
+pub use receiver::{NoMessage, Receive, Receiver};
+pub use sender::{Send, Sender, Unsent};
 use std::alloc::Global;
 use std::sync::{Arc, Mutex, MutexGuard, Wait};
 
+/// What the ends of a channel share. Each end lends it by `channel`.
+///
+/// Example: `uses::closes_a_channel`.
+///
+/// ```text
+/// sender.channel().close();
+/// ```
 #[derive(Drop)]
-struct Shared<T: Drop, S: Wake, V: Wake, R: Wait + Drop> {
+pub struct Channel<T: Drop, S: Wake, V: Wake, R: Wait + Drop> {
     state: Mutex<State<T, S, V>>,
+    capacity: usize,
     alloc: Global,
     rt: R,
 }
 
-impl<T: Drop, S: Wake, V: Wake, R: Wait + Drop> Shared<T, S, V, R> {
-    fn state(&self) -> MutexGuard<'_, State<T, S, V>> {
-        self.state.lock(&self.rt)
-    }
-
-    // Has a sender wait no longer, and the next one be told of room that it does not use.
-    fn leave_senders(&self, number: u64) {
-        let (waker, due) = self.state().leave_senders(number);
-        drop(waker);
-        due.wake();
-    }
-
-    // Has a receiver wait no longer, and the next one be told of a message that it does not take.
-    fn leave_receivers(&self, number: u64) {
-        let (waker, due) = self.state().leave_receivers(number);
-        drop(waker);
-        due.wake();
-    }
-}
-
 /// A new channel with room for so many messages, with its first sender and its first receiver. S is
 /// the waker that sends are polled with, V that of receives, and R the right to wait for the lock.
+/// Memory for all messages is taken here.
 ///
 /// # Errors
 ///
@@ -61,429 +58,173 @@ pub fn bounded<T: Drop, S: Wake, V: Wake, R: Wait + Drop>(
     capacity: usize,
 ) -> Result<(Sender<T, S, V, R>, Receiver<T, S, V, R>), OutOfMemory>
     requires { 0 < capacity }
+    ensures joined { IfOk result (λ ends. arc_value ends.0.channel ≡ arc_value ends.1.channel) }
+    ensures room { IfOk result (λ ends. (arc_value ends.0.channel).capacity ≡ capacity) }
 {
-    let state = Mutex::new(State::new(alloc, capacity)?);
-    let Ok(shared) = Arc::new(alloc, Shared { state, alloc, rt }) else {
+    let state = State::new(alloc, capacity, capacity)?;
+    ends_of(rt, alloc, capacity, state)
+}
+
+/// A new channel with room for as many messages as there is memory for, with its first sender and its
+/// first receiver. No sender waits: a send is ready at once, and gives its message back if memory for
+/// it is refused. No receive and no wake takes memory.
+///
+/// # Errors
+///
+/// `OutOfMemory` if memory for it is refused.
+///
+/// Example: `uses::closes_a_channel`.
+///
+/// ```text
+/// let (sender, receiver) = unbounded::<u32, NoopWaker, NoopWaker, R>(right, alloc).ok()?;
+/// ```
+pub fn unbounded<T: Drop, S: Wake, V: Wake, R: Wait + Drop>(
+    rt: R,
+    alloc: Global,
+) -> Result<(Sender<T, S, V, R>, Receiver<T, S, V, R>), OutOfMemory>
+    ensures joined { IfOk result (λ ends. arc_value ends.0.channel ≡ arc_value ends.1.channel) }
+    ensures room { IfOk result (λ ends. (arc_value ends.0.channel).capacity ≡ usize.MAX) }
+{
+    let state = State::new(alloc, usize::MAX, 0)?;
+    ends_of(rt, alloc, usize::MAX, state)
+}
+
+// The first two ends of a channel with this state.
+fn ends_of<T: Drop, S: Wake, V: Wake, R: Wait + Drop>(
+    rt: R,
+    alloc: Global,
+    capacity: usize,
+    state: State<T, S, V>,
+) -> Result<(Sender<T, S, V, R>, Receiver<T, S, V, R>), OutOfMemory>
+    ensures joined { IfOk result (λ ends. arc_value ends.0.channel ≡ arc_value ends.1.channel) }
+    ensures room { IfOk result (λ ends. (arc_value ends.0.channel).capacity ≡ capacity) }
+{
+    let state = Mutex::new(state);
+    let channel = Channel {
+        state,
+        capacity,
+        alloc,
+        rt,
+    };
+    let Ok(channel) = Arc::new(alloc, channel) else {
         return Err(OutOfMemory);
     };
     let receiver = Receiver {
-        shared: Arc::try_clone(&shared)?,
-        number: 0,
-        waits: false,
+        channel: Arc::try_clone(&channel)?,
+        place: None,
     };
     let sender = Sender {
-        shared,
-        number: 0,
-        waits: false,
+        channel,
+        place: None,
     };
     Ok((sender, receiver))
 }
 
-/// Why a message was not sent, with the message.
-///
-/// Example: `uses::tries`.
-///
-/// ```text
-/// sender.try_send(1).ok()?;
-/// let unsent = sender.try_send(2).err()?;
-/// ```
-#[derive(Debug, PartialEq, Eq, Drop)]
-pub enum Unsent<T> {
-    /// There is no room.
-    Full(T),
-    /// There is no receiver.
-    Closed(T),
-}
-
-/// Why no message was received.
-///
-/// Example: `uses::tries`.
-///
-/// ```text
-/// let message = first.try_receive().ok()?;
-/// let none = second.try_receive().err()?;
-/// ```
-#[derive(Debug, Clone, Copy, PartialEq, Eq)]
-pub enum NoMessage {
-    /// There is none yet.
-    Empty,
-    /// There is none, and no sender.
-    Closed,
-}
-
-/// Sends messages. A channel whose senders are all dropped is closed: what is inside still comes out.
-///
-/// Example: `uses::fans_out`.
-///
-/// ```text
-/// type Requests<R> = Sender<u32, TaskWaker<ThreadWaker, R>, ThreadWaker, R>;
-/// ```
-pub struct Sender<T: Drop, S: Wake, V: Wake, R: Wait + Drop> {
-    shared: Arc<Shared<T, S, V, R>>,
-    number: u64,
-    waits: bool,
-}
-
-impl<T: Drop, S: Wake, V: Wake, R: Wait + Drop> Sender<T, S, V, R> {
-    /// Another sender of the same channel.
-    ///
-    /// # Errors
-    ///
-    /// `OutOfMemory` if memory for its place among those that wait is refused.
-    ///
-    /// Example: `uses::fans_out`.
-    ///
-    /// ```text
-    /// requests: requests.copy().ok()?,
-    /// ```
-    pub fn copy(&self) -> Result<Sender<T, S, V, R>, OutOfMemory> {
-        let shared = Arc::try_clone(&self.shared)?;
-        let number = shared.state().senders.join()?;
-        Ok(Sender {
-            shared,
-            number,
-            waits: false,
-        })
+impl<T: Drop, S: Wake, V: Wake, R: Wait + Drop> Channel<T, S, V, R> {
+    pub(crate) fn state(&self) -> MutexGuard<'_, State<T, S, V>> {
+        self.state.lock(&self.rt)
     }
 
-    /// Sends a message, if there is room and a receiver.
+    pub(crate) fn alloc(&self) -> Global {
+        self.alloc
+    }
+
+    /// Closes the channel, and says whether it was open. No message is taken any more, and what is
+    /// inside still comes out. All who wait are woken. A channel is closed too once its last sender or
+    /// its last receiver is dropped.
     ///
-    /// # Errors
-    ///
-    /// `Unsent`, with the message.
-    ///
-    /// Example: `uses::tries`.
+    /// Example: `uses::closes_a_channel`.
     ///
     /// ```text
-    /// sender.try_send(1).ok()?;
-    /// let unsent = sender.try_send(2).err()?;
+    /// sender.channel().close();
     /// ```
-    pub fn try_send(&mut self, message: T) -> Result<(), Unsent<T>> {
-        let sent = self.shared.state().send(message);
-        match sent {
-            Sent::Kept(due) => {
-                due.wake();
-                self.stop_waiting();
-                Ok(())
+    pub fn close(&self) -> bool {
+        let closing = self.state().close(self.alloc);
+        match closing {
+            Some(closing) => {
+                closing.wake();
+                true
             }
-            Sent::Full(message) => Err(Unsent::Full(message)),
-            Sent::Closed(message) => Err(Unsent::Closed(message)),
+            None => false,
         }
     }
 
-    /// Sends the message that is there, once there is room, or gives it back if there is no receiver. If
-    /// there is no message, it is ready, and nothing was sent.
-    /// While it is pending, the message stays where it is, and a copy of the waker is woken once there
-    /// is room. If the copy is refused, the waker itself is woken, and nothing more is kept.
+    /// Whether the channel is closed.
     ///
-    /// Who stops polling before it is ready drops the sender, or polls a `Send` and drops that.
-    ///
-    /// Example: `uses::fans_out`.
+    /// Example: `uses::closes_a_channel`.
     ///
     /// ```text
-    /// let Poll::Ready(_) = self.requests.poll_send(w, &mut self.left) else {
-    ///     return Poll::Pending;
-    /// };
+    /// let is_closed = receiver.channel().is_closed();
     /// ```
-    pub fn poll_send(&mut self, w: &S, message: &mut Option<T>) -> Poll<Result<(), T>> {
-        let Some(first) = message.take() else {
-            return Poll::Ready(Ok(()));
-        };
-        let unsent = match self.try_send(first) {
-            Ok(()) => return Poll::Ready(Ok(())),
-            Err(Unsent::Closed(unsent)) => return Poll::Ready(Err(unsent)),
-            Err(Unsent::Full(unsent)) => unsent,
-        };
-        let Ok(waker) = w.copy() else {
-            *message = Some(unsent);
-            w.wake();
-            return Poll::Pending;
-        };
-        self.send_or_wait(waker, unsent, message)
+    pub fn is_closed(&self) -> bool {
+        self.state().is_closed
     }
 
-    // Sends this message, or waits with this waker and puts the message there.
-    fn send_or_wait(
-        &mut self,
-        waker: S,
-        unsent: T,
-        message: &mut Option<T>,
-    ) -> Poll<Result<(), T>> {
-        let mut state = self.shared.state();
-        let back = match state.send(unsent) {
-            Sent::Full(unsent) => {
-                let unused = state.senders.enter(self.number, waker);
-                drop(state);
-                self.waits = true;
-                *message = Some(unsent);
-                wake_unless_kept(unused);
-                return Poll::Pending;
-            }
-            Sent::Kept(due) => {
-                drop(state);
-                due.wake();
-                Ok(())
-            }
-            Sent::Closed(unsent) => {
-                drop(state);
-                Err(unsent)
-            }
-        };
-        drop(waker);
-        self.stop_waiting();
-        Poll::Ready(back)
-    }
-
-    fn stop_waiting(&mut self) {
-        if self.waits {
-            self.waits = false;
-            self.shared.leave_senders(self.number);
-        }
-    }
-
-    /// A future that sends this message, or gives it back if there is no receiver.
+    /// How many messages are inside.
     ///
-    /// Example: `uses::send_below`, which `uses::sends_to_a_task` calls.
+    /// Example: `uses::closes_a_channel`.
     ///
     /// ```text
-    /// block_on(rt, alloc, sender.send(number)).ok()?.ok()?;
+    /// let left = receiver.channel().len();
     /// ```
-    pub fn send(&mut self, message: T) -> Send<'_, T, S, V, R> {
-        Send {
-            sender: self,
-            message: Some(message),
-        }
+    pub fn len(&self) -> usize {
+        self.state().messages.len()
     }
-}
 
-impl<T: Drop, S: Wake, V: Wake, R: Wait + Drop> Drop for Sender<T, S, V, R> {
-    fn drop(self) {
-        let Sender {
-            shared,
-            number,
-            waits,
-        } = self;
-        if waits {
-            shared.leave_senders(number);
-        }
-        let mut state = shared.state();
-        state.senders.part();
-        let due = if state.senders.is_gone() {
-            state.receivers.all(shared.alloc)
-        } else {
-            Due::Nobody
-        };
-        drop(state);
-        due.wake();
-    }
-}
-
-/// A future that sends a message. Its drop leaves the message unsent, and another sender is told of
-/// the room that this one was told of.
-///
-/// Example: `uses::send_below`, which `uses::sends_to_a_task` calls.
-///
-/// ```text
-/// block_on(rt, alloc, sender.send(number)).ok()?.ok()?;
-/// ```
-pub struct Send<'a, T: Drop, S: Wake, V: Wake, R: Wait + Drop> {
-    sender: &'a mut Sender<T, S, V, R>,
-    message: Option<T>,
-}
-
-impl<T: Drop, S: Wake, V: Wake, R: Wait + Drop> Future<S> for Send<'_, T, S, V, R> {
-    type Output = Result<(), T>;
-
-    fn poll(&mut self, w: &S) -> Poll<Result<(), T>> {
-        self.sender.poll_send(w, &mut self.message)
-    }
-}
-
-impl<T: Drop, S: Wake, V: Wake, R: Wait + Drop> Drop for Send<'_, T, S, V, R> {
-    fn drop(self) {
-        let Send { sender, message } = self;
-        sender.stop_waiting();
-        drop(message);
-    }
-}
-
-/// Receives messages, in the order in which they were sent. A channel whose receivers are all dropped
-/// is closed: no message is taken any more.
-///
-/// Example: `uses::sends_to_a_task`.
-///
-/// ```text
-/// type Arrivals<R> = Receiver<u32, ThreadWaker, TaskWaker<ThreadWaker, R>, R>;
-/// ```
-pub struct Receiver<T: Drop, S: Wake, V: Wake, R: Wait + Drop> {
-    shared: Arc<Shared<T, S, V, R>>,
-    number: u64,
-    waits: bool,
-}
-
-impl<T: Drop, S: Wake, V: Wake, R: Wait + Drop> Receiver<T, S, V, R> {
-    /// Another receiver of the same channel. Each message goes to one of them.
+    /// Whether no message is inside.
     ///
-    /// # Errors
-    ///
-    /// `OutOfMemory` if memory for its place among those that wait is refused.
-    ///
-    /// Example: `uses::tries`.
+    /// Example: `uses::closes_a_channel`.
     ///
     /// ```text
-    /// let mut second = first.copy().ok()?;
+    /// let is_empty = receiver.channel().is_empty();
     /// ```
-    pub fn copy(&self) -> Result<Receiver<T, S, V, R>, OutOfMemory> {
-        let shared = Arc::try_clone(&self.shared)?;
-        let number = shared.state().receivers.join()?;
-        Ok(Receiver {
-            shared,
-            number,
-            waits: false,
-        })
+    pub fn is_empty(&self) -> bool {
+        self.len() == 0
     }
 
-    /// Takes the first message, if there is one.
+    /// Whether there is no room for a message.
     ///
-    /// # Errors
-    ///
-    /// `NoMessage`.
-    ///
-    /// Example: `uses::tries`.
+    /// Example: `uses::closes_a_channel`.
     ///
     /// ```text
-    /// let message = first.try_receive().ok()?;
-    /// let none = second.try_receive().err()?;
+    /// let is_full = receiver.channel().is_full();
     /// ```
-    pub fn try_receive(&mut self) -> Result<T, NoMessage> {
-        let received = self.shared.state().receive();
-        match received {
-            Received::Message(message, due) => {
-                due.wake();
-                self.stop_waiting();
-                Ok(message)
-            }
-            Received::Empty => Err(NoMessage::Empty),
-            Received::Closed => Err(NoMessage::Closed),
-        }
+    pub fn is_full(&self) -> bool {
+        self.len() >= self.capacity
     }
 
-    /// Gives the first message, once there is one, or None if there is none and no sender. While it is
-    /// pending, a copy of the waker is woken once there is a message. If the copy is refused, the waker
-    /// itself is woken, and nothing more is kept.
+    /// For how many messages there is room. An unbounded channel has `usize::MAX`.
     ///
-    /// Who stops polling before it is ready drops the receiver, or polls a `Receive` and drops that.
-    ///
-    /// Example: `uses::sends_to_a_task`.
+    /// Example: `uses::closes_a_channel`.
     ///
     /// ```text
-    /// match self.arrivals.poll_receive(w) {
-    ///     Poll::Ready(None) => return Poll::Ready(self.total),
-    ///     Poll::Pending => return Poll::Pending,
+    /// let capacity = receiver.channel().capacity();
     /// ```
-    pub fn poll_receive(&mut self, w: &V) -> Poll<Option<T>> {
-        match self.try_receive() {
-            Ok(message) => return Poll::Ready(Some(message)),
-            Err(NoMessage::Closed) => return Poll::Ready(None),
-            Err(NoMessage::Empty) => {}
-        }
-        let Ok(waker) = w.copy() else {
-            w.wake();
-            return Poll::Pending;
-        };
-        self.receive_or_wait(waker)
+    pub fn capacity(&self) -> usize
+        ensures { result ≡ self.now.capacity }
+    {
+        self.capacity
     }
 
-    // Gives the first message, or waits with this waker.
-    fn receive_or_wait(&mut self, waker: V) -> Poll<Option<T>> {
-        let mut state = self.shared.state();
-        let message = match state.receive() {
-            Received::Empty => {
-                let unused = state.receivers.enter(self.number, waker);
-                drop(state);
-                self.waits = true;
-                wake_unless_kept(unused);
-                return Poll::Pending;
-            }
-            Received::Message(message, due) => {
-                drop(state);
-                due.wake();
-                Some(message)
-            }
-            Received::Closed => {
-                drop(state);
-                None
-            }
-        };
-        drop(waker);
-        self.stop_waiting();
-        Poll::Ready(message)
-    }
-
-    fn stop_waiting(&mut self) {
-        if self.waits {
-            self.waits = false;
-            self.shared.leave_receivers(self.number);
-        }
-    }
-
-    /// A future of the next message, or of None if there is none and no sender.
+    /// How many senders there are.
     ///
-    /// Example: `uses::take_jobs`, which `uses::answers_in_order` calls.
+    /// Example: `uses::closes_a_channel`.
     ///
     /// ```text
-    /// let Some(job) = block_on(rt, alloc, jobs.receive()).ok()? else {
+    /// let senders = receiver.channel().sender_count();
     /// ```
-    pub fn receive(&mut self) -> Receive<'_, T, S, V, R> {
-        Receive { receiver: self }
+    pub fn sender_count(&self) -> usize {
+        self.state().senders.ends
     }
-}
 
-impl<T: Drop, S: Wake, V: Wake, R: Wait + Drop> Drop for Receiver<T, S, V, R> {
-    fn drop(self) {
-        let Receiver {
-            shared,
-            number,
-            waits,
-        } = self;
-        if waits {
-            shared.leave_receivers(number);
-        }
-        let mut state = shared.state();
-        state.receivers.part();
-        let due = if state.receivers.is_gone() {
-            state.senders.all(shared.alloc)
-        } else {
-            Due::Nobody
-        };
-        drop(state);
-        due.wake();
-    }
-}
-
-/// A future of the next message. Its drop takes none, and another receiver is told of the message that
-/// this one was told of.
-///
-/// Example: `uses::take_jobs`, which `uses::answers_in_order` calls.
-///
-/// ```text
-/// let Some(job) = block_on(rt, alloc, jobs.receive()).ok()? else {
-/// ```
-pub struct Receive<'a, T: Drop, S: Wake, V: Wake, R: Wait + Drop> {
-    receiver: &'a mut Receiver<T, S, V, R>,
-}
-
-impl<T: Drop, S: Wake, V: Wake, R: Wait + Drop> Future<V> for Receive<'_, T, S, V, R> {
-    type Output = Option<T>;
-
-    fn poll(&mut self, w: &V) -> Poll<Option<T>> {
-        self.receiver.poll_receive(w)
-    }
-}
-
-impl<T: Drop, S: Wake, V: Wake, R: Wait + Drop> Drop for Receive<'_, T, S, V, R> {
-    fn drop(self) {
-        let Receive { receiver } = self;
-        receiver.stop_waiting();
+    /// How many receivers there are.
+    ///
+    /// Example: `uses::closes_a_channel`.
+    ///
+    /// ```text
+    /// let receivers = sender.channel().receiver_count();
+    /// ```
+    pub fn receiver_count(&self) -> usize {
+        self.state().receivers.ends
     }
 }

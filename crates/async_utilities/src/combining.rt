@@ -1,11 +1,12 @@
-//! Futures made of futures: one of two kinds, one with its output changed, both of two, and the first
-//! of two. Each but `Either` lets its futures go once it is ready. It is pending from then on, and
-//! wakes nobody, since it has no second output.
-ghost use Rattle.std.specs.Prelude.{◌≡◌, ◌||◌, Some, None, true, false, is_none, IsSome, IfSome};
+//! Futures made of futures: one of two kinds, one with its output changed, one after another, both of
+//! two, and the first of two. Each but `Either` lets its futures go once it is ready. It is pending
+//! from then on, and wakes nobody, since it has no second output.
+ghost use Rattle.std.specs.Prelude.{◌≡◌, ◌||◌, Some, None, true, false, not, is_none, IsSome, IfSome};
 ghost use Rattle.executor_core.specs.declared.task.future.Poll.TheVariants.{Pending as waits};
 ghost use Rattle.async_executor.specs.Answers.{is_ready};
 ghost use Rattle.async_utilities.specs.Polls.{IfReady};
 ghost use Rattle.async_utilities.specs.Halves.{Keeps, Gave, is_open};
+ghost use Rattle.async_utilities.specs.Stages.{is_second};
 
 use async_executor::{Future, Poll};
 
@@ -107,6 +108,72 @@ impl<W, G: Future<W>, C: Change<G::Output>> Future<W> for Map<G, C> {
             Some((_, change)) => Poll::Ready(change.change(output)),
             None => unreachable!(),
         }
+    }
+}
+
+// Which of the two futures of a `Then` is polled.
+#[derive(Drop)]
+pub(crate) enum Stage<G, C, H> {
+    First(G, C),
+    Second(H),
+}
+
+/// Gives the output of a second future, which a `Change` makes of the output of the first.
+///
+/// Example: `uses::follows`.
+///
+/// ```text
+/// let mut both = Then::new(Ready::new(2), Begins { number: 1 });
+/// ```
+#[derive(Drop)]
+pub struct Then<G, C, H> {
+    stage: Option<Stage<G, C, H>>,
+}
+
+impl<G, C, H> Then<G, C, H> {
+    /// Makes the second future once the first is ready.
+    ///
+    /// Example: `uses::follows`.
+    ///
+    /// ```text
+    /// let mut both = Then::new(Ready::new(2), Begins { number: 1 });
+    /// ```
+    pub fn new(first: G, change: C) -> Then<G, C, H>
+        ensures { result.stage ≡ Some (Stage.First first change) }
+    {
+        Then {
+            stage: Some(Stage::First(first, change)),
+        }
+    }
+}
+
+impl<W, G: Future<W>, C: Change<G::Output>> Future<W> for Then<G, C, C::Output>
+where
+    C::Output: Future<W>,
+{
+    type Output = <C::Output as Future<W>>::Output;
+
+    fn poll(&mut self, w: &W) -> Poll<<C::Output as Future<W>>::Output>
+        ensures ended { IsSome self.old.stage → is_none self.new.stage ≡ is_ready result }
+        ensures again { self.old.stage ≡ None → (result ≡ waits) × (self.new.stage ≡ None) }
+        ensures second { IfSome self.old.stage (λ old. IfSome self.new.stage (λ new. is_second old ≡ true → is_second new ≡ true)) }
+    {
+        if let Some(Stage::First(first, _)) = &mut self.stage {
+            let Poll::Ready(output) = first.poll(w) else {
+                return Poll::Pending;
+            };
+            if let Some(Stage::First(_, change)) = self.stage.take() {
+                self.stage = Some(Stage::Second(change.change(output)));
+            }
+        }
+        let Some(Stage::Second(second)) = &mut self.stage else {
+            return Poll::Pending;
+        };
+        let answer = second.poll(w);
+        if let Poll::Ready(_) = &answer {
+            self.stage = None;
+        }
+        answer
     }
 }
 
@@ -244,9 +311,76 @@ impl<W, A: Future<W>, B: Future<W, Output = A::Output>> Future<W> for Or<A, B> {
         let Some((left, right)) = &mut self.both else {
             return Poll::Pending;
         };
-        let answer = match left.poll(w) {
-            Poll::Pending => right.poll(w),
-            Poll::Ready(output) => Poll::Ready(output),
+        let answer = poll_first_of(left, right, w);
+        if let Poll::Ready(_) = &answer {
+            self.both = None;
+        }
+        answer
+    }
+}
+
+// Polls one, and the other one if that is pending.
+fn poll_first_of<W, A: Future<W>, B: Future<W, Output = A::Output>>(
+    first: &mut A,
+    second: &mut B,
+    w: &W,
+) -> Poll<A::Output> {
+    match first.poll(w) {
+        Poll::Pending => second.poll(w),
+        Poll::Ready(output) => Poll::Ready(output),
+    }
+}
+
+/// Gives the output of the first of two futures that is ready, and is fair if both are: it polls the
+/// left one first, then the right one, and so on by turns. The other future is dropped then.
+///
+/// Example: `uses::alternates`.
+///
+/// ```text
+/// let mut race = Race::new(Late::new(1), Late::new(2));
+/// ```
+#[derive(Drop)]
+pub struct Race<A, B> {
+    both: Option<(A, B)>,
+    is_right_first: bool,
+}
+
+impl<A, B> Race<A, B> {
+    /// Awaits the first of them.
+    ///
+    /// Example: `uses::alternates`.
+    ///
+    /// ```text
+    /// let mut race = Race::new(Late::new(1), Late::new(2));
+    /// ```
+    pub fn new(left: A, right: B) -> Race<A, B>
+        ensures both { result.both ≡ Some (left, right) }
+        ensures turn { result.is_right_first ≡ false }
+    {
+        Race {
+            both: Some((left, right)),
+            is_right_first: false,
+        }
+    }
+}
+
+impl<W, A: Future<W>, B: Future<W, Output = A::Output>> Future<W> for Race<A, B> {
+    type Output = A::Output;
+
+    fn poll(&mut self, w: &W) -> Poll<A::Output>
+        ensures ended { IsSome self.old.both → is_none self.new.both ≡ is_ready result }
+        ensures again { self.old.both ≡ None → (result ≡ waits) × (self.new.both ≡ None) }
+        ensures turn { IsSome self.old.both → self.new.is_right_first ≡ not self.old.is_right_first }
+    {
+        let Some((left, right)) = &mut self.both else {
+            return Poll::Pending;
+        };
+        let is_right_first = self.is_right_first;
+        self.is_right_first = !is_right_first;
+        let answer = if is_right_first {
+            poll_first_of(right, left, w)
+        } else {
+            poll_first_of(left, right, w)
         };
         if let Poll::Ready(_) = &answer {
             self.both = None;

@@ -1,24 +1,35 @@
 //! Wakers that are to be woken.
+use crate::wait_queue::WaitQueue;
 use async_executor::Wake;
 
 /// Whom a change has to wake, once no lock is held. It cannot be dropped: `wake` is its one end.
 pub(crate) enum Due<W> {
     Nobody,
     One(W),
-    All(Vec<(u64, W)>),
 }
 
 impl<W: Wake> Due<W> {
-    /// Wakes them, each once.
+    /// Wakes it.
     pub(crate) fn wake(self) {
         match self {
             Due::Nobody => {}
             Due::One(waker) => waker.wake(),
-            Due::All(wakers) => {
-                for (_, waker) in wakers {
-                    waker.wake();
-                }
-            }
+        }
+    }
+}
+
+/// All who waited at a thing, each of whom is to be woken once no lock is held, the first one first.
+/// It cannot be dropped: `wake` is its one end.
+pub(crate) struct AllDue<W> {
+    pub(crate) waiters: WaitQueue<W>,
+}
+
+impl<W: Wake> AllDue<W> {
+    /// Wakes them, each once.
+    pub(crate) fn wake(self) {
+        let AllDue { mut waiters } = self;
+        while !waiters.is_empty() {
+            waiters.first().wake();
         }
     }
 }

@@ -1,9 +1,9 @@
-//! The outputs of many futures, in order.
-ghost use Rattle.std.specs.Prelude.{◌≡◌, ◌+◌, ◌≤◌, ◌<◌, ◌==◌, [], None, Some, IsSome, IfSome, IfOk, IfErr, reverse, is_none, vec_len, vec_capacity};
+//! The outputs of many futures: of all, in order, or of the first that is ready.
+ghost use Rattle.std.specs.Prelude.{◌≡◌, ◌+◌, ◌-◌, ◌≤◌, ◌<◌, ◌==◌, [], None, Some, IsSome, IfSome, IfNone, IfOk, IfErr, reverse, drop, take, is_none, vec_len, vec_capacity};
 ghost use Rattle.executor_core.specs.declared.task.future.Poll.TheVariants.{Pending as waits};
 ghost use Rattle.async_executor.specs.Answers.{is_ready};
 ghost use Rattle.async_utilities.specs.Polls.{IfReady};
-ghost use Rattle.async_utilities.specs.Joins.{Joins};
+ghost use Rattle.async_utilities.specs.Joins.{Awaits, IsFirstOf, Joins};
 
 use async_executor::{Future, Poll};
 use std::alloc::{AllocFailed, Global};
@@ -69,6 +69,7 @@ impl<G, T> Joining<G, T> {
         G: Future<W, Output = T>,
         ensures joined { Joins self.old.outputs.items (vec_len self.old.left) self.new.outputs.items (vec_len self.new.left) }
         ensures all { result ≡ (vec_len self.new.left == 0) }
+        ensures order { Awaits self.old.left.items self.new.left.items }
     {
         while let Some(future) = self.left.last_mut() {
             let Poll::Ready(output) = future.poll(w) else {
@@ -90,6 +91,7 @@ impl<W, G: Future<W>> Future<W> for JoinAll<G, G::Output> {
         ensures all { IfSome self.old.inner (λ inner. IfReady result (λ outputs. Joins inner.outputs.items (vec_len inner.left) outputs.items 0)) }
         ensures kept { IfSome self.old.inner (λ old. IfSome self.new.inner (λ new. Joins old.outputs.items (vec_len old.left) new.outputs.items (vec_len new.left))) }
         ensures left { IfSome self.new.inner (λ inner. 0 < vec_len inner.left) }
+        ensures order { IfSome self.old.inner (λ old. IfSome self.new.inner (λ new. Awaits old.left.items new.left.items)) }
     {
         let Some(inner) = &mut self.inner else {
             return Poll::Pending;
@@ -99,6 +101,102 @@ impl<W, G: Future<W>> Future<W> for JoinAll<G, G::Output> {
         }
         match self.inner.take() {
             Some(inner) => Poll::Ready(inner.outputs),
+            None => unreachable!(),
+        }
+    }
+}
+
+/// The first of many futures that was ready.
+///
+/// Example: `uses::picks`.
+///
+/// ```text
+/// let first = block_on(rt, alloc, AnyOf::new(futures)).ok()?;
+/// Some((first.place, first.output, first.others.len()))
+/// ```
+#[derive(Debug, PartialEq, Eq, Drop)]
+pub struct First<G, T> {
+    /// Its place among them.
+    pub place: usize,
+    /// Its output.
+    pub output: T,
+    /// The others, in their order.
+    pub others: Vec<G>,
+}
+
+/// Gives the output of the first of many futures that is ready, its place among them, and the others,
+/// which may be awaited on. If several are ready at one poll, it is the one that stands first. Each
+/// poll polls them all, so it is for few; of many tasks, give each an end of a channel.
+///
+/// It is pending from then on, and wakes nobody.
+///
+/// Example: `uses::picks`.
+///
+/// ```text
+/// let first = block_on(rt, alloc, AnyOf::new(futures)).ok()?;
+/// ```
+#[derive(Drop)]
+pub struct AnyOf<G> {
+    futures: Option<Vec<G>>,
+}
+
+impl<G> AnyOf<G> {
+    /// Awaits the first of them. Of none there is no first: ask `is_empty` before.
+    ///
+    /// Example: `uses::picks`.
+    ///
+    /// ```text
+    /// let first = block_on(rt, alloc, AnyOf::new(futures)).ok()?;
+    /// ```
+    pub fn new(futures: Vec<G>) -> AnyOf<G>
+        requires { 0 < vec_len futures }
+        ensures { result.futures ≡ Some futures }
+    {
+        AnyOf {
+            futures: Some(futures),
+        }
+    }
+}
+
+// Polls them in order until one is ready. Gives its place and its output.
+fn poll_any<W, G: Future<W>>(futures: &mut Vec<G>, w: &W) -> Option<(usize, G::Output)>
+    ensures all { vec_len futures.new ≡ vec_len futures.old }
+    ensures place { IfSome result (λ first. first.0 < vec_len futures.old) }
+    ensures others { IfSome result (λ first. drop (first.0 + 1) futures.new.items ≡ drop (first.0 + 1) futures.old.items) }
+{
+    for place in 0..futures.len() {
+        if let Poll::Ready(output) = futures[place].poll(w) {
+            return Some((place, output));
+        }
+    }
+    None
+}
+
+impl<W, G: Future<W>> Future<W> for AnyOf<G> {
+    type Output = First<G, G::Output>;
+
+    fn poll(&mut self, w: &W) -> Poll<First<G, G::Output>>
+        ensures ended { IsSome self.old.futures → is_none self.new.futures ≡ is_ready result }
+        ensures again { self.old.futures ≡ None → (result ≡ waits) × (self.new.futures ≡ None) }
+        ensures first { IfSome self.old.futures (λ futures. IfReady result (λ first. IsFirstOf futures.items first.place first.others.items)) }
+        ensures all { IfSome self.old.futures (λ old. IfSome self.new.futures (λ new. vec_len new ≡ vec_len old)) }
+    {
+        let Some(futures) = &mut self.futures else {
+            return Poll::Pending;
+        };
+        let Some((place, output)) = poll_any(futures, w) else {
+            return Poll::Pending;
+        };
+        match self.futures.take() {
+            Some(futures) => {
+                let mut others = futures;
+                drop(others.remove(place));
+                Poll::Ready(First {
+                    place,
+                    output,
+                    others,
+                })
+            }
             None => unreachable!(),
         }
     }

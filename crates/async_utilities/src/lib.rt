@@ -1,5 +1,5 @@
 //! What programs need beside an executor: a thread that waits for a future, a waker that does nothing,
-//! small futures, joins, a signal, a channel, timers, and a pool of threads.
+//! small futures, joins, a signal, a channel, timers, a pool of threads, and work on it that blocks.
 //!
 //! It stands on what `async_executor` makes public. Its futures are for wakers of any type, and its
 //! wakers serve any future.
@@ -15,13 +15,21 @@ pub mod noop;
 pub mod pooling;
 pub mod signals;
 pub mod timers;
+pub mod unblocking;
+pub(crate) mod wait_queue;
 
 pub use blocking::{BlockOnError, ThreadWaker, block_on, poll_until_ready, run_until};
-pub use channels::{NoMessage, Receive, Receiver, Send, Sender, Unsent, bounded};
-pub use combining::{Change, Either, Map, Or, Zip};
+pub use channels::{
+    Channel, NoMessage, Receive, Receiver, Send, Sender, Unsent, bounded, unbounded,
+};
+pub use combining::{Change, Either, Map, Or, Race, Then, Zip};
 pub use immediate::{Never, Ready, YieldNow};
-pub use joining::JoinAll;
+pub use joining::{AnyOf, First, JoinAll};
 pub use noop::NoopWaker;
 pub use pooling::{Pool, PoolError};
 pub use signals::{Signal, Waiting};
-pub use timers::{After, Reading, TimedOut, Timeout, Timer, TimerError, TimerFailed};
+pub use timers::{
+    After, Driver, Firing, Interval, Next, Reading, TimedOut, Timeout, Timer, TimerError,
+    TimerFailed,
+};
+pub use unblocking::{Answer, Job, Work};

@@ -69,14 +69,26 @@ where
     executor: Arc<Executor<F, ThreadWaker, R>>,
     stop: Signal<ThreadWaker, R>,
     started: Started,
-    alloc: Global,
-    rt: R,
+    pub(crate) alloc: Global,
+    pub(crate) rt: R,
+}
+
+// A thread that was started. It cannot be dropped: `join` is its one end.
+struct Worker {
+    thread: JoinHandle<Ended>,
+}
+
+impl Worker {
+    // Waits for it, and says what came of it.
+    fn join<R: Threads>(self, rt: &R) -> Ended {
+        let Worker { thread } = self;
+        thread.join(rt)
+    }
 }
 
 // The threads that were started, with room for what comes of each.
-#[derive(Drop)]
 struct Started {
-    threads: Vec<JoinHandle<Ended>>,
+    threads: Vec<Worker>,
     ended: Vec<Ended>,
     ghost none_ended: { vec_len ended ≡ 0 },
     ghost room: { vec_len threads ≤ vec_capacity ended },
@@ -105,7 +117,7 @@ impl Started {
     }
 
     // One thread more.
-    fn add(&mut self, thread: JoinHandle<Ended>)
+    fn add(&mut self, thread: Worker)
         requires room { vec_len self.old.threads < vec_capacity self.old.threads }
         requires ended { vec_len self.old.threads < vec_capacity self.old.ended }
         ensures { vec_len self.new.threads ≡ vec_len self.old.threads + 1 }
@@ -118,10 +130,11 @@ impl Started {
         ensures { vec_len result ≡ vec_len self.threads }
     {
         let Started { threads, ended } = self;
-        let mut ended = ended;
-        for thread in threads {
+        let (mut threads, mut ended) = (threads.into_iter(), ended);
+        while let Some(thread) = threads.next() {
             ended.push_reserved(thread.join(rt));
         }
+        threads.destroy_empty();
         ended
     }
 }
@@ -275,7 +288,7 @@ where
         };
         match thread::spawn(&self.rt, work) {
             Ok(thread) => {
-                self.started.add(thread);
+                self.started.add(Worker { thread });
                 Ok(())
             }
             Err(_) => Err(PoolError::NoThread),

@@ -1,11 +1,14 @@
 //! A signal that is set once, and that any number of futures await.
-ghost use Rattle.std.specs.Prelude.{◌≡◌, None, Some, IsSome, is_none, IfOk, IsOk, OnErr};
-ghost use Rattle.slab.specs.Slab.{get, Updates, ContainsKey, SameValues};
-ghost use Rattle.async_utilities.specs.Places.{waker_in, IfOpen};
+ghost use Rattle.std.specs.Prelude.{◌≡◌, ◌+◌, ◌++◌, ◌∷◌, [], true, false, None, Some, IsSome, IsOk, IfOk, OnErr};
+ghost use Rattle.std.specs.Arc.{arc_value};
+ghost use Rattle.async_utilities.specs.Links.{without};
+ghost use Rattle.async_utilities.specs.WaitQueue.{Moves, Stays, WaitsAt, place_at, waker_of};
 
+use crate::due::AllDue;
+use crate::wait_queue::WaitQueue;
 use async_executor::{Future, OutOfMemory, Poll, Wake};
-use slab::Slab;
 use std::alloc::Global;
+use std::mem::replace;
 use std::sync::{Arc, Mutex, MutexGuard, Wait};
 
 /// A signal that is set once, and stays set. Any number of futures await it, each by a `Waiting` of
@@ -26,86 +29,83 @@ pub struct Signal<W: Wake, R: Wait + Drop> {
 
 #[derive(Drop)]
 struct Shared<W: Wake, R: Wait + Drop> {
-    waiters: Mutex<Waiters<W>>,
+    state: Mutex<State<W>>,
     alloc: Global,
     rt: R,
 }
 
-/// Who waits for a signal, each at a place of its own, with the waker that it left there. There are no
-/// places once the signal is set.
+/// Whether a signal is set, and who waits for it. Once it is set, nobody does.
 #[derive(Drop)]
-pub(crate) struct Waiters<W> {
-    places: Option<Slab<Option<W>>>,
+pub(crate) struct State<W> {
+    is_set: bool,
+    waiters: WaitQueue<W>,
+    ghost nobody_waits: { is_set ≡ true → waiters.waiting ≡ [] },
 }
 
-impl<W: Drop> Waiters<W> {
+impl<W: Drop> State<W> {
+    ghost use Rattle.async_utilities.specs.Signals.{Joins, Sets};
+
     // Nobody waits, and the signal is not set.
-    fn new(alloc: Global) -> Waiters<W>
-        ensures { IsSome result.places }
+    fn new(alloc: Global) -> State<W>
+        ensures { result.is_set ≡ false }
     {
-        Waiters {
-            places: Some(Slab::new(alloc)),
+        State {
+            is_set: false,
+            waiters: WaitQueue::new(alloc),
         }
     }
 
-    fn is_set(&self) -> bool
-        ensures { result ≡ is_none self.now.places }
-    {
-        self.places.is_none()
-    }
-
-    // Takes a place. Once the signal is set there are none, and any number will do.
+    // Takes a place. Once the signal is set nobody needs one, and any number will do.
     fn join(&mut self) -> Result<usize, OutOfMemory>
-        ensures joined { IfOk result (λ place. IfOpen self.old.places self.new.places (λ old new. (get old place ≡ None) × Updates old new place (Some None))) }
-        ensures refused { OnErr result (IfOpen self.old.places self.new.places SameValues) }
-        ensures set { self.old.places ≡ None → IsOk result }
+        ensures joined { IfOk result (λ place. Joins self.old place self.new) }
+        ensures refused { OnErr result (Stays self.old.waiters self.new.waiters) }
+        ensures set { self.old.is_set ≡ true → IsOk result }
+        ensures stays { self.new.is_set ≡ self.old.is_set }
     {
-        let Some(places) = &mut self.places else {
+        if self.is_set {
             return Ok(0);
-        };
-        match places.insert(None) {
-            Ok(place) => Ok(place),
-            Err(_) => Err(OutOfMemory),
         }
+        Ok(self.waiters.join()?)
     }
 
-    // Leaves a waker at its place, in place of an earlier one, and gives what is not kept: the earlier
-    // one, or this one if the signal is set.
-    fn leave(&mut self, place: usize, waker: W) -> Option<W>
-        ensures left { IfOpen self.old.places self.new.places (λ old new. ContainsKey old place → Updates old new place (Some (Some waker)) × (result ≡ waker_in (get old place))) }
-        ensures absent { IfOpen self.old.places self.new.places (λ old new. get old place ≡ None → (new ≡ old) × (result ≡ Some waker)) }
-        ensures set { self.old.places ≡ None → result ≡ Some waker }
+    // Has one wait at its place with this waker, and gives what is not kept: an earlier waker, or this
+    // one if the signal is set.
+    fn wait(&mut self, place: usize, waker: W) -> Option<W>
+        ensures open { self.old.is_set ≡ false → WaitsAt self.old.waiters place waker result self.new.waiters }
+        ensures set { self.old.is_set ≡ true → (self.new.waiters ≡ self.old.waiters) × (result ≡ Some waker) }
+        ensures stays { self.new.is_set ≡ self.old.is_set }
     {
-        let Some(places) = &mut self.places else {
+        if self.is_set {
             return Some(waker);
-        };
-        match places.get_mut(place) {
-            Some(kept) => kept.replace(waker),
-            None => Some(waker),
         }
+        self.waiters.wait(place, waker)
     }
 
     // Gives a place back, with the waker that was left there.
-    fn part(&mut self, place: usize) -> Option<W>
-        ensures parted { IfOpen self.old.places self.new.places (λ old new. Updates old new place None × (result ≡ waker_in (get old place))) }
-        ensures set { self.old.places ≡ None → result ≡ None }
+    fn leave(&mut self, place: usize) -> Option<W>
+        ensures waker { result ≡ waker_of (place_at self.old.waiters place) }
+        ensures leaves { Moves self.old.waiters self.new.waiters place None (without place self.old.waiters.waiting) }
+        ensures stays { self.new.is_set ≡ self.old.is_set }
     {
-        let places = self.places.as_mut()?;
-        places.try_remove(place)?
+        self.waiters.leave(place)
     }
 
-    // Sets the signal, and gives all that waits for it. There is none if it was set before.
-    fn set(&mut self) -> Option<Slab<Option<W>>>
-        ensures waiting { result ≡ self.old.places }
-        ensures set { self.new.places ≡ None }
+    // Sets the signal, and gives all who wait for it. There are none if it was set before.
+    fn set(&mut self, alloc: Global) -> Option<AllDue<W>>
+        ensures { Sets self.old result self.new }
     {
-        self.places.take()
+        if self.is_set {
+            return None;
+        }
+        self.is_set = true;
+        let waiters = replace(&mut self.waiters, WaitQueue::new(alloc));
+        Some(AllDue { waiters })
     }
 }
 
 impl<W: Wake, R: Wait + Drop> Shared<W, R> {
-    fn waiters(&self) -> MutexGuard<'_, Waiters<W>> {
-        self.waiters.lock(&self.rt)
+    fn state(&self) -> MutexGuard<'_, State<W>> {
+        self.state.lock(&self.rt)
     }
 }
 
@@ -122,8 +122,8 @@ impl<W: Wake, R: Wait + Drop> Signal<W, R> {
     /// let stop = Signal::new(rt.clone().ok()?, alloc).ok()?;
     /// ```
     pub fn new(rt: R, alloc: Global) -> Result<Signal<W, R>, OutOfMemory> {
-        let waiters = Mutex::new(Waiters::new(alloc));
-        match Arc::new(alloc, Shared { waiters, alloc, rt }) {
+        let state = Mutex::new(State::new(alloc));
+        match Arc::new(alloc, Shared { state, alloc, rt }) {
             Ok(shared) => Ok(Signal { shared }),
             Err(_) => Err(OutOfMemory),
         }
@@ -141,13 +141,15 @@ impl<W: Wake, R: Wait + Drop> Signal<W, R> {
     /// let other = told.copy().ok()?;
     /// move || other.set(),
     /// ```
-    pub fn copy(&self) -> Result<Signal<W, R>, OutOfMemory> {
+    pub fn copy(&self) -> Result<Signal<W, R>, OutOfMemory>
+        ensures same { IfOk result (λ copy. arc_value copy.shared ≡ arc_value self.now.shared) }
+    {
         let shared = Arc::try_clone(&self.shared)?;
         Ok(Signal { shared })
     }
 
-    /// Sets the signal, and wakes each waker that waits for it, once. If it was set before, nothing
-    /// happens. No lock is held while a waker is woken.
+    /// Sets the signal, and wakes each waker that waits for it, once, in the order in which they began
+    /// to wait. If it was set before, nothing happens. No lock is held while a waker is woken.
     ///
     /// Example: `uses::pools`.
     ///
@@ -156,14 +158,9 @@ impl<W: Wake, R: Wait + Drop> Signal<W, R> {
     /// stop.set();
     /// ```
     pub fn set(&self) {
-        let waiting = self.shared.waiters().set();
-        let Some(wakers) = waiting else {
-            return;
-        };
-        for (_, waker) in wakers {
-            if let Some(waker) = waker {
-                waker.wake();
-            }
+        let all = self.shared.state().set(self.shared.alloc);
+        if let Some(all) = all {
+            all.wake();
         }
     }
 
@@ -176,7 +173,7 @@ impl<W: Wake, R: Wait + Drop> Signal<W, R> {
     /// Some((was_set, told.is_set()))
     /// ```
     pub fn is_set(&self) -> bool {
-        self.shared.waiters().is_set()
+        self.shared.state().is_set
     }
 
     /// A future that is ready once the signal is set. Its place is reserved here, so its polls take no
@@ -191,9 +188,11 @@ impl<W: Wake, R: Wait + Drop> Signal<W, R> {
     /// ```text
     /// executor.run(stop.waiting().ok()?).ok()
     /// ```
-    pub fn waiting(&self) -> Result<Waiting<W, R>, OutOfMemory> {
+    pub fn waiting(&self) -> Result<Waiting<W, R>, OutOfMemory>
+        ensures same { IfOk result (λ waiting. arc_value waiting.shared ≡ arc_value self.now.shared) }
+    {
         let shared = Arc::try_clone(&self.shared)?;
-        let place = shared.waiters().join()?;
+        let place = shared.state().join()?;
         Ok(Waiting { shared, place })
     }
 }
@@ -217,17 +216,17 @@ impl<W: Wake, R: Wait + Drop> Future<W> for Waiting<W, R> {
     type Output = ();
 
     fn poll(&mut self, w: &W) -> Poll<()> {
-        if self.shared.waiters().is_set() {
+        if self.shared.state().is_set {
             return Poll::Ready(());
         }
         let Ok(copy) = w.copy() else {
             w.wake();
             return Poll::Pending;
         };
-        let mut waiters = self.shared.waiters();
-        let unused = waiters.leave(self.place, copy);
-        let is_set = waiters.is_set();
-        drop(waiters);
+        let mut state = self.shared.state();
+        let unused = state.wait(self.place, copy);
+        let is_set = state.is_set;
+        drop(state);
         drop(unused);
         if is_set {
             Poll::Ready(())
@@ -240,7 +239,7 @@ impl<W: Wake, R: Wait + Drop> Future<W> for Waiting<W, R> {
 impl<W: Wake, R: Wait + Drop> Drop for Waiting<W, R> {
     fn drop(self) {
         let Waiting { shared, place } = self;
-        let left = shared.waiters().part(place);
+        let left = shared.state().leave(place);
         drop(left);
     }
 }

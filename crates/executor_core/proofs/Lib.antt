@@ -10,6 +10,7 @@ pub mod GatherLemmas
 pub mod LimitLemmas
 pub mod LinkLemmas
 pub mod ListLemmas
+pub mod LookLemmas
 pub mod OrderLemmas
 pub mod QueueLemmas
 pub mod QueueListLemmas

@@ -447,7 +447,7 @@ module _ {X : Type 0} where
   pub search-permutes : (k word : ℕ) (q : QueueLists X) (x : X) → (search k word q).0 ≡ Some x → IsPermutation (all_entries q) (x ∷ all_entries (search k word q).1)
   search-permutes k word q x found = search_at-permutes (position_of k q.locals) word q x found
 
-  local_front-none : (r : ℕ) (es : List X) (q : QueueLists X) → (local_front r es q).0 ≡ None → es ≡ []
+  pub local_front-none : (r : ℕ) (es : List X) (q : QueueLists X) → (local_front r es q).0 ≡ None → es ≡ []
   local_front-none r [] q none = refl
   local_front-none r (x ∷ es) q none = absurd (cc)
 
@@ -496,7 +496,7 @@ module _ {X : Type 0} where
         | inr some ↦ let here : Some i ≡ None = sym (ap (λ b. cond (not b) (Some i) (position_from (λ (q : RunnerQueue X). not (length q.entries == 0)) (i + 1) rest)) some) ∙ none in absurd (cc)
       ]
 
-  some_occupied : (r : ℕ) (locals : List (RunnerQueue X)) → first_occupied locals ≡ Some r → entries_at r locals ≢ []
+  pub some_occupied : (r : ℕ) (locals : List (RunnerQueue X)) → first_occupied locals ≡ Some r → entries_at r locals ≢ []
   some_occupied r locals found empty =
       let other : RunnerQueue X = record { runner = 0; entries = []; capacity = 0 } in
       let parts = position-Some (λ (q : RunnerQueue X). not (length q.entries == 0)) locals r other found in

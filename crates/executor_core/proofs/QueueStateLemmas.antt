@@ -41,7 +41,7 @@ count_seen s g items next free n view is = is ∙ sym (length-map items local_of
 
 -- the queue with another ring
 abbrev pub with_ring : LocalQueue → IdRing → LocalQueue
-with_ring l ring = record { runner = l.runner; ring = ring }
+with_ring l ring = record l { ring = ring }
 
 pub written : (items : List LocalQueue) (r : ℕ) (l : LocalQueue) (ring : IdRing) → slice_get items r ≡ Some l → ring.capacity ≡ l.ring.capacity → map local_of (slice_set items r (with_ring l ring)) ≡ with_entries r ring.ids (map local_of items)
 written items r l ring is same =

@@ -13,6 +13,7 @@ ghost use Rattle.executor_core.specs.Cells.View.{scheduled_slot, TakesOut};
 ghost use Rattle.executor_core.specs.Slots.{HasCell};
 ghost use Rattle.executor_core.specs.Cells.Calls.{after_take, TakesFront, after_take_any, TakesAny, after_search, search_in, TakesFound, after_drain_next, draining, after_fair, after_reserve_runner, after_release_runner, may_register, after_register, after_unregister, unregister_queues};
 
+pub(crate) mod looking;
 pub(crate) mod queues;
 pub(crate) mod ring;
 pub(crate) mod runner;

@@ -1,11 +1,11 @@
 //! An executor for each level of urgency.
-ghost use Rattle.std.specs.Prelude.{◌≡◌, ◌<◌, ◌-◌, ◌^◌, false, IfOk, IfErr, IsSomeAnd, All, length, vec_len};
+ghost use Rattle.std.specs.Prelude.{◌≡◌, ◌<◌, ◌-◌, ◌^◌, None, false, IfOk, IfErr, IsSomeAnd, All, length, vec_len};
 ghost use Rattle.executor_core.specs.SpawnError.{refused_future};
 
 use crate::answers::Answers;
 use crate::asker::{Asker, choose};
-use crate::tick::{LevelTicks, PriorityTick};
-use async_executor::{Executor, Future, OutOfMemory, SpawnError, Task, TaskWaker, Tick, Wake};
+use crate::tick::{LevelSleepers, PriorityTick};
+use async_executor::{Executor, Future, OutOfMemory, SpawnError, Task, TaskWaker, Wake};
 use std::alloc::Global;
 use std::sync::Wait;
 
@@ -127,11 +127,11 @@ where
     }
 
     /// A future that runs one task, of the lowest level that has one scheduled, and sleeps while there
-    /// is none. It has a tick of each level, whose places are reserved here.
+    /// is none. It has a sleeper of each level, whose places are reserved here.
     ///
     /// # Errors
     ///
-    /// `OutOfMemory` if memory for a tick is refused. Those that were made are dropped, and all is as
+    /// `OutOfMemory` if memory for a sleeper is refused. Those that were made are dropped, and all is as
     /// before.
     ///
     /// Example: `uses::accepts`.
@@ -141,15 +141,16 @@ where
     ///     break;
     /// }
     /// ```
-    pub fn tick(&self) -> Result<PriorityTick<Tick<'_, F, W, R>, N>, OutOfMemory>
-        ensures { IfOk result (λ tick. IsSomeAnd tick.ticks (λ ticks. All (λ one. one.inner.rest.ended ≡ false) ticks.levels.items)) }
+    pub fn tick(&self) -> Result<PriorityTick<'_, F, W, R, N>, OutOfMemory>
+        ensures { IfOk result (λ tick. IsSomeAnd tick.sleepers (λ sleepers. All (λ s. s.inner.number ≡ None) sleepers.levels.items)) }
     {
         let mut levels = Vec::with_capacity(*self.levels.allocator(), N)?;
         for level in &self.levels {
-            levels.push_reserved(level.tick()?);
+            let sleeper = level.sleeper()?;
+            levels.push_reserved(sleeper);
         }
         Ok(PriorityTick {
-            ticks: Some(LevelTicks { levels }),
+            sleepers: Some(LevelSleepers { levels }),
         })
     }
 }

@@ -1,12 +1,10 @@
 -- What the table of a run sees of its machine, and that a decision is a row of it.
 use Rattle.std.specs.Prelude.{◌≡◌, ℕ, Bool, true, false, Option, Some, None}
-use Rattle.executor_core.specs.declared.interleave.ticker.Ticker.{Ticker}
+use Rattle.async_executor.specs.Ticks.Replies.{actor_of, is_seeking}
 use Rattle.async_executor.specs.Ticks.Rows as ticks
 use Rattle.async_executor.specs.Ticks.Table as tick
-use Rattle.async_executor.specs.Runs.{RunAsked, asked_in}
+use Rattle.async_executor.specs.Runs.{asked_in}
 use Rattle.async_executor.specs.Runs.Table.{Kept, Next, Ask, End, Row, table}
-use Rattle.async_executor.specs.Runs.Tickers.{ticker_in, ticker_after}
-use Rattle.async_executor.specs.declared.machine.run.Aim.TheVariants.{Work, PassOn, Leave}
 use Rattle.async_executor.specs.declared.machine.run.Runner.{Runner}
 use Rattle.async_executor.specs.declared.machine.run.RunMachine.{RunMachine}
 use Rattle.async_executor.specs.declared.machine.run.RunNext.{RunNext}
@@ -15,23 +13,28 @@ use Rattle.async_executor.specs.declared.machine.run.RunReply.{RunReply}
 use Rattle.async_executor.specs.declared.machine.run.Stage.{Stage}
 use Rattle.async_executor.specs.declared.machine.run.Stage.TheVariants as stage
 use Rattle.async_executor.specs.declared.machine.run.RunState.{RunState}
-use Rattle.async_executor.specs.declared.machine.run.RunState.TheVariants.{Starting, Resting, Registering, PollingOwn, Ticking, Sharing, Unregistering, Releasing}
+use Rattle.async_executor.specs.declared.machine.run.RunState.TheVariants as state
+use Rattle.async_executor.specs.declared.machine.run_steps.Begun.{Begun}
+use Rattle.async_executor.specs.declared.machine.run_steps.Begun.TheVariants as begun
 
 -- what a runner keeps beside its tick, by whether it is registered and what number it removes later
 abbrev pub keeps : Runner → Bool → Option ℕ → tick.Kept → Kept
 keeps runner registered later kept = record { tick = kept; count = runner.count; found = runner.found; registered = registered; later = later }
 
-abbrev pub kept_in : Runner → RunState → Kept
-kept_in runner Starting = keeps runner false None tick.nothing
-kept_in runner (Resting number) = keeps runner true None (tick.keeps number)
-kept_in runner Registering = keeps runner false None tick.nothing
-kept_in runner (PollingOwn number) = keeps runner true None (tick.keeps number)
-kept_in runner (Ticking Work machine) = keeps runner true None (ticks.kept_in machine.state)
-kept_in runner (Ticking (PassOn number) machine) = keeps runner false (Some number) (ticks.kept_in machine.state)
-kept_in runner (Ticking Leave machine) = keeps runner false None (ticks.kept_in machine.state)
-kept_in runner (Sharing machine taken) = keeps runner true None (record (ticks.kept_in machine.state) { task = Some taken })
-kept_in runner (Unregistering number) = keeps runner true None (tick.keeps number)
-kept_in runner Releasing = keeps runner false None tick.nothing
+abbrev pub kept_begun : Begun → Kept
+kept_begun (begun.Register registering) = keeps registering.runner false None tick.nothing
+kept_begun (begun.PollOwn polling) = keeps polling.runner true None (tick.keeps polling.number)
+
+abbrev pub kept_in : RunState → Kept
+kept_in (state.Resting begun) = kept_begun begun
+kept_in (state.Registering registering) = keeps registering.runner false None tick.nothing
+kept_in (state.PollingOwn polling) = keeps polling.runner true None (tick.keeps polling.number)
+kept_in (state.Waiting waiting) = keeps (actor_of waiting) (is_seeking waiting) None (ticks.kept_of waiting)
+kept_in (state.Sharing sharing) = keeps sharing.runner true None (record tick.nothing { task = Some sharing.taken })
+kept_in (state.Running under_way) = keeps under_way.runner true None tick.nothing
+kept_in (state.Unregistering unregistering) = keeps unregistering.runner true None (tick.keeps unregistering.number)
+kept_in (state.PassingOn spending left) = keeps left.runner false (Some left.number) tick.nothing
+kept_in (state.Releasing releasing) = keeps releasing.runner false None tick.nothing
 
 abbrev pub kept_at : Runner → Stage → Kept
 kept_at runner stage.New = keeps runner false None tick.nothing
@@ -44,17 +47,11 @@ module _ {W : Type 0} where
   next_of (Rest rest end) = End end
 
   abbrev pub kept_after : RunNext W → Kept
-  kept_after (Act machine action) = kept_in machine.runner machine.state
+  kept_after (Act machine action) = kept_in machine.state
   kept_after (Rest rest end) = kept_at rest.runner rest.stage
 
-  -- the reply answers what the row says, and what is asked next and kept is the row's, and so is the step of the ticker
-  abbrev pub IsRowFrom : RunAsked → (Bool → Ticker) → Row W → RunNext W → Type 0
-  IsRowFrom asked here row next =
-      (asked ≡ row.answers) × (next_of next ≡ row.next) × (kept_after next ≡ row.kept) × ((notified : Bool) → ticker_after next ≡ row.step (here notified))
-
-  abbrev pub IsRowIn : Runner → RunState → RunReply W → RunNext W → Type 0
-  IsRowIn runner state reply next =
-      IsRowFrom (asked_in state) (λ notified. ticker_in runner notified state) (table (asked_in state) (kept_in runner state) reply) next
-
+  -- the reply answers what the row says, and what is asked next and kept is the row's
   abbrev pub IsRow : RunMachine → RunReply W → RunNext W → Type 0
-  IsRow machine reply next = IsRowIn machine.runner machine.state reply next
+  IsRow machine reply next =
+      let row : Row W = table (asked_in machine.state) (kept_in machine.state) reply in
+      (asked_in machine.state ≡ row.answers) × (next_of next ≡ row.next) × (kept_after next ≡ row.kept)

@@ -12,10 +12,10 @@ use Rattle.async_executor.specs.declared.machine.run.RunAction.{RunAction}
 use Rattle.async_executor.specs.declared.machine.run.RunAction.TheVariants as asks
 use Rattle.async_executor.specs.declared.machine.run.RunReply.{RunReply}
 use Rattle.async_executor.specs.declared.machine.run.RunReply.TheVariants.{Begin, Dropped, Registered, NotRegistered, OwnPending, OwnReady, Tick, Moved, Unregistered, Released}
-use Rattle.async_executor.specs.declared.machine.tick.TickAction.TheVariants.{Search, Remove, Exchange, Run}
-use Rattle.async_executor.specs.declared.machine.tick.TickEnd.{TickEnd}
-use Rattle.async_executor.specs.declared.machine.tick.TickEnd.TheVariants.{Yield, Return}
-use Rattle.async_executor.specs.declared.machine.tick.TickReply.TheVariants.{Ran}
+use Rattle.async_executor.specs.declared.machine.waiting.TickAction.TheVariants.{Search, Remove, Exchange, Run}
+use Rattle.async_executor.specs.declared.machine.waiting.TickEnd.{TickEnd}
+use Rattle.async_executor.specs.declared.machine.waiting.TickEnd.TheVariants.{Yield, Return}
+use Rattle.async_executor.specs.declared.machine.waiting.TickReply.TheVariants.{Ran}
 
 -- what a machine keeps: what its tick keeps, or its number; how many tasks it ran in this turn, and how many it found since its last fair part, each with its limit; whether
 -- its runner is registered; and, while the notice of its ended queue is spent, the number that it removes after that

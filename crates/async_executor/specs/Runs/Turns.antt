@@ -1,28 +1,23 @@
 -- The turn of a run: how many tasks it runs before it yields.
 use Rattle.std.specs.Prelude.{◌≡◌, ◌<◌, ℕ, ◌+◌, ◌==◌, cond}
-use Rattle.async_executor.specs.Ticks.{Asked, AskRun}
-use Rattle.async_executor.specs.Ticks as ticks
+use Rattle.async_executor.specs.Runs.{runner_of}
 use Rattle.async_executor.specs.declared.machine.run.RunState.{RunState}
-use Rattle.async_executor.specs.declared.machine.run.RunState.TheVariants.{Ticking}
+use Rattle.async_executor.specs.declared.machine.run.RunState.TheVariants.{Running}
 use Rattle.async_executor.specs.declared.machine.run.RunAction.{RunAction}
 use Rattle.async_executor.specs.declared.machine.run.RunAction.TheVariants as asks
 use Rattle.async_executor.specs.declared.machine.run.RunMachine.{RunMachine}
 use Rattle.async_executor.specs.declared.machine.run.RunNext.{RunNext}
 use Rattle.async_executor.specs.declared.machine.run.RunNext.TheVariants.{Act, Rest}
-use Rattle.async_executor.specs.declared.machine.tick.TickAction.TheVariants.{Run}
+use Rattle.async_executor.specs.declared.machine.waiting.TickAction.TheVariants.{Run}
 
 -- a task that is being run
-abbrev pub under_way : Asked → ℕ
-under_way AskRun = 1
-under_way _ = 0
-
 abbrev pub under_way_in : RunState → ℕ
-under_way_in (Ticking aim machine) = under_way (ticks.asked machine)
+under_way_in (Running under_way) = 1
 under_way_in _ = 0
 
 -- how many tasks of its turn were run, with the one that is being run
 abbrev pub begun : RunMachine → ℕ
-begun machine = machine.runner.count.counted + under_way_in machine.state
+begun machine = (runner_of machine).count.counted + under_way_in machine.state
 
 module _ {W : Type 0} where
   -- how many tasks an action runs
@@ -33,9 +28,9 @@ module _ {W : Type 0} where
   -- from so many that were begun in a turn of so many: each task that is run counts once, and a turn that is full ends with a rest
   abbrev pub TurnFrom : ℕ → ℕ → RunNext W → Type 0
   TurnFrom turn before (Act machine action) =
-      (machine.runner.count.limit ≡ turn) × (machine.runner.count.counted < turn) × (begun machine ≡ before + runs_in action)
+      ((runner_of machine).count.limit ≡ turn) × ((runner_of machine).count.counted < turn) × (begun machine ≡ before + runs_in action)
   TurnFrom turn before (Rest rest end) =
       (rest.runner.count.limit ≡ turn) × (rest.runner.count.counted < turn) × (rest.runner.count.counted ≡ cond (before == turn) 0 before)
 
   abbrev pub TurnGoesOn : RunMachine → RunNext W → Type 0
-  TurnGoesOn machine next = TurnFrom machine.runner.count.limit (begun machine) next
+  TurnGoesOn machine next = TurnFrom (runner_of machine).count.limit (begun machine) next

@@ -1,37 +1,43 @@
 -- What the table of a tick sees of its machine, and that a decision is a row of it.
-use Rattle.std.specs.Prelude.{◌≡◌, ℕ, Bool, Option, Some, None}
+use Rattle.std.specs.Prelude.{◌≡◌, ℕ, false, Option, Some, None}
 use Rattle.executor_core.specs.declared.task.values.Notice.{Notice}
 use Rattle.executor_core.specs.declared.task.values.Taken.{Taken}
-use Rattle.async_executor.specs.Ticks.{asked_in}
+use Rattle.async_executor.specs.Ticks.{Asked, asked_in, asked_of}
+use Rattle.async_executor.specs.Ticks.Replies.{runs}
 use Rattle.async_executor.specs.Ticks.Table.{Kept, keeps, nothing, Next, Ask, End, Row, table}
-use Rattle.async_executor.specs.Ticks.Tickers.{ticker_in, ticker_after}
-use Rattle.async_executor.specs.declared.machine.tick.LeavingState.TheVariants.{Removing, StoringRemoved, Exchanging, Notifying, Waking, Running}
 use Rattle.async_executor.specs.declared.machine.tick.TickState.{TickState}
-use Rattle.async_executor.specs.declared.machine.tick.TickState.TheVariants.{Resting, Searching, Inserting, Updating, Storing, Leaving}
+use Rattle.async_executor.specs.declared.machine.tick.TickState.TheVariants as state
 use Rattle.async_executor.specs.declared.machine.tick.TickMachine.{TickMachine}
 use Rattle.async_executor.specs.declared.machine.tick.TickNext.{TickNext}
 use Rattle.async_executor.specs.declared.machine.tick.TickNext.TheVariants.{Act, Rest}
-use Rattle.async_executor.specs.declared.machine.tick.TickReply.{TickReply}
+use Rattle.async_executor.specs.declared.machine.waiting.Came.{Came}
+use Rattle.async_executor.specs.declared.machine.waiting.Came.TheVariants as came
+use Rattle.async_executor.specs.declared.machine.waiting.TickAction.{TickAction}
+use Rattle.async_executor.specs.declared.machine.waiting.TickAction.TheVariants as asks
+use Rattle.async_executor.specs.declared.machine.waiting.TickEnd.TheVariants.{Return}
+use Rattle.async_executor.specs.declared.machine.waiting.TickReply.{TickReply}
+use Rattle.async_executor.specs.declared.machine.waiting.Waiting.{Waiting}
+use Rattle.async_executor.specs.declared.machine.waiting.Waiting.TheVariants.{Searching, Inserting, Updating, Storing, Removing, StoringRemoved, Announcing, Leaving, StoringLeft, PassingOn}
 
-abbrev pub keeps_task : Option (Taken (Unit {0})) → Kept
-keeps_task taken = record nothing { task = taken }
+abbrev pub keeps_found : ℕ → Taken (Unit {0}) → Notice → Kept
+keeps_found number taken notice = record { number = number; task = Some taken; notice = Some notice }
 
-abbrev pub keeps_found : ℕ → Option (Taken (Unit {0}) × Notice) → Kept
-keeps_found number (Some (taken, notice)) = record { number = number; task = Some taken; notice = Some notice }
-keeps_found number None = keeps number
+abbrev pub kept_of : {A : Type 0} → Waiting A → Kept
+kept_of (Searching searching) = keeps searching.number
+kept_of (Inserting inserting) = nothing
+kept_of (Updating updating) = keeps updating.number
+kept_of (Storing storing) = keeps storing.number
+kept_of (Removing removing) = keeps_found removing.number removing.taken removing.notice
+kept_of (StoringRemoved storing) = keeps_found 0 storing.taken storing.notice
+kept_of (Announcing spending announcing) = record nothing { task = Some announcing.taken }
+kept_of (Leaving leaving) = keeps leaving.number
+kept_of (StoringLeft storing) = nothing
+kept_of (PassingOn spending departed) = nothing
 
 abbrev pub kept_in : TickState → Kept
-kept_in (Resting number) = keeps number
-kept_in (Searching number) = keeps number
-kept_in Inserting = nothing
-kept_in (Updating number) = keeps number
-kept_in (Storing number) = keeps number
-kept_in (Leaving (Removing number found)) = keeps_found number found
-kept_in (Leaving (StoringRemoved found)) = keeps_found 0 found
-kept_in (Leaving (Exchanging taken)) = keeps_task taken
-kept_in (Leaving (Notifying taken)) = keeps_task taken
-kept_in (Leaving (Waking taken)) = keeps_task taken
-kept_in (Leaving Running) = nothing
+kept_in (state.Resting number) = keeps number
+kept_in (state.Waiting waiting) = kept_of waiting
+kept_in (state.Running departed) = nothing
 
 module _ {W : Type 0} where
   abbrev pub next_of : TickNext W → Next W
@@ -42,12 +48,34 @@ module _ {W : Type 0} where
   kept_after (Act machine action) = kept_in machine.state
   kept_after (Rest rest end) = keeps rest.number
 
-  -- the reply answers what the row says, and what is asked next and kept is the row's, and so is the step of the ticker, be it
-  -- a tick or the run for which the tick acts
-  abbrev pub IsRowIn : TickState → TickReply W → TickNext W → Type 0
-  IsRowIn state reply next =
-      let row : Row W = table (asked_in state) (kept_in state) reply in
-      (asked_in state ≡ row.answers) × (next_of next ≡ row.next) × (kept_after next ≡ row.kept) × ((runner : Option ℕ) (notified : Bool) → ticker_after runner next ≡ row.step (ticker_in runner notified state))
-
+  -- the reply answers what the row says, and what is asked next and kept is the row's
   abbrev pub IsRow : TickMachine → TickReply W → TickNext W → Type 0
-  IsRow machine reply next = IsRowIn machine.state reply next
+  IsRow machine reply next =
+      let row : Row W = table (asked_in machine.state) (kept_in machine.state) reply in
+      (asked_in machine.state ≡ row.answers) × (next_of next ≡ row.next) × (kept_after next ≡ row.kept)
+
+  -- while a notice is spent no task runs and nothing else changes, and once it is spent one that keeps no task returns
+  abbrev pub IsSpent : Asked → TickReply W → TickAction W → Type 0
+  IsSpent asked reply action =
+      (runs action ≡ false) × ((k : Kept) → let row : Row W = table asked k reply in (asked ≡ row.answers) × (Ask action ≡ row.next) × (k ≡ row.kept))
+
+  abbrev pub IsOver : Asked → TickReply W → Type 0
+  IsOver asked reply = let row : Row W = table asked nothing reply in (asked ≡ row.answers) × (End Return ≡ row.next)
+
+-- the same of what comes of a reply to a step
+module _ {A W : Type 0} where
+  abbrev pub next_to : Came A W → Next W
+  next_to (came.Act waiting action) = Ask action
+  next_to (came.Rest at_rest end) = End end
+  next_to (came.Run running) = Ask (asks.Run running.taken)
+  next_to (came.End departed) = End Return
+
+  abbrev pub kept_by : Came A W → Kept
+  kept_by (came.Act waiting action) = kept_of waiting
+  kept_by (came.Rest at_rest end) = keeps at_rest.number
+  kept_by _ = nothing
+
+  abbrev pub IsRowOf : Asked → Kept → TickReply W → Came A W → Type 0
+  IsRowOf asked k reply came =
+      let row : Row W = table asked k reply in
+      (asked ≡ row.answers) × (next_to came ≡ row.next) × (kept_by came ≡ row.kept)

@@ -1,18 +1,18 @@
 -- The table of a tick, keyed by the reply: what that answers, what is asked next or how the poll ends, what is kept then, and what
 -- the steps of a world make of the ticker meanwhile.
 use Rattle.std.specs.Prelude.{ℕ, ◌==◌, Bool, true, false, Option, Some, None, is_some, cond}
-use Rattle.executor_core.specs.World.Tickers.{polled, searched, slept, rested, woke, dropped, ended, stored}
+use Rattle.executor_core.specs.World.Phases.{is_run}
+use Rattle.executor_core.specs.World.Tickers.{polled, searched, slept, rested, woke, dropped, ended, stored, left}
 use Rattle.executor_core.specs.declared.interleave.ticker.Ticker.{Ticker}
 use Rattle.executor_core.specs.declared.task.values.Notice.{Notice}
 use Rattle.executor_core.specs.declared.task.values.Taken.{Taken}
 use Rattle.async_executor.specs.Ticks.{Asked, AskStart, AskSearch, AskInsert, AskUpdate, AskStore, AskRemove, AskStoreRemoved, AskExchange, AskNotify, AskWake, AskRun}
-use Rattle.async_executor.specs.Ticks.Steps.{departed}
-use Rattle.async_executor.specs.declared.machine.tick.TickAction.{TickAction}
-use Rattle.async_executor.specs.declared.machine.tick.TickAction.TheVariants.{Search, Insert, Update, Store, Remove, StoreRemoved, Exchange, Notify, Wake, Run}
-use Rattle.async_executor.specs.declared.machine.tick.TickEnd.{TickEnd}
-use Rattle.async_executor.specs.declared.machine.tick.TickEnd.TheVariants.{Park, Yield, Return}
-use Rattle.async_executor.specs.declared.machine.tick.TickReply.{TickReply}
-use Rattle.async_executor.specs.declared.machine.tick.TickReply.TheVariants.{Begin, Dropped, Found, Empty, NoWaker, NoPlace, Inserted, Asleep, WasNotified, Unknown, Stored, RemovedIt, StoredRemoved, Exchanged, Notified, Woken, Ran}
+use Rattle.async_executor.specs.declared.machine.waiting.TickAction.{TickAction}
+use Rattle.async_executor.specs.declared.machine.waiting.TickAction.TheVariants.{Search, Insert, Update, Store, Remove, StoreRemoved, Exchange, Notify, Wake, Run}
+use Rattle.async_executor.specs.declared.machine.waiting.TickEnd.{TickEnd}
+use Rattle.async_executor.specs.declared.machine.waiting.TickEnd.TheVariants.{Park, Yield, Return}
+use Rattle.async_executor.specs.declared.machine.waiting.TickReply.{TickReply}
+use Rattle.async_executor.specs.declared.machine.waiting.TickReply.TheVariants.{Begin, Dropped, Found, Empty, NoWaker, NoPlace, Inserted, Asleep, WasNotified, Unknown, Stored, RemovedIt, StoredRemoved, Exchanged, Notified, Woken, Ran}
 
 -- what a machine keeps: its number, or 0 while it is awake; a task that it took; and the notice of that take
 pub record Kept : Type 0 where
@@ -38,6 +38,10 @@ pub record Row (W : Type 0) : Type 0 where
   pub next : Next W
   pub kept : Kept
   pub step : Ticker → Ticker
+
+-- a run that is dropped has left before
+abbrev pub departed : Ticker → Ticker
+departed t = cond (is_run t) (left t) t
 
 module _ {W : Type 0} where
   abbrev pub row : Asked → Next W → Kept → (Ticker → Ticker) → Row W

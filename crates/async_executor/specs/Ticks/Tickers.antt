@@ -1,50 +1,38 @@
--- What a world of tickers sees of a machine: which of its steps comes next, and its number. A tick
--- may act for a run, and then it is seen as the run of that runner.
-use Rattle.std.specs.Prelude.{ℕ, Bool, false, Option, Some, None, cond, is_some}
-use Rattle.executor_core.specs.declared.interleave.ticker.ListChange.TheVariants.{Slept, Woke, Dropped}
-use Rattle.executor_core.specs.declared.interleave.ticker.Phase.{Phase}
+-- What a world of tickers sees of a machine: which of its steps comes next, and its number. A step
+-- may be that of a run, and then it is seen as the run of that runner.
+use Rattle.std.specs.Prelude.{ℕ, Bool, false, Option, cond, is_some}
 use Rattle.executor_core.specs.declared.interleave.ticker.Phase.TheVariants as phase
 use Rattle.executor_core.specs.declared.interleave.ticker.Ticker.{Ticker}
+use Rattle.async_executor.specs.Steps.Tickers.{ticker_at, found_phase, of_announcing, of_departed, of_inserting, of_leaving, of_removing, of_searching, of_storing, of_storing_left, of_storing_removed, of_updating}
 use Rattle.async_executor.specs.declared.machine.tick.TickState.{TickState}
-use Rattle.async_executor.specs.declared.machine.tick.TickState.TheVariants.{Resting, Searching, Inserting, Updating, Storing, Leaving}
-use Rattle.async_executor.specs.declared.machine.tick.LeavingState.TheVariants.{Removing, StoringRemoved, Exchanging, Notifying, Waking, Running}
-use Rattle.async_executor.specs.declared.machine.tick.TickAction.{TickAction}
-use Rattle.async_executor.specs.declared.machine.tick.TickAction.TheVariants.{StoreRemoved}
+use Rattle.async_executor.specs.declared.machine.tick.TickState.TheVariants as state
 use Rattle.async_executor.specs.declared.machine.tick.TickMachine.{TickMachine}
 use Rattle.async_executor.specs.declared.machine.tick.TickNext.{TickNext}
 use Rattle.async_executor.specs.declared.machine.tick.TickNext.TheVariants.{Act, Rest}
 use Rattle.async_executor.specs.declared.machine.tick.TickRest.{TickRest}
+use Rattle.async_executor.specs.declared.machine.waiting.TickAction.{TickAction}
+use Rattle.async_executor.specs.declared.machine.waiting.TickAction.TheVariants.{StoreRemoved}
+use Rattle.async_executor.specs.declared.machine.waiting.Waiting.{Waiting}
+use Rattle.async_executor.specs.declared.machine.waiting.Waiting.TheVariants.{Searching, Inserting, Updating, Storing, Removing, StoringRemoved, Announcing, Leaving, StoringLeft, PassingOn}
 
--- the ticker of a tick, or of the run of a runner for which the tick acts
-abbrev pub ticker_at : Option ℕ → Phase → ℕ → Ticker
-ticker_at runner phase number = record { phase = phase; number = number; runner = runner }
+-- the ticker of a step that waits for a reply; after the removal of its number, by whether that was notified
+abbrev pub ticker_of_waiting : {A : Type 0} → Option ℕ → Bool → Waiting A → Ticker
+ticker_of_waiting runner notified (Searching searching) = of_searching searching runner
+ticker_of_waiting runner notified (Inserting inserting) = of_inserting inserting runner
+ticker_of_waiting runner notified (Updating updating) = of_updating updating runner
+ticker_of_waiting runner notified (Storing storing) = of_storing storing runner
+ticker_of_waiting runner notified (Removing removing) = of_removing removing runner
+ticker_of_waiting runner notified (StoringRemoved storing) = of_storing_removed storing notified runner
+ticker_of_waiting runner notified (Announcing spending announcing) = of_announcing announcing runner
+ticker_of_waiting runner notified (Leaving leaving) = of_leaving leaving runner
+ticker_of_waiting runner notified (StoringLeft storing) = of_storing_left storing notified runner
+ticker_of_waiting runner notified (PassingOn spending departed) = of_departed departed runner
 
--- one that has found a task: a tick has ended, and a run is at rest
-abbrev pub found_phase : Option ℕ → Phase
-found_phase runner = cond (is_some runner) phase.Rest phase.Ended
-
--- one that is dropped and has a number: a run has left before
-abbrev pub dropped_phase : Option ℕ → Phase
-dropped_phase runner = cond (is_some runner) phase.Leaving phase.Rest
-
--- the ticker of a machine, by the action that it asked for last; after the removal of its number, by whether that was notified
+-- the ticker of a machine
 abbrev pub ticker_in : Option ℕ → Bool → TickState → Ticker
-ticker_in runner notified (Resting number) = ticker_at runner phase.Rest number
-ticker_in runner notified (Searching number) = ticker_at runner phase.Search number
-ticker_in runner notified Inserting = ticker_at runner phase.Sleep 0
-ticker_in runner notified (Updating number) = ticker_at runner phase.Sleep number
-ticker_in runner notified (Storing number) = ticker_at runner (phase.Store Slept) number
-ticker_in runner notified (Leaving (Removing number (Some found))) = ticker_at runner phase.Wake number
-ticker_in runner notified (Leaving (Removing number None)) = ticker_at runner (dropped_phase runner) number
-ticker_in runner notified (Leaving (StoringRemoved (Some found))) = ticker_at runner (phase.Store (Woke notified)) 0
-ticker_in runner notified (Leaving (StoringRemoved None)) = ticker_at runner (phase.Store (Dropped notified)) 0
-ticker_in runner notified (Leaving (Exchanging (Some taken))) = ticker_at runner (found_phase runner) 0
-ticker_in runner notified (Leaving (Exchanging None)) = ticker_at runner phase.Ended 0
-ticker_in runner notified (Leaving (Notifying (Some taken))) = ticker_at runner (found_phase runner) 0
-ticker_in runner notified (Leaving (Notifying None)) = ticker_at runner phase.Ended 0
-ticker_in runner notified (Leaving (Waking (Some taken))) = ticker_at runner (found_phase runner) 0
-ticker_in runner notified (Leaving (Waking None)) = ticker_at runner phase.Ended 0
-ticker_in runner notified (Leaving Running) = ticker_at runner (found_phase runner) 0
+ticker_in runner notified (state.Resting number) = ticker_at runner phase.Rest number
+ticker_in runner notified (state.Waiting waiting) = ticker_of_waiting runner notified waiting
+ticker_in runner notified (state.Running departed) = ticker_at runner (found_phase runner) 0
 
 abbrev pub ticker_of : Option ℕ → Bool → TickMachine → Ticker
 ticker_of runner notified machine = ticker_in runner notified machine.state

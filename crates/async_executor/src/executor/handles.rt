@@ -22,6 +22,7 @@ use std::sync::Wait;
 /// run_all(rt, &executor);
 /// output_of(task.poll(&Nobody))
 /// ```
+#[derive(Drop)]
 pub struct Task<F, W, R>
 where
     F: Future<TaskWaker<W, R>>,
@@ -145,18 +146,6 @@ where
     }
 }
 
-impl<F, W, R> Drop for Task<F, W, R>
-where
-    F: Future<TaskWaker<W, R>>,
-    W: Wake,
-    R: Wait + Clone + Drop,
-{
-    fn drop(self) {
-        let Task { inner } = self;
-        drop(inner);
-    }
-}
-
 /// The handle of a task that was cancelled: a future that ends once the future of the task was
 /// dropped.
 ///
@@ -170,6 +159,7 @@ where
 /// executor.try_tick();
 /// Some(cancel.poll(&Nobody))
 /// ```
+#[derive(Drop)]
 pub struct Cancel<F, W, R>
 where
     F: Future<TaskWaker<W, R>>,
@@ -204,18 +194,6 @@ where
     }
 }
 
-impl<F, W, R> Drop for Cancel<F, W, R>
-where
-    F: Future<TaskWaker<W, R>>,
-    W: Wake,
-    R: Wait + Clone + Drop,
-{
-    fn drop(self) {
-        let Cancel { task } = self;
-        drop(task);
-    }
-}
-
 /// The handle of a task: a future of its output, or of `None` if the task was cancelled.
 ///
 /// Its drop is that of `Task`. It stands for the `FallibleTask` of the Rust crate.
@@ -227,6 +205,7 @@ where
 /// run_all(rt, executor);
 /// Some(task.poll(&Nobody))
 /// ```
+#[derive(Drop)]
 pub struct FallibleTask<F, W, R>
 where
     F: Future<TaskWaker<W, R>>,
@@ -306,17 +285,5 @@ where
         ensures again { IsTrue self.old.task.inner.answered → IsReadyNone result }
     {
         some_if_ok(self.task.poll(w))
-    }
-}
-
-impl<F, W, R> Drop for FallibleTask<F, W, R>
-where
-    F: Future<TaskWaker<W, R>>,
-    W: Wake,
-    R: Wait + Clone + Drop,
-{
-    fn drop(self) {
-        let FallibleTask { task } = self;
-        drop(task);
     }
 }

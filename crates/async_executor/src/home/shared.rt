@@ -1,19 +1,19 @@
 //! The home of executors whose parts may go to other threads.
 use crate::home::{Home, Shareable, StoreGuard};
-use crate::lock::wait_for;
-use crate::state::{APART, CacheLine, ExecutorState};
+use crate::lock::{APART, CacheLine, Lock};
+use crate::state::ExecutorState;
 use crate::store::Store;
 use crate::waker::TaskWaker;
 use executor_core::task::{Future, OutOfMemory, Wake};
 use std::alloc::Global;
-use std::sync::{Arc, Mutex, Wait};
+use std::sync::{Arc, Wait};
 
 #[derive(Drop)]
 struct Shared<F: Future<TaskWaker<W, R>>, W: Wake, R: Wait + Clone + Drop> {
     state: Arc<ExecutorState<W, R>>,
     // The lock of the store is not on the line of the counts of the shares.
     before_store: CacheLine,
-    store: Mutex<Store<F, Arc<ExecutorState<W, R>>, F::Output>>,
+    store: Lock<Store<F, Arc<ExecutorState<W, R>>, F::Output>>,
 }
 
 /// A home whose store has a lock.
@@ -42,7 +42,7 @@ impl<F: Future<TaskWaker<W, R>>, W: Wake, R: Wait + Clone + Drop> Home for Share
     // Inline, so that who has the guard knows of which kind it is.
     #[inline(always)]
     fn wait_for_store(&self) -> StoreGuard<'_, Store<F, Arc<ExecutorState<W, R>>, F::Output>> {
-        StoreGuard::Locked(wait_for(&self.shared.store, self.shared.state.rt()))
+        StoreGuard::Locked(self.shared.store.wait_for(self.shared.state.rt()))
     }
 }
 
@@ -52,7 +52,7 @@ impl<F: Future<TaskWaker<W, R>>, W: Wake, R: Wait + Clone + Drop> Shareable
         let Ok(state) = Arc::new(alloc, ExecutorState::new(rt, alloc)?) else {
             return Err(OutOfMemory);
         };
-        let store = Mutex::new(Store::new(alloc));
+        let store = Lock::new(Store::new(alloc));
         let shared = Shared {
             state,
             before_store: APART,

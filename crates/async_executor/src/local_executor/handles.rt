@@ -18,6 +18,7 @@ use std::sync::Wait;
 /// let mut run = executor.run(spawned(&executor, &total, 3)?).ok()?;
 /// run.poll(&Nobody);
 /// ```
+#[derive(Drop)]
 pub struct LocalTask<F, W, R>
 where
     F: Future<TaskWaker<W, R>>,
@@ -134,18 +135,6 @@ where
     }
 }
 
-impl<F, W, R> Drop for LocalTask<F, W, R>
-where
-    F: Future<TaskWaker<W, R>>,
-    W: Wake,
-    R: Wait + Clone + Drop,
-{
-    fn drop(self) {
-        let LocalTask { inner } = self;
-        drop(inner);
-    }
-}
-
 /// As `Cancel`, of a task that stays on its thread.
 ///
 /// Example: `uses::releases`.
@@ -154,6 +143,7 @@ where
 /// let mut cancel = executor.spawn(Sum::of(5, 6)).ok()?.cancel();
 /// Some((cancel.poll(&Nobody), last.poll(&Nobody)))
 /// ```
+#[derive(Drop)]
 pub struct LocalCancel<F, W, R>
 where
     F: Future<TaskWaker<W, R>>,
@@ -188,18 +178,6 @@ where
     }
 }
 
-impl<F, W, R> Drop for LocalCancel<F, W, R>
-where
-    F: Future<TaskWaker<W, R>>,
-    W: Wake,
-    R: Wait + Clone + Drop,
-{
-    fn drop(self) {
-        let LocalCancel { task } = self;
-        drop(task);
-    }
-}
-
 /// As `FallibleTask`, of a task that stays on its thread.
 ///
 /// Example: `uses::releases`.
@@ -208,6 +186,7 @@ where
 /// let mut last = executor.spawn(Sum::of(7, 8)).ok()?.fallible();
 /// Some((cancel.poll(&Nobody), last.poll(&Nobody)))
 /// ```
+#[derive(Drop)]
 pub struct LocalFallibleTask<F, W, R>
 where
     F: Future<TaskWaker<W, R>>,
@@ -286,17 +265,5 @@ where
         ensures again { IsTrue self.old.task.inner.answered → IsReadyNone result }
     {
         some_if_ok(self.task.poll(w))
-    }
-}
-
-impl<F, W, R> Drop for LocalFallibleTask<F, W, R>
-where
-    F: Future<TaskWaker<W, R>>,
-    W: Wake,
-    R: Wait + Clone + Drop,
-{
-    fn drop(self) {
-        let LocalFallibleTask { task } = self;
-        drop(task);
     }
 }

@@ -39,6 +39,14 @@ impl Count {
         }
     }
 
+    /// It is below its limit, by its type. It does nothing.
+    #[inline(always)]
+    pub(in crate::machine) fn is_below(&self)
+        ensures { self.now.counted < self.now.limit }
+    {
+        let _counted = self.counted;
+    }
+
     /// Counts one more where the count stands, so that it is not packed and unpacked, and says whether
     /// that was the last of so many.
     #[inline(always)]

@@ -1,40 +1,29 @@
 //! What a run does next.
 //!
-//! A machine waits for the reply to its last action. While a tick acts for the run it keeps the
-//! machine of that tick, which has what is still to be spent.
-//!
-//! | while the run | it keeps | the tick acts to |
-//! |---|---|---|
-//! | searches, sleeps, or runs a task | a tick | work |
-//! | takes its part of the shared queue | a tick, and the task that it runs next | work |
-//! | spends the notice of its own queue, which has ended | a tick, and the number | pass on |
-//! | leaves the sleepers | a tick | leave |
-//!
-//! The table of decisions is `specs/Runs/Table.antt`, keyed by the reply. `specs/Runs/Decisions.antt`
-//! has it keyed by what the machine waits for.
-ghost use Rattle.std.specs.Prelude.{◌≡◌, cond, Bool, true, false, Ok, Err, Some, None, MatchResult};
+//! A machine keeps the step that waits for the reply to its last action. Between two polls of its
+//! own future a run goes the steps of a tick, so it shares what those come to. What the types leave
+//! open is the table of `specs/Runs/Table.antt`, keyed by the reply.
+ghost use Rattle.std.specs.Prelude.{◌≡◌, cond, Bool, true, false, Ok, Err, MatchResult};
 ghost use Rattle.executor_core.specs.Limits.{is_lawful, default_limits};
-ghost use Rattle.async_executor.specs.Runs.{answers, asked, asked_in, has_ended, new_rest, store_asked, store_after, AskFirst, IsAsked, IsFitNext};
+ghost use Rattle.async_executor.specs.Runs.{answers, asked, has_ended, new_rest, runner_of, store_asked, store_after, AskFirst, IsAsked};
 ghost use Rattle.async_executor.specs.Runs.Counts.{goes_on, more, anew};
-ghost use Rattle.async_executor.specs.Runs.Decisions.{ask, run_rest, run_ended, searching, dropping, after_task, found, working, passing_on, leaving, resumed, Decides};
 ghost use Rattle.async_executor.specs.Runs.Fairs.{HasFound, FairGoesOn};
-ghost use Rattle.async_executor.specs.Runs.Fixed.{fixed, runner_begun};
+ghost use Rattle.async_executor.specs.Runs.Fixed.{fixed, IsWithin};
+ghost use Rattle.async_executor.specs.Runs.Replies.{ask, begun, decision, dropped, drops, polls, runs, searches};
 ghost use Rattle.async_executor.specs.Runs.Rows.{IsRow};
 ghost use Rattle.async_executor.specs.Runs.Steps.{leads, may_lead};
-ghost use Rattle.async_executor.specs.Runs.Tickers.{ticker_of, ticker_after, rest_ticker};
+ghost use Rattle.async_executor.specs.Runs.Tickers.{ticker_of, ticker_after, rest_ticker, of_begun, of_dropped};
 ghost use Rattle.async_executor.specs.Runs.Turns.{TurnGoesOn};
-ghost use Rattle.async_executor.specs.Ticks as ticks;
-ghost use Rattle.async_executor.specs.declared.machine.tick.LeavingState.TheVariants as LeavingState;
+ghost use Rattle.async_executor.specs.Ticks.Replies.{actor_of};
 
 use crate::machine::count::Count;
-use crate::machine::run_steps;
-use crate::machine::run_steps::{Begun, Dropped, Search};
-use crate::machine::tick::{TickAction, TickEnd, TickMachine, TickNext, TickReply, TickRest};
-use Aim::{Leave, PassOn, Work};
-use RunAction::{Fair, PollOwn, Register, Release, Tick, Unregister};
-use RunState::{
-    PollingOwn, Registering, Releasing, Resting, Sharing, Starting, Ticking, Unregistering,
+use crate::machine::run_steps::{
+    Begun, Dropped, Left, PollingOwn, Registering, Releasing, Search, Sharing, Started, UnderWay,
+    Unregistering,
 };
+use crate::machine::steps::Searching;
+use crate::machine::waiting::Spending::{self, Exchanging};
+use crate::machine::waiting::{Came, TickAction, TickEnd, TickReply, Waiting, depart};
 use Stage::{Ended, Joined, New};
 use executor_core::limits::Limits;
 use executor_core::queue::RunnerKey;
@@ -63,6 +52,15 @@ impl Runner {
         ensures { result ≡ self.now.key }
     {
         self.key
+    }
+
+    // Its counts are below their limits, by their type. It does nothing.
+    #[inline(always)]
+    fn counts(&self)
+        ensures { IsWithin self.now }
+    {
+        self.count.is_below();
+        self.found.is_below();
     }
 
     /// The same after one task more was run, or, if that was the last of its turn, at the start of
@@ -150,12 +148,13 @@ impl RunRest {
     #[inline(always)]
     pub(crate) fn begin(self) -> Begun
         requires { has_ended self ≡ false }
-        ensures { runner_begun result ≡ self.runner }
+        ensures step { result ≡ begun self }
+        ensures world { of_begun result ≡ rest_ticker self }
     {
         let RunRest { runner, stage } = self;
         match stage {
-            New => Begun::Register(run_steps::Registering { runner }),
-            Joined(number) => Begun::PollOwn(run_steps::PollingOwn { runner, number }),
+            New => Begun::Register(Registering { runner }),
+            Joined(number) => Begun::PollOwn(PollingOwn { runner, number }),
             Ended => unreachable!(),
         }
     }
@@ -163,13 +162,10 @@ impl RunRest {
     /// The run is dropped. Its own future was dropped before.
     pub(crate) fn depart(self) -> Dropped
         requires { has_ended self ≡ false }
+        ensures step { result ≡ dropped (begun self) }
+        ensures world { of_dropped result ≡ rest_ticker self }
     {
-        let RunRest { runner, stage } = self;
-        match stage {
-            New => Dropped::Release(run_steps::Releasing { runner }),
-            Joined(number) => Dropped::Unregister(run_steps::Unregistering { runner, number }),
-            Ended => unreachable!(),
-        }
+        self.begin().depart()
     }
 }
 
@@ -222,128 +218,118 @@ pub enum RunNext<W> {
     Rest(RunRest, TickEnd),
 }
 
-// What a machine waits for, with what it keeps meanwhile: the number under which the run sleeps, or
-// the machine of a tick that acts for it.
+// What a machine waits for: at a rest to be polled or dropped, or the reply to its last action.
 enum RunState {
-    Starting,
-    Resting(usize),
-    Registering,
-    PollingOwn(usize),
-    Ticking(Aim, TickMachine),
-    Sharing(TickMachine, Taken<()>),
-    Unregistering(usize),
-    Releasing,
-}
-
-// What a tick acts for: to run a task, to spend the notice of a queue that has ended before the
-// run leaves the sleepers, or to leave the sleepers.
-#[derive(Clone, Copy)]
-enum Aim {
-    Work,
-    PassOn(usize),
-    Leave,
+    Resting(Begun),
+    Registering(Registering),
+    PollingOwn(PollingOwn),
+    Waiting(Waiting<Runner>),
+    Sharing(Sharing),
+    Running(UnderWay),
+    Unregistering(Unregistering),
+    PassingOn(Spending, Left),
+    Releasing(Releasing),
 }
 
 // Asks for an action.
 #[inline(always)]
-fn ask<W>(runner: Runner, state: RunState, action: RunAction<W>) -> RunNext<W>
-    ensures { result ≡ ask runner state action }
+fn ask<W>(state: RunState, action: RunAction<W>) -> RunNext<W>
+    ensures { result ≡ ask state action }
 {
-    RunNext::Act(RunMachine { runner, state }, action)
+    RunNext::Act(RunMachine { state }, action)
 }
 
-// The run goes on at its next poll.
+// The run is polled.
 #[inline(always)]
-fn rest<W>(runner: Runner, stage: Stage, end: TickEnd) -> RunNext<W>
-    ensures { result ≡ run_rest runner stage end }
+fn poll<W>(begun: Begun) -> RunNext<W>
+    ensures { result ≡ polls begun }
 {
-    RunNext::Rest(RunRest { runner, stage }, end)
-}
-
-// A tick acts for the run, to search for a task.
-#[inline(always)]
-fn search<W>(runner: Runner, number: usize) -> RunNext<W>
-    ensures { result ≡ searching runner number }
-{
-    match TickMachine::start(TickRest::at(number)).next(TickReply::Begin) {
-        TickNext::Act(tick, action) => ask(runner, Ticking(Work, tick), Tick(action)),
-        TickNext::Rest(_, _) => unreachable!(),
+    match begun {
+        Begun::Register(registering) => {
+            ask(RunState::Registering(registering), RunAction::Register)
+        }
+        Begun::PollOwn(polling) => ask(RunState::PollingOwn(polling), RunAction::PollOwn),
     }
 }
 
-// The run leaves the sleepers, if it has a number.
+// The run is dropped.
 #[inline(always)]
-fn leave<W>(runner: Runner, number: usize) -> RunNext<W>
-    ensures { result ≡ dropping runner number }
+fn drop_it<W>(dropped: Dropped) -> RunNext<W>
+    ensures { result ≡ drops dropped }
 {
-    go_on_leaving(
-        runner,
-        TickMachine::start(TickRest::at(number)).next(TickReply::Dropped),
+    match dropped {
+        Dropped::Release(releasing) => ask(RunState::Releasing(releasing), RunAction::Release),
+        Dropped::Unregister(unregistering) => {
+            ask(
+                RunState::Unregistering(unregistering),
+                RunAction::Unregister,
+            )
+        }
+    }
+}
+
+// A task is searched for.
+#[inline(always)]
+fn search<W>(searching: Searching<Runner>) -> RunNext<W>
+    ensures { result ≡ searches searching }
+{
+    ask(
+        RunState::Waiting(Waiting::Searching(searching)),
+        RunAction::Tick(TickAction::Search(None)),
     )
 }
 
-// One task more was run.
+// A task is run.
 #[inline(always)]
-fn after_task<W>(runner: Runner) -> RunNext<W>
-    ensures { result ≡ after_task runner }
+fn run<W>(under_way: UnderWay, taken: Taken<()>) -> RunNext<W>
+    ensures { result ≡ runs under_way taken }
 {
-    match runner.ran() {
-        Ok(runner) => search(runner, 0),
-        Err(runner) => rest(runner, Joined(0), TickEnd::Yield),
+    ask(
+        RunState::Running(under_way),
+        RunAction::Tick(TickAction::Run(taken)),
+    )
+}
+
+impl Waiting<Runner> {
+    // The counts of the runner that goes the step are below their limits. It does nothing.
+    #[inline(always)]
+    fn counts(&self)
+        ensures { IsWithin (actor_of self.now) }
+    {
+        match self {
+            Waiting::Searching(step) => step.actor.counts(),
+            Waiting::Inserting(step) => step.actor.counts(),
+            Waiting::Updating(step) => step.actor.counts(),
+            Waiting::Storing(step) => step.actor.counts(),
+            Waiting::Removing(step) => step.actor.counts(),
+            Waiting::StoringRemoved(step) => step.actor.counts(),
+            Waiting::Announcing(_, step) => step.actor.counts(),
+            Waiting::Leaving(step) => step.actor.counts(),
+            Waiting::StoringLeft(step) => step.actor.counts(),
+            Waiting::PassingOn(_, step) => step.actor.counts(),
+        }
     }
 }
 
-// One task more was found.
+// What comes of a reply to a step of a tick, as the machine says it.
 #[inline(always)]
-fn found<W>(runner: Runner, tick: TickMachine, taken: Taken<()>) -> RunNext<W>
-    ensures { result ≡ found runner tick taken }
+fn decide<W>(came: Came<Runner, W>) -> RunNext<W>
+    ensures { result ≡ decision came }
 {
-    let (runner, is_fair) = runner.found();
-    if is_fair {
-        return ask(runner, Sharing(tick, taken), Fair);
-    }
-    ask(runner, Ticking(Work, tick), Tick(TickAction::Run(taken)))
-}
-
-// What comes of the decision of a tick that acts to run a task.
-#[inline(always)]
-fn work<W>(runner: Runner, next: TickNext<W>) -> RunNext<W>
-    ensures { result ≡ working runner next }
-{
-    match next {
-        TickNext::Act(tick, TickAction::Run(taken)) => found(runner, tick, taken),
-        TickNext::Act(tick, action) => ask(runner, Ticking(Work, tick), Tick(action)),
-        TickNext::Rest(_, TickEnd::Return) => after_task(runner),
-        TickNext::Rest(tick, end) => rest(runner, Joined(tick.number()), end),
+    match came {
+        Came::Act(waiting, action) => ask(RunState::Waiting(waiting), RunAction::Tick(action)),
+        Came::Rest(rested, end) => RunNext::Rest(rested.keep(), end),
+        Came::Run(running) => match running.start() {
+            Started::Share(sharing) => ask(RunState::Sharing(sharing), RunAction::Fair),
+            Started::Run(under_way, taken) => run(under_way, taken),
+        },
+        Came::End(departed) => RunNext::Rest(departed.end(), TickEnd::Return),
     }
 }
 
-// The same of one that acts to spend the notice of the queue that has ended.
-#[inline(always)]
-fn pass_on<W>(runner: Runner, number: usize, next: TickNext<W>) -> RunNext<W>
-    ensures { result ≡ passing_on runner number next }
-{
-    match next {
-        TickNext::Act(tick, action) => ask(runner, Ticking(PassOn(number), tick), Tick(action)),
-        TickNext::Rest(_, _) => leave(runner, number),
-    }
-}
-
-// The same of one that acts to leave the sleepers.
-#[inline(always)]
-fn go_on_leaving<W>(runner: Runner, next: TickNext<W>) -> RunNext<W>
-    ensures { result ≡ leaving runner next }
-{
-    match next {
-        TickNext::Act(tick, action) => ask(runner, Ticking(Leave, tick), Tick(action)),
-        TickNext::Rest(_, _) => rest(runner, Ended, TickEnd::Return),
-    }
-}
-
-/// Decides what a run does next. It keeps what its tick keeps, and what else must be spent goes out
-/// with its actions.
+/// Decides what a run does next. It keeps the step that waits for the reply to the last action,
+/// and what else must be spent goes out with its actions.
 pub struct RunMachine {
-    runner: Runner,
     state: RunState,
 }
 
@@ -376,22 +362,17 @@ impl RunMachine {
     pub fn start(rest: RunRest) -> RunMachine
         requires { has_ended rest ≡ false }
         ensures asked { asked result ≡ AskFirst }
-        ensures runner { result.runner ≡ rest.runner }
+        ensures runner { runner_of result ≡ rest.runner }
         ensures ticker { (notified : Bool) → ticker_of notified result ≡ rest_ticker rest }
     {
-        let RunRest { runner, stage } = rest;
-        let state = match stage {
-            New => Starting,
-            Joined(number) => Resting(number),
-            Ended => unreachable!(),
-        };
-        RunMachine { runner, state }
+        RunMachine {
+            state: RunState::Resting(rest.begin()),
+        }
     }
 
     /// What comes after this reply, which has to answer the last action.
     pub fn next<W>(self, reply: RunReply<W>) -> RunNext<W>
         requires { answers (asked self) reply ≡ true }
-        ensures decided { Decides self reply result }
         ensures asked { IsAsked result }
         ensures store { store_asked result ≡ store_after reply }
         ensures ticker { (notified : Bool) → ticker_after result ≡ leads self reply (ticker_of notified self) }
@@ -400,65 +381,69 @@ impl RunMachine {
         ensures turn { TurnGoesOn self result }
         ensures fair { FairGoesOn self result }
     {
-        let RunMachine { runner, state } = self;
+        let RunMachine { state } = self;
         match state {
-            Starting => match reply {
-                RunReply::Begin => ask(runner, Registering, Register),
-                RunReply::Dropped => ask(runner, Releasing, Release),
+            RunState::Resting(begun) => match reply {
+                RunReply::Begin => poll(begun),
+                RunReply::Dropped => drop_it(begun.depart()),
                 _ => unreachable!(),
             },
-            Resting(number) => match reply {
-                RunReply::Begin => ask(runner, PollingOwn(number), PollOwn),
-                RunReply::Dropped => ask(runner, Unregistering(number), Unregister),
+            RunState::Registering(registering) => match reply {
+                RunReply::Registered => poll(Begun::PollOwn(registering.registered())),
+                RunReply::NotRegistered => {
+                    RunNext::Rest(registering.refused().rest(), TickEnd::Yield)
+                }
                 _ => unreachable!(),
             },
-            Registering => match reply {
-                RunReply::Registered => ask(runner, PollingOwn(0), PollOwn),
-                RunReply::NotRegistered => rest(runner, New, TickEnd::Yield),
+            RunState::PollingOwn(polling) => match reply {
+                RunReply::OwnPending => search(polling.pending()),
+                RunReply::OwnReady => drop_it(Dropped::Unregister(polling.ready())),
                 _ => unreachable!(),
             },
-            PollingOwn(number) => match reply {
-                RunReply::OwnPending => search(runner, number),
-                RunReply::OwnReady => ask(runner, Unregistering(number), Unregister),
+            RunState::Waiting(waiting) => match reply {
+                RunReply::Tick(reply) => {
+                    waiting.counts();
+                    decide(waiting.next(reply))
+                }
                 _ => unreachable!(),
             },
-            Ticking(aim, tick) => match reply {
-                RunReply::Tick(reply) => resume(runner, aim, tick.next(reply)),
-                _ => unreachable!(),
-            },
-            Sharing(tick, taken) => match reply {
+            RunState::Sharing(sharing) => match reply {
                 RunReply::Moved => {
-                    ask(runner, Ticking(Work, tick), Tick(TickAction::Run(taken)))
+                    let (under_way, taken) = sharing.shared();
+                    run(under_way, taken)
                 }
                 _ => unreachable!(),
             },
-            Unregistering(number) => match reply {
-                RunReply::Unregistered(Some(notice)) => {
-                    pass_on(runner, number, TickMachine::pass_on(notice))
-                }
-                RunReply::Unregistered(None) => leave(runner, number),
+            RunState::Running(under_way) => match reply {
+                RunReply::Tick(TickReply::Ran) => match under_way.ran() {
+                    Ok(searching) => search(searching),
+                    Err(over) => RunNext::Rest(over.rest(), TickEnd::Yield),
+                },
                 _ => unreachable!(),
             },
-            Releasing => match reply {
-                RunReply::Released => leave(runner, 0),
+            RunState::Unregistering(unregistering) => match reply {
+                RunReply::Unregistered(Some(notice)) => ask(
+                    RunState::PassingOn(Exchanging, unregistering.unregistered()),
+                    RunAction::Tick(TickAction::Exchange(notice)),
+                ),
+                RunReply::Unregistered(None) => {
+                    decide(depart(unregistering.unregistered().depart()))
+                }
+                _ => unreachable!(),
+            },
+            RunState::PassingOn(spending, left) => match reply {
+                RunReply::Tick(reply) => match spending.next(reply) {
+                    Some((spending, action)) => {
+                        ask(RunState::PassingOn(spending, left), RunAction::Tick(action))
+                    }
+                    None => decide(depart(left.depart())),
+                },
+                _ => unreachable!(),
+            },
+            RunState::Releasing(releasing) => match reply {
+                RunReply::Released => RunNext::Rest(releasing.released().end(), TickEnd::Return),
                 _ => unreachable!(),
             },
         }
-    }
-}
-
-// What comes of the decision of the tick that acts for the run.
-#[inline(always)]
-fn resume<W>(runner: Runner, aim: Aim, next: TickNext<W>) -> RunNext<W>
-    requires asked { ticks.IsAsked next }
-    requires course { IsFitNext aim next }
-    ensures decided { result ≡ resumed runner aim next }
-    ensures asked { IsAsked result }
-    ensures store { store_asked result ≡ ticks.store_asked next }
-{
-    match aim {
-        Work => work(runner, next),
-        PassOn(number) => pass_on(runner, number, next),
-        Leave => go_on_leaving(runner, next),
     }
 }

@@ -7,20 +7,26 @@
 //! | `NotRegistered` | wakes the waker of who polls | it answers pending |
 //! | `PollingOwn` | polls its own future, once | `Searching`, or `Unregistering` |
 //! | `Started` | takes a fair part of the global queue, if one is due | `UnderWay`, with the task |
-//! | `UnderWay` | runs the task | `Searching`, or `Yielding` once its turn is over |
-//! | `Unregistering` | ends the queue of its runner | `Departing`, with the notice of that |
-//! | `Releasing` | gives the place of a runner back that was never registered | it has ended |
-ghost use Rattle.std.specs.Prelude.{◌≡◌, ◌==◌, nat_lt, [], Bool, true, false, cond, Option, Some, None, Ok, Err, IfOk, IfErr, IfNone, IfSome, OnOk, MatchResult};
+//! | `UnderWay` | runs the task | `Searching`, or `TurnOver` |
+//! | `TurnOver` | wakes the waker of who polls | it answers pending |
+//! | `Unregistering` | ends the queue of its runner | `Left`, with the notice of that |
+//! | `Left` | spends that notice | `Departing` |
+//! | `Releasing` | gives the place of a runner back that was never registered | `Departed` |
+ghost use Rattle.std.specs.Prelude.{◌≡◌, [], Ok, Err, Some, None, cond, IfErr, IfNone, IfSome, MatchResult};
 ghost use Rattle.executor_core.specs.Cells.Calls.{after_register, after_search, search_in, after_unregister, after_fair, after_release_runner, TakesFound};
+ghost use Rattle.executor_core.specs.World.Phases.{at_rest, in_leaving};
+ghost use Rattle.executor_core.specs.World.Tickers.{ended, left, polled};
 ghost use Rattle.async_executor.specs.Runs.{has_ended};
 ghost use Rattle.async_executor.specs.Runs.Counts.{goes_on, more, anew};
-ghost use Rattle.async_executor.specs.Runs.Fixed.{fixed, runner_polled, runner_started};
-ghost use Rattle.async_executor.specs.Steps.{IsFound};
+ghost use Rattle.async_executor.specs.Runs.Fixed.{fixed, runner_polled, runner_started, runner_turned};
+ghost use Rattle.async_executor.specs.Runs.Replies.{dropped, started, turned};
+ghost use Rattle.async_executor.specs.Runs.Tickers.{runner_in, rest_ticker, of_begun, of_dropped, of_left, of_not_registered, of_polling, of_registered, of_registering, of_releasing, of_sharing, of_started, of_turn_over, of_under_way, of_unregistering, LeadsRun, PollsOwn, GoesOn};
+ghost use Rattle.async_executor.specs.Steps.{IsFound, departing};
+ghost use Rattle.async_executor.specs.Steps.Tickers.{MakesAt, left_awake, stays, of_departed, of_departing, of_rested, of_running};
 ghost use Rattle.async_executor.specs.declared.machine.run.Stage.TheVariants as stage;
-ghost use Rattle.async_executor.specs.declared.machine.run_steps.Started.TheVariants as started;
 
 use crate::machine::run::{RunRest, Runner};
-use crate::machine::steps::{Departing, Found, Rested, Running, Searching, Yielding};
+use crate::machine::steps::{Departed, Departing, Found, Rested, Running, Searching};
 use executor_core::queue::{Ring, RunnerKey};
 use executor_core::task::{Again, Cells, Future, Notice, Poll, Taken, TaskId, Wake};
 
@@ -40,6 +46,22 @@ pub(crate) enum Dropped {
     Unregister(Unregistering),
 }
 
+impl Begun {
+    /// The run is dropped before. Its own future was dropped then.
+    #[inline(always)]
+    pub(in crate::machine) fn depart(self) -> Dropped
+        ensures step { result ≡ dropped self }
+        ensures world { of_dropped result ≡ of_begun self }
+    {
+        match self {
+            Begun::Register(Registering { runner }) => Dropped::Release(Releasing { runner }),
+            Begun::PollOwn(PollingOwn { runner, number }) => {
+                Dropped::Unregister(Unregistering { runner, number })
+            }
+        }
+    }
+}
+
 /// To make its ring the queue of its runner.
 pub(crate) struct Registering {
     pub(in crate::machine) runner: Runner,
@@ -54,19 +76,29 @@ impl Registering {
     ) -> Result<PollingOwn, (NotRegistered, Ring)>
         requires { ring.ids ≡ [] }
         ensures runner { MatchResult result (λ polling. polling.runner ≡ self.runner) (λ refused. refused.0.runner ≡ self.runner) }
+        ensures world { MakesAt at_rest stays (of_registering self) (of_registered result) }
         ensures cells { MatchResult result (λ _. cells.new ≡ after_register cells.old self.runner.key.number ring.capacity) (λ _. cells.new ≡ cells.old) }
         ensures refused { IfErr result (λ refused. refused.1 ≡ ring) }
     {
-        let Registering { runner } = self;
-        match cells.register(runner.key(), ring) {
-            Ok(()) => Ok(PollingOwn { runner, number: 0 }),
-            Err(ring) => Err((NotRegistered { runner }, ring)),
+        match cells.register(self.runner.key(), ring) {
+            Ok(()) => Ok(self.registered()),
+            Err(ring) => Err((self.refused(), ring)),
         }
+    }
+
+    /// The ring is the queue of its runner.
+    pub(in crate::machine) fn registered(self) -> PollingOwn
+        ensures step { result ≡ record { runner = self.runner; number = 0 } }
+        ensures world { MakesAt at_rest stays (of_registering self) (of_polling result) }
+    {
+        let Registering { runner } = self;
+        PollingOwn { runner, number: 0 }
     }
 
     /// There is no ring.
     pub(crate) fn refused(self) -> NotRegistered
-        ensures { result.runner ≡ self.runner }
+        ensures step { result ≡ record { runner = self.runner } }
+        ensures world { of_not_registered result ≡ of_registering self }
     {
         let Registering { runner } = self;
         NotRegistered { runner }
@@ -81,11 +113,18 @@ pub(crate) struct NotRegistered {
 impl NotRegistered {
     /// Wakes the waker. The run tries again at its next poll. No lock may be held.
     pub(crate) fn wake<W: Wake>(self, w: &W) -> RunRest
-        ensures runner { result.runner ≡ self.runner }
-        ensures goes_on { has_ended result ≡ false }
+        ensures rest { result ≡ record { runner = self.runner; stage = stage.New } }
+        ensures world { rest_ticker result ≡ of_not_registered self }
+    {
+        w.wake();
+        self.rest()
+    }
+
+    /// The waker was woken.
+    pub(in crate::machine) fn rest(self) -> RunRest
+        ensures { result ≡ record { runner = self.runner; stage = stage.New } }
     {
         let NotRegistered { runner } = self;
-        w.wake();
         RunRest::of_new(runner)
     }
 }
@@ -114,23 +153,41 @@ impl PollingOwn {
     /// Polls it once. One that is ready is dropped. No lock may be held.
     #[inline(always)]
     pub(crate) fn poll<W, G: Future<W>>(self, own: &mut Option<G>, w: &W) -> OwnPolled<G::Output>
-        ensures { runner_polled result ≡ self.runner }
+        ensures runner { runner_polled result ≡ self.runner }
+        ensures world { PollsOwn (of_polling self) result }
     {
-        let PollingOwn { runner, number } = self;
         let polled = match own {
             Some(future) => future.poll(w),
             None => Poll::Pending,
         };
         match polled {
-            Poll::Pending => OwnPolled::Pending(Searching {
-                actor: runner,
-                number,
-            }),
+            Poll::Pending => OwnPolled::Pending(self.pending()),
             Poll::Ready(output) => {
                 let_go(own);
-                OwnPolled::Ready(output, Unregistering { runner, number })
+                OwnPolled::Ready(output, self.ready())
             }
         }
+    }
+
+    /// The own future is pending.
+    #[inline(always)]
+    pub(in crate::machine) fn pending(self) -> Searching<Runner>
+        ensures { result ≡ record { actor = self.runner; number = self.number } }
+    {
+        let PollingOwn { runner, number } = self;
+        Searching {
+            actor: runner,
+            number,
+        }
+    }
+
+    /// The own future was ready, and was dropped.
+    #[inline(always)]
+    pub(in crate::machine) fn ready(self) -> Unregistering
+        ensures { result ≡ record { runner = self.runner; number = self.number } }
+    {
+        let PollingOwn { runner, number } = self;
+        Unregistering { runner, number }
     }
 }
 
@@ -201,7 +258,8 @@ impl Running<Runner> {
     #[inline(always)]
     pub(crate) fn start(self) -> Started
         ensures fixed { fixed (runner_started result) ≡ fixed self.actor }
-        ensures found { result ≡ cond (goes_on self.actor.found) (started.Run (record { runner = record self.actor { found = more self.actor.found } }) self.taken) (started.Share (record { runner = record self.actor { found = anew self.actor.found }; taken = self.taken })) }
+        ensures found { result ≡ started self }
+        ensures world { of_started result ≡ of_running self (runner_in self.actor) }
     {
         let Running { actor, taken } = self;
         let (runner, is_fair) = actor.found();
@@ -225,9 +283,18 @@ impl Sharing {
     pub(crate) fn make<W>(self, cells: &mut Cells<(), (), W>) -> (UnderWay, Taken<()>)
         ensures cells { cells.new ≡ after_fair cells.old self.runner.key.number }
         ensures task { result ≡ (record { runner = self.runner }, self.taken) }
+        ensures world { MakesAt at_rest stays (of_sharing self) (of_under_way result.0) }
+    {
+        cells.fair(self.runner.key());
+        self.shared()
+    }
+
+    /// The fair part was taken.
+    #[inline(always)]
+    pub(in crate::machine) fn shared(self) -> (UnderWay, Taken<()>)
+        ensures { result ≡ (record { runner = self.runner }, self.taken) }
     {
         let Sharing { runner, taken } = self;
-        cells.fair(runner.key());
         (UnderWay { runner }, taken)
     }
 }
@@ -240,15 +307,42 @@ pub(crate) struct UnderWay {
 impl UnderWay {
     /// It was run. After the last one of a turn the run yields, so that others of its thread go on.
     #[inline(always)]
-    pub(crate) fn ran(self) -> Result<Searching<Runner>, Yielding<Runner>>
-        ensures fixed { MatchResult result (λ searching. fixed searching.actor ≡ fixed self.runner) (λ yielding. fixed yielding.actor ≡ fixed self.runner) }
-        ensures ran { result ≡ cond (goes_on self.runner.count) (Ok (record { actor = record self.runner { count = more self.runner.count }; number = 0 })) (Err (record { actor = record self.runner { count = anew self.runner.count }; number = 0 })) }
+    pub(crate) fn ran(self) -> Result<Searching<Runner>, TurnOver>
+        ensures fixed { fixed (runner_turned result) ≡ fixed self.runner }
+        ensures ran { result ≡ turned self }
+        ensures world { GoesOn (of_under_way self) result }
     {
         let UnderWay { runner } = self;
         match runner.ran() {
             Ok(actor) => Ok(Searching { actor, number: 0 }),
-            Err(actor) => Err(Yielding { actor, number: 0 }),
+            Err(runner) => Err(TurnOver { runner }),
         }
+    }
+}
+
+/// To wake the waker of who polls: its turn is over.
+pub(crate) struct TurnOver {
+    runner: Runner,
+}
+
+impl TurnOver {
+    /// Wakes the waker. No lock may be held.
+    #[inline(always)]
+    pub(crate) fn wake<W: Wake>(self, w: &W) -> RunRest
+        ensures rest { result ≡ record { runner = self.runner; stage = stage.Joined 0 } }
+        ensures world { rest_ticker result ≡ of_turn_over self }
+    {
+        w.wake();
+        self.rest()
+    }
+
+    /// The waker was woken.
+    #[inline(always)]
+    pub(in crate::machine) fn rest(self) -> RunRest
+        ensures { result ≡ record { runner = self.runner; stage = stage.Joined 0 } }
+    {
+        let TurnOver { runner } = self;
+        RunRest::of_joined(runner, 0)
     }
 }
 
@@ -256,7 +350,8 @@ impl Rested<Runner> {
     /// What the run keeps until its next poll.
     #[inline(always)]
     pub(crate) fn keep(self) -> RunRest
-        ensures { result ≡ record { runner = self.actor; stage = stage.Joined self.number } }
+        ensures rest { result ≡ record { runner = self.actor; stage = stage.Joined self.number } }
+        ensures world { rest_ticker result ≡ of_rested self (runner_in self.actor) }
     {
         let Rested { actor, number } = self;
         RunRest::of_joined(actor, number)
@@ -271,29 +366,48 @@ pub(crate) struct Unregistering {
 
 impl Unregistering {
     /// Ends it. There is a notice if tasks stood in it, which are queued globally now.
-    pub(crate) fn make<W>(self, cells: &mut Cells<(), (), W>) -> (Option<Notice>, Departing<Runner>)
+    pub(crate) fn make<W>(self, cells: &mut Cells<(), (), W>) -> (Option<Notice>, Left)
         ensures cells { cells.new ≡ after_unregister cells.old self.runner.key.number }
-        ensures runner { result.1.actor ≡ self.runner }
+        ensures step { result.1 ≡ record { runner = self.runner; number = self.number } }
+        ensures world { MakesAt at_rest left (of_unregistering self) (of_left result.1) }
+    {
+        let notice = cells.unregister(self.runner.key());
+        (notice, self.unregistered())
+    }
+
+    /// The queue has ended.
+    pub(in crate::machine) fn unregistered(self) -> Left
+        ensures { result ≡ record { runner = self.runner; number = self.number } }
     {
         let Unregistering { runner, number } = self;
-        let notice = cells.unregister(runner.key());
-        (
-            notice,
-            Departing {
-                actor: runner,
-                number,
-            },
-        )
+        Left { runner, number }
     }
 }
 
-impl Departing<Runner> {
-    /// The number was removed, and the notice of that was spent.
-    pub(crate) fn departed(self) -> RunRest
-        ensures runner { result.runner ≡ self.actor }
-        ensures ended { has_ended result ≡ true }
+/// To leave the sleepers, once the notice of the queue that has ended is spent.
+pub(crate) struct Left {
+    pub(in crate::machine) runner: Runner,
+    pub(in crate::machine) number: usize,
+}
+
+impl Left {
+    /// That notice was spent, if there was one.
+    pub(crate) fn depart(self) -> Departing<Runner>
+        ensures step { result ≡ departing self.runner self.number }
+        ensures world { LeadsRun self.runner in_leaving left_awake (of_left self) (of_departing result) }
     {
-        let Departing { actor, number: _ } = self;
+        let Left { runner, number } = self;
+        Departing::of(runner, number)
+    }
+}
+
+impl Departed<Runner> {
+    /// What the run keeps, which has ended.
+    pub(crate) fn end(self) -> RunRest
+        ensures rest { result ≡ record { runner = self.actor; stage = stage.Ended } }
+        ensures world { rest_ticker result ≡ of_departed self (runner_in self.actor) }
+    {
+        let Departed { actor } = self;
         RunRest::of_ended(actor)
     }
 }
@@ -305,10 +419,20 @@ pub(crate) struct Releasing {
 
 impl Releasing {
     /// Gives it back.
-    pub(crate) fn make<W>(self, cells: &mut Cells<(), (), W>)
-        ensures { cells.new ≡ after_release_runner cells.old self.runner.key.number }
+    pub(crate) fn make<W>(self, cells: &mut Cells<(), (), W>) -> Departed<Runner>
+        ensures cells { cells.new ≡ after_release_runner cells.old self.runner.key.number }
+        ensures step { result ≡ record { actor = self.runner } }
+        ensures world { LeadsRun self.runner at_rest ended (of_releasing self) (of_departed result) }
+    {
+        cells.release_runner(self.runner.key());
+        self.released()
+    }
+
+    /// It was given back.
+    pub(in crate::machine) fn released(self) -> Departed<Runner>
+        ensures { result ≡ record { actor = self.runner } }
     {
         let Releasing { runner } = self;
-        cells.release_runner(runner.key());
+        Departed { actor: runner }
     }
 }

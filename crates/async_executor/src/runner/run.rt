@@ -9,16 +9,18 @@ ghost use Rattle.executor_core.specs.Limits.{is_lawful};
 ghost use Rattle.async_executor.specs.RunError.{run_cause, run_future};
 ghost use Rattle.async_executor.specs.Answers.{is_ready};
 ghost use Rattle.async_executor.specs.Runs.{has_ended, ids_in, new_rest};
-ghost use Rattle.async_executor.specs.Runs.Fixed.{fixed};
+ghost use Rattle.async_executor.specs.Runs.Fixed.{fixed, runner_worked};
 ghost use Rattle.async_executor.specs.Steps.{actor_going};
 ghost use Rattle.async_executor.specs.LeftOver.{IsHeldRight, IsLeftRight};
+
+mod worker;
 
 use crate::changes;
 use crate::home::{Home, OutIn, OutputIn, store};
 use crate::left_over::{EndThenSearch, LeftOver};
 use crate::machine::{
     Begun, Dropped, GoingToSleep, NextTask, NotRegistered, OwnPolled, PollingOwn, Registering,
-    RunMachine, RunRest, Runner, Running, Search, Searching, Started, Unregistering, Yielding,
+    RunMachine, RunRest, Runner, Running, Search, Searching, Started, TurnOver, Unregistering,
 };
 use crate::runner::words::Words;
 use crate::scheduler::{ExecutorIn, poll_taken};
@@ -29,6 +31,7 @@ use executor_core::queue::{Ring, RunnerError, RunnerKey};
 use executor_core::task::{Again, Cells, Future, Poll, Ran, TaskId, Wake};
 use std::sync::{MutexGuard, Wait};
 use thiserror::Error;
+pub(crate) use worker::WorkerIn;
 
 /// Why there is no run, with the future that it was to run. Nothing else changed.
 ///
@@ -151,11 +154,8 @@ impl<'x, 'y, H: Home, G: Drop> Driver<'x, 'y, H, G> {
 
     // Runs a task, and those that are found after it, until none is found or the turn is over. It is
     // asked whether a search follows before a task is ended, so that both are one change.
-    fn run_tasks(
-        &mut self,
-        running: Running<Runner>,
-    ) -> Result<GoingToSleep<Runner>, Yielding<Runner>>
-        ensures { MatchResult result (λ going. fixed (actor_going going) ≡ fixed running.actor) (λ yielding. fixed yielding.actor ≡ fixed running.actor) }
+    fn run_tasks(&mut self, running: Running<Runner>) -> Result<GoingToSleep<Runner>, TurnOver>
+        ensures { fixed (runner_worked result) ≡ fixed running.actor }
     {
         let mut running = running;
         for _ in self.state.rt().forever() {
@@ -171,9 +171,9 @@ impl<'x, 'y, H: Home, G: Drop> Driver<'x, 'y, H, G> {
             let searching = match under_way.ran() {
                 Ok(searching) => searching,
                 // The task is ended, and none is taken that would wait until the next poll.
-                Err(yielding) => {
+                Err(over) => {
                     self.executor.end(id, ran, &mut self.out);
-                    return Err(yielding);
+                    return Err(over);
                 }
             };
             match self.end_then_search(id, ran) {
@@ -277,7 +277,7 @@ fn work<H: Home, G: Drop>(
                 let running = announce_found(state, searching.found_next(next));
                 match driver.run_tasks(running) {
                     Ok(going) => going,
-                    Err(yielding) => return yielding.wake(w).keep(),
+                    Err(over) => return over.wake(w),
                 }
             }
         };
@@ -323,15 +323,15 @@ fn end<H: Home>(executor: &ExecutorIn<H>, unregistering: Unregistering) -> RunRe
 {
     let state = executor.state();
     let mut cells = state.cells();
-    let (notice, departing) = unregistering.make(&mut cells);
+    let (notice, left) = unregistering.make(&mut cells);
     drop(cells);
     if let Some(notice) = notice {
         announce!(state, notice);
     }
     // After that notice, which may notify this very run: what it was notified of goes on to another.
-    leave(state, &departing);
+    let departed = leave(state, left.depart());
     state.release_sleeper();
-    departing.departed()
+    departed.end()
 }
 
 impl<H: Home, G: Future<H::Waker>> RunIn<'_, H, G> {
@@ -417,8 +417,9 @@ impl<H: Home, G: Future<H::Waker>> Drop for RunIn<'_, H, G> {
             Dropped::Release(releasing) => {
                 let state = executor.state();
                 let mut cells = state.cells();
-                releasing.make(&mut cells);
+                let departed = releasing.make(&mut cells);
                 drop(cells);
+                departed.end();
                 state.release_sleeper();
             }
         }

@@ -2,7 +2,7 @@
 ghost use Rattle.std.specs.Prelude.{◌≡◌, Bool, Some, IfErr, IfNone, vec_len, vec_capacity};
 ghost use Rattle.std.specs.Iterator.{IsFinite};
 ghost use Rattle.executor_core.specs.SpawnError.{refused_future};
-ghost use Rattle.async_executor.specs.SpawnMany.{spawn_cause, spawned, SpawnsInTurn, AddsHandles};
+ghost use Rattle.async_executor.specs.SpawnMany.{spawn_cause, spawned, SpawnsInTurn, AddsHandles, HasPlace};
 
 use crate::changes;
 use crate::home::{Home, Shareable};
@@ -99,6 +99,7 @@ impl<H: Shareable> ExecutorIn<H> {
         ensures futures { SpawnsInTurn I.next_gives futures result }
         ensures handles { AddsHandles T.answered handles.old.items (spawned result) handles.new.items }
         ensures room { IfErr result (λ e. IfNone e.refused (vec_len handles.new ≡ vec_capacity handles.new)) }
+        ensures place { HasPlace (vec_len handles.new) (vec_capacity handles.new) result }
     {
         let tasks = expect_handles(handles, &futures);
         changes::reserve(self.home(), tasks);

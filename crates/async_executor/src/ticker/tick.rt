@@ -5,17 +5,18 @@
 //! dropped after that.
 ghost use Rattle.std.specs.Prelude.{◌≡◌, true, false, Some, None, IsTrue};
 ghost use Rattle.async_executor.specs.Answers.{is_ready};
-ghost use Rattle.async_executor.specs.Steps.{actor_found, actor_going, actor_slept};
+ghost use Rattle.async_executor.specs.Steps.{actor_departing, actor_found, actor_going, actor_slept};
 
 use crate::home::Home;
 use crate::machine::{
-    Departing, Found, GoingToSleep, Rested, Running, Searching, TickMachine, TickRest,
+    Departed, Departing, Found, GoingToSleep, Rested, Running, Searching, TickMachine, TickRest,
+    Went,
 };
 use crate::scheduler::ExecutorIn;
 use crate::state::{ExecutorState, announce, cells, sleepers};
-use executor_core::sleepers::{Removed, Update};
+use executor_core::sleepers::{ClosedSleepers, Removed};
 use executor_core::task::{Again, Future, Notice, Poll, Wake};
-use std::sync::Wait;
+use std::sync::{MutexGuard, Wait};
 
 /// A tick of an executor, which it borrows. It keeps nothing else between its polls but its rest.
 pub struct TickIn<'a, H: Home> {
@@ -47,8 +48,11 @@ pub(crate) fn announce_found<A, W: Wake, R: Wait + Clone + Drop>(
     let (announcing, notice) = match found {
         Found::Awake(announcing, notice) => (announcing, notice),
         Found::Asleep(removing) => {
-            let notified = remove(state, removing.number());
-            removing.removed(notified)
+            let mut guard = sleepers!(state);
+            let sleepers = &mut guard.sleepers;
+            let (storing, change) = removing.make(sleepers);
+            let removed = state.store(change, sleepers);
+            storing.stored(unlock(guard, removed))
         }
     };
     // Before the task is run, which may take long: somebody else can go on with the queue meanwhile.
@@ -78,10 +82,13 @@ pub(crate) fn sleep<A, W: Wake, R: Wait + Clone + Drop>(
 {
     let going = match going {
         GoingToSleep::Update(updating) if is_listed => {
-            if notified_number(state) != updating.number() {
-                return Slept::Rested(updating.asleep());
+            let guard = sleepers!(state);
+            let asleep = updating.sleep_on(&guard.sleepers);
+            drop(guard);
+            match asleep {
+                Ok(rested) => return Slept::Rested(rested),
+                Err(updating) => GoingToSleep::Update(updating),
             }
-            GoingToSleep::Update(updating)
         }
         going => going,
     };
@@ -92,57 +99,33 @@ pub(crate) fn sleep<A, W: Wake, R: Wait + Clone + Drop>(
     // exchange it in between, and what it said of the new list would be overwritten.
     let mut guard = sleepers!(state);
     let sleepers = &mut guard.sleepers;
-    match going {
-        GoingToSleep::Insert(inserting) => match sleepers.insert(waker) {
-            Ok((number, change)) => {
-                let again = state.store(change, sleepers);
-                let (searching, again) = inserting.inserted(number).stored(again);
-                Slept::Again(searching, again)
-            }
-            Err(refused) => {
-                drop(guard);
-                drop(refused);
-                Slept::Rested(inserting.refused().wake(w))
-            }
-        },
-        GoingToSleep::Update(updating) => match sleepers.update(updating.number(), waker) {
-            Update::WasNotified(change) => {
-                let again = state.store(change, sleepers);
-                let (searching, again) = updating.was_notified().stored(again);
-                Slept::Again(searching, again)
-            }
-            Update::Asleep(before) => {
-                drop(guard);
-                drop(before);
-                Slept::Rested(updating.asleep())
-            }
-            Update::Unknown(refused) => {
-                drop(guard);
-                drop(refused);
-                Slept::Rested(updating.refused().wake(w))
-            }
-        },
+    match going.make(sleepers, waker) {
+        Went::Storing(storing, change) => {
+            let again = state.store(change, sleepers);
+            let (searching, again) = storing.stored(again);
+            Slept::Again(searching, again)
+        }
+        Went::Rested(rested, before) => {
+            drop(guard);
+            drop(before);
+            Slept::Rested(rested)
+        }
+        Went::Yielding(yielding, refused) => {
+            drop(guard);
+            drop(refused);
+            Slept::Rested(yielding.wake(w))
+        }
     }
 }
 
-// The number of the sleeper that was notified, or 0.
+// Gives the list's lock up, and drops the waker of a number that was removed after that. There is a
+// notice if it was notified.
 #[inline(always)]
-fn notified_number<W: Wake, R: Wait + Clone + Drop>(state: &ExecutorState<W, R>) -> usize {
-    let guard = sleepers!(state);
-    guard.sleepers.notified()
-}
-
-// Takes the sleeper of this number out of the list, and stores the flag before the list's lock is
-// given up. There is a notice if it was notified.
-#[inline(always)]
-fn remove<W: Wake, R: Wait + Clone + Drop>(
-    state: &ExecutorState<W, R>,
-    number: usize,
+fn unlock<W: Wake>(
+    guard: MutexGuard<'_, ClosedSleepers<W>>,
+    removed: Removed<W>,
 ) -> Option<Notice> {
-    let mut guard = sleepers!(state);
-    let sleepers = &mut guard.sleepers;
-    let change = sleepers.remove(number);
-    let Removed { notice, waker } = state.store(change, sleepers);
+    let Removed { notice, waker } = removed;
     drop(guard);
     drop(waker);
     notice
@@ -151,13 +134,22 @@ fn remove<W: Wake, R: Wait + Clone + Drop>(
 /// Leaves the sleepers for good. What a number was notified of is passed on.
 pub(crate) fn leave<A, W: Wake, R: Wait + Clone + Drop>(
     state: &ExecutorState<W, R>,
-    departing: &Departing<A>,
-) {
-    if let Some(number) = departing.number() {
-        if let Some(notice) = remove(state, number) {
-            announce!(state, notice);
-        }
+    departing: Departing<A>,
+) -> Departed<A>
+    ensures { result.actor ≡ actor_departing departing }
+{
+    let leaving = match departing {
+        Departing::Awake(departed) => return departed,
+        Departing::Asleep(leaving) => leaving,
+    };
+    let mut guard = sleepers!(state);
+    let sleepers = &mut guard.sleepers;
+    let (storing, change) = leaving.make(sleepers);
+    let removed = state.store(change, sleepers);
+    if let Some(notice) = unlock(guard, removed) {
+        announce!(state, notice);
     }
+    storing.stored()
 }
 
 impl<H: Home> Future<H::Waker> for TickIn<'_, H> {
@@ -182,9 +174,9 @@ impl<H: Home> Future<H::Waker> for TickIn<'_, H> {
         for _ in state.rt().forever() {
             let found = cells!(state).take_global(again);
             if let Some((taken, notice)) = found {
-                let (taken, rest) = announce_found(state, searching.found(taken, notice)).run();
+                let (taken, departed) = announce_found(state, searching.found(taken, notice)).run();
                 executor.run_task(taken);
-                self.rest = rest;
+                self.rest = departed.end();
                 state.release_sleeper();
                 return Poll::Ready(());
             }
@@ -211,9 +203,7 @@ impl<H: Home> Drop for TickIn<'_, H> {
         if rest.is_ended() {
             return;
         }
-        let departing = rest.depart();
-        leave(executor.state(), &departing);
-        departing.departed();
+        leave(executor.state(), rest.depart()).end();
         executor.state().release_sleeper();
     }
 }

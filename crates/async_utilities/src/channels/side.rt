@@ -1,122 +1,106 @@
-//! The ends of one side of a channel.
-ghost use Rattle.std.specs.Prelude.{◌≡◌, ◌==◌, ◌++◌, ◌∷◌, ◌+◌, ◌-◌, [], IfOk, IfErr, IfSome, OnOk, OnErr, ◌<◌, position, drop, vec_len};
-ghost use Rattle.async_utilities.specs.Lines.{without, waker_at, replaced, first_due};
+//! The ends of one side of a channel, and who waits there.
+ghost use Rattle.std.specs.Prelude.{◌≡◌, ◌+◌, ◌-◌, ◌==◌, ◌<◌, ◌++◌, ◌∷◌, [], None, Some, IfErr, IfOk, IsSome, OnErr, OnOk};
+ghost use Rattle.async_utilities.specs.WaitQueue.{IsServed, Stays};
+ghost use Rattle.async_utilities.specs.Channels.{Enters, Leaves};
 
 use crate::due::Due;
-use async_executor::OutOfMemory;
-use std::alloc::Global;
+use crate::wait_queue::WaitQueue;
+use async_executor::Wake;
+use std::alloc::{AllocError, Global};
 
-/// How many ends there are, and which of them wait: the first one first, each by its number, with the
-/// waker that it left.
+/// How many ends there are, and who waits.
 #[derive(Drop)]
 pub(crate) struct Side<W> {
-    ends: usize,
-    next_number: u64,
-    waiting: Vec<(u64, W)>,
+    pub(crate) ends: usize,
+    pub(crate) waiters: WaitQueue<W>,
+}
+
+/// What is left of one that gave its place back: its waker, which is dropped, and whom to wake in its
+/// stead. It cannot be dropped.
+pub(crate) struct Left<W> {
+    pub(crate) waker: Option<W>,
+    pub(crate) due: Due<W>,
+}
+
+impl<W: Wake> Left<W> {
+    /// Drops the waker, and wakes whom it is to.
+    pub(crate) fn end(self) {
+        let Left { waker, due } = self;
+        drop(waker);
+        due.wake();
+    }
 }
 
 impl<W: Drop> Side<W> {
-    /// One end, whose number is 0, and which does not wait.
-    pub(crate) fn new(alloc: Global) -> Side<W>
-        ensures ends { result.ends ≡ 1 }
-        ensures waiting { result.waiting.items ≡ [] }
+    /// One end, and nobody waits.
+    pub(crate) fn new(alloc: Global) -> Result<Self, AllocError>
+        ensures ends { IfOk result (λ side. side.ends ≡ 1) }
+        ensures nobody { IfOk result (λ side. side.waiters.waiting ≡ []) }
     {
-        Side {
-            ends: 1,
-            next_number: 1,
-            waiting: Vec::new(alloc),
-        }
+        let mut waiters = WaitQueue::new(alloc);
+        waiters.reserve(1)?;
+        Ok(Side { ends: 1, waiters })
     }
 
-    /// Whether there is no end.
-    pub(crate) fn is_gone(&self) -> bool
-        ensures { result ≡ (self.now.ends == 0) }
+    /// Counts one end more, for which a place is reserved.
+    pub(crate) fn join(&mut self) -> Result<(), AllocError>
+        ensures ends { OnOk result (self.new.ends ≡ self.old.ends + 1) }
+        ensures refused { OnErr result (self.new.ends ≡ self.old.ends) }
+        ensures stays { Stays self.old.waiters self.new.waiters }
     {
+        let Some(ends) = self.ends.checked_add(1) else {
+            return Err(AllocError);
+        };
+        self.waiters.reserve(ends)?;
+        self.ends = ends;
+        Ok(())
+    }
+
+    /// Counts one end less, and says whether none is left.
+    pub(crate) fn part(&mut self) -> bool
+        ensures ends { self.new.ends ≡ self.old.ends - 1 }
+        ensures last { result ≡ (self.new.ends == 0) }
+        ensures waiters { self.new.waiters ≡ self.old.waiters }
+    {
+        self.ends = self.ends.saturating_sub(1);
         self.ends == 0
     }
 
-    /// The number of one end more, for which room is reserved among those that wait.
-    pub(crate) fn join(&mut self) -> Result<u64, OutOfMemory>
-        ensures ends { OnOk result (self.new.ends ≡ self.old.ends + 1) }
-        ensures refused { OnErr result (self.new.ends ≡ self.old.ends) }
-        ensures waiting { self.new.waiting.items ≡ self.old.waiting.items }
-    {
-        let number = self.next_number;
-        let (Some(ends), Some(next)) = (self.ends.checked_add(1), number.checked_add(1)) else {
-            return Err(OutOfMemory);
-        };
-        self.waiting.try_reserve(ends)?;
-        self.ends = ends;
-        self.next_number = next;
-        Ok(number)
-    }
-
-    // The place of an end among those that wait.
-    fn place_of(&self, number: u64) -> Option<usize>
-        ensures place { result ≡ position (λ one. one.0 == number) self.now.waiting.items }
-        ensures inside { IfSome result (λ place. place < vec_len self.now.waiting) }
-    {
-        self.waiting.iter().position(|one| one.0 == number)
-    }
-
-    /// Has an end wait with this waker, in place of an earlier one, which comes out. If there is no
-    /// room, the waker comes back.
-    pub(crate) fn enter(&mut self, number: u64, waker: W) -> Result<Option<W>, W>
+    /// Has one wait with this waker, at its place if it has one, else at a new one. Gives the place, and
+    /// an earlier waker. If there is no memory for a place, the waker comes back.
+    pub(crate) fn wait(&mut self, place: Option<usize>, waker: W) -> Result<(usize, Option<W>), W>
         ensures ends { self.new.ends ≡ self.old.ends }
-        ensures waits { OnOk result (self.new.waiting.items ≡ replaced self.old.waiting.items (position (λ one. one.0 == number) self.old.waiting.items) (number, waker)) }
-        ensures earlier { IfOk result (λ earlier. earlier ≡ waker_at self.old.waiting.items (position (λ one. one.0 == number) self.old.waiting.items)) }
-        ensures refused { IfErr result (λ back. (back ≡ waker) × (self.new.waiting.items ≡ self.old.waiting.items)) }
+        ensures waits { IfOk result (λ kept. Enters self.old.waiters place waker kept self.new.waiters) }
+        ensures refused { IfErr result (λ back. (place ≡ None) × (back ≡ waker)) }
+        ensures stays { OnErr result (Stays self.old.waiters self.new.waiters) }
     {
-        match self.place_of(number) {
-            Some(place) => {
-                let (_, earlier) = std::mem::replace(&mut self.waiting[place], (number, waker));
-                Ok(Some(earlier))
-            }
-            None => match self.waiting.push((number, waker)) {
-                Ok(()) => Ok(None),
-                Err(failed) => Err(failed.value.1),
+        let place = match place {
+            Some(place) => place,
+            None => match self.waiters.join() {
+                Ok(place) => place,
+                Err(_) => return Err(waker),
             },
-        }
+        };
+        let unused = self.waiters.wait(place, waker);
+        Ok((place, unused))
     }
 
-    /// Has an end wait no longer, and gives the waker that it left.
-    pub(crate) fn leave(&mut self, number: u64) -> Option<W>
+    /// Gives a place back, if there is one. If it was notified of what it did not take, the next one is
+    /// due.
+    pub(crate) fn leave(&mut self, place: Option<usize>, there: usize) -> Left<W>
         ensures ends { self.new.ends ≡ self.old.ends }
-        ensures waiting { self.new.waiting.items ≡ without self.old.waiting.items (position (λ one. one.0 == number) self.old.waiting.items) }
-        ensures waker { result ≡ waker_at self.old.waiting.items (position (λ one. one.0 == number) self.old.waiting.items) }
+        ensures leaves { Leaves self.old.waiters place there (result.waker, result.due) self.new.waiters }
+        ensures served { IsServed there self.old.waiters → IsServed there self.new.waiters }
+        ensures nobody { self.old.waiters.waiting ≡ [] → self.new.waiters.waiting ≡ [] }
     {
-        let place = self.place_of(number)?;
-        let (_, waker) = self.waiting.remove(place);
-        Some(waker)
-    }
-
-    /// Takes the waker of the first one that waits.
-    pub(crate) fn first(&mut self) -> Due<W>
-        ensures ends { self.new.ends ≡ self.old.ends }
-        ensures first { result ≡ first_due self.old.waiting.items }
-        ensures rest { self.new.waiting.items ≡ drop 1 self.old.waiting.items }
-    {
-        if self.waiting.is_empty() {
-            return Due::Nobody;
-        }
-        let (_, waker) = self.waiting.remove(0);
-        Due::One(waker)
-    }
-
-    /// Takes the wakers of all that wait.
-    pub(crate) fn all(&mut self, alloc: Global) -> Due<W>
-        ensures ends { self.new.ends ≡ self.old.ends }
-        ensures all { result ≡ Due.All self.old.waiting }
-        ensures none { self.new.waiting.items ≡ [] }
-    {
-        Due::All(std::mem::replace(&mut self.waiting, Vec::new(alloc)))
-    }
-
-    /// One end less.
-    pub(crate) fn part(&mut self)
-        ensures ends { self.new.ends ≡ self.old.ends - 1 }
-        ensures waiting { self.new.waiting.items ≡ self.old.waiting.items }
-    {
-        self.ends = self.ends.saturating_sub(1);
+        let Some(place) = place else {
+            return Left {
+                waker: None,
+                due: Due::Nobody,
+            };
+        };
+        let waker = self.waiters.leave(place);
+        let due = self.waiters.notify(there);
+        Left { waker, due }
     }
 }

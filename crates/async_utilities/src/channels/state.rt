@@ -1,113 +1,182 @@
 //! What the ends of a channel share under their lock: its messages, and the ends of both sides.
-ghost use Rattle.std.specs.Prelude.{◌≡◌, ◌==◌, [], IfOk, drop, length};
-ghost use Rattle.circular_buffer.specs.Buffer.{buffer};
-ghost use Rattle.async_utilities.specs.Channels.{sent, kept, received, left, is_kept, is_message, Leaves};
+//!
+//! The law of each side stands in the type. If a receiver waits, at least as many receivers are
+//! notified as there are messages, and if a sender waits, at least as many senders as there is room.
+ghost use Rattle.std.specs.Prelude.{◌≡◌, ◌≤◌, ◌<◌, ◌-◌, ◌==◌, [], None, Some, IfErr, IfOk, IfSome, IsTrue, OnErr, OnOk, false, true, length};
+ghost use Rattle.std.specs.VecDeque.{deque_capacity};
+ghost use Rattle.async_utilities.specs.Channels.{AreGone};
+ghost use Rattle.async_utilities.specs.WaitQueue.{IsServed};
 
-use crate::channels::side::Side;
-use crate::due::Due;
-use async_executor::OutOfMemory;
-use circular_buffer::HeapCircularBuffer;
-use std::alloc::Global;
+use crate::channels::side::{Left, Side};
+use crate::due::{AllDue, Due};
+use crate::wait_queue::WaitQueue;
+use async_executor::Wake;
+use std::alloc::{AllocError, Global};
+use std::collections::VecDeque;
+use std::mem::replace;
 
-/// What came of a message. S is the waker of a sender, V that of a receiver.
+/// What came of a message. V is the waker of a receiver.
 pub(crate) enum Sent<T, V> {
     /// It is in the channel, and this receiver is to be woken.
     Kept(Due<V>),
     /// There is no room for it.
     Full(T),
-    /// There is no receiver.
+    /// The channel is closed.
     Closed(T),
+    /// There is no memory for it.
+    Refused(T),
 }
 
-/// What a receiver got.
+/// What a receiver got. S is the waker of a sender.
 pub(crate) enum Received<T, S> {
     /// A message, and this sender is to be woken.
     Message(T, Due<S>),
     /// There is no message yet.
     Empty,
-    /// There is no message and no sender.
+    /// There is no message, and the channel is closed.
     Closed,
+}
+
+/// Who waited at a channel that was closed.
+pub(crate) struct Closing<S, V> {
+    pub(crate) senders: AllDue<S>,
+    pub(crate) receivers: AllDue<V>,
+}
+
+impl<S: Wake, V: Wake> Closing<S, V> {
+    /// Wakes them, each once.
+    pub(crate) fn wake(self) {
+        let Closing { senders, receivers } = self;
+        senders.wake();
+        receivers.wake();
+    }
 }
 
 #[derive(Drop)]
 pub(crate) struct State<T, S, V> {
-    pub(crate) messages: HeapCircularBuffer<T>,
+    pub(crate) messages: VecDeque<T>,
+    pub(crate) capacity: usize,
+    pub(crate) is_closed: bool,
     pub(crate) senders: Side<S>,
     pub(crate) receivers: Side<V>,
+    ghost fits: { length messages.items ≤ capacity },
+    ghost room_is_told: { IsServed (capacity - length messages.items) senders.waiters },
+    ghost messages_are_told: { IsServed (length messages.items) receivers.waiters },
+    ghost nobody_waits: { is_closed ≡ true → AreGone senders.waiters receivers.waiters },
 }
 
 impl<T: Drop, S: Drop, V: Drop> State<T, S, V> {
-    /// A channel with room for so many messages, with a sender and a receiver.
-    pub(crate) fn new(alloc: Global, capacity: usize) -> Result<State<T, S, V>, OutOfMemory>
-        ensures { IfOk result (λ state. state.messages ≡ buffer [] capacity) }
+    ghost use Rattle.async_utilities.specs.ChannelSteps.{Closes, LeavesReceivers, LeavesSenders, Receives, Sends};
+    ghost use Rattle.async_utilities.specs.ChannelSteps.{WaitsToReceive, WaitsToSend};
+
+    /// A channel with a sender and a receiver, that takes so many messages, and has memory for these
+    /// from the first.
+    pub(crate) fn new(alloc: Global, capacity: usize, reserved: usize) -> Result<Self, AllocError>
+        ensures messages { IfOk result (λ state. (state.messages.items ≡ []) × (state.capacity ≡ capacity)) }
+        ensures reserved { IfOk result (λ state. reserved ≤ deque_capacity state.messages) }
+        ensures open { IfOk result (λ state. state.is_closed ≡ false) }
+        ensures ends { IfOk result (λ state. (state.senders.ends ≡ 1) × (state.receivers.ends ≡ 1)) }
     {
         Ok(State {
-            messages: HeapCircularBuffer::with_capacity(alloc, capacity)?,
-            senders: Side::new(alloc),
-            receivers: Side::new(alloc),
+            messages: VecDeque::with_capacity(alloc, reserved)?,
+            capacity,
+            is_closed: false,
+            senders: Side::new(alloc)?,
+            receivers: Side::new(alloc)?,
         })
     }
 
-    /// Puts a message at the end, if there is room and a receiver, and has the first receiver that
-    /// waits be woken. Else the message comes back, and nothing changes.
+    /// Puts a message at the end, and has the first receiver that waits be woken. Else the message
+    /// comes back, and nothing changes.
     pub(crate) fn send(&mut self, message: T) -> Sent<T, V>
-        ensures answer { result ≡ sent self.old message }
-        ensures messages { self.new.messages ≡ buffer (kept self.old message) self.old.messages.capacity }
-        ensures senders { self.new.senders ≡ self.old.senders }
-        ensures ends { self.new.receivers.ends ≡ self.old.receivers.ends }
-        ensures waiting { self.new.receivers.waiting.items ≡ left (is_kept result) self.old.receivers.waiting.items }
+        ensures { Sends self.old message result self.new }
     {
-        if self.receivers.is_gone() {
+        if self.is_closed {
             return Sent::Closed(message);
         }
-        match self.messages.try_push_back(message) {
-            Ok(()) => Sent::Kept(self.receivers.first()),
-            Err(message) => Sent::Full(message),
+        if self.messages.len() >= self.capacity {
+            return Sent::Full(message);
+        }
+        match self.messages.push_back(message) {
+            Ok(()) => Sent::Kept(self.receivers.waiters.notify(self.messages.len())),
+            Err(failed) => Sent::Refused(failed.value),
         }
     }
 
     /// Takes the first message, if there is one, and has the first sender that waits be woken.
     pub(crate) fn receive(&mut self) -> Received<T, S>
-        ensures answer { result ≡ received self.old }
-        ensures messages { self.new.messages ≡ buffer (drop 1 self.old.messages.items) self.old.messages.capacity }
-        ensures receivers { self.new.receivers ≡ self.old.receivers }
-        ensures ends { self.new.senders.ends ≡ self.old.senders.ends }
-        ensures waiting { self.new.senders.waiting.items ≡ left (is_message result) self.old.senders.waiting.items }
+        ensures { Receives self.old result self.new }
     {
         match self.messages.pop_front() {
-            Some(message) => Received::Message(message, self.senders.first()),
-            None if self.senders.is_gone() => Received::Closed,
+            Some(message) => {
+                let room = self.capacity - self.messages.len();
+                Received::Message(message, self.senders.waiters.notify(room))
+            }
+            None if self.is_closed => Received::Closed,
             None => Received::Empty,
         }
     }
 
-    /// Has a sender wait no longer, and gives its waker. If it was told of room already, which it does
-    /// not use, the next sender that waits is told.
-    pub(crate) fn leave_senders(&mut self, number: u64) -> (Option<S>, Due<S>)
-        ensures messages { self.new.messages ≡ self.old.messages }
-        ensures receivers { self.new.receivers ≡ self.old.receivers }
-        ensures ends { self.new.senders.ends ≡ self.old.senders.ends }
-        ensures waiting { Leaves number self.old.senders.waiting.items (length self.old.messages.items == self.old.messages.capacity) result self.new.senders.waiting.items }
+    /// Has a sender wait for room. If there is some, or the channel is closed, or there is no memory
+    /// for its place, the waker comes back, and is to be woken.
+    pub(crate) fn wait_to_send(
+        &mut self,
+        place: Option<usize>,
+        waker: S,
+    ) -> Result<(usize, Option<S>), S>
+        ensures { WaitsToSend self.old place waker result self.new }
     {
-        let waker = self.senders.leave(number);
-        if waker.is_some() || self.messages.is_full() {
-            return (waker, Due::Nobody);
+        if self.is_closed || self.messages.len() < self.capacity {
+            return Err(waker);
         }
-        (None, self.senders.first())
+        self.senders.wait(place, waker)
     }
 
-    /// Has a receiver wait no longer, and gives its waker. If it was told of a message already, which
-    /// it does not take, the next receiver that waits is told.
-    pub(crate) fn leave_receivers(&mut self, number: u64) -> (Option<V>, Due<V>)
-        ensures messages { self.new.messages ≡ self.old.messages }
-        ensures senders { self.new.senders ≡ self.old.senders }
-        ensures ends { self.new.receivers.ends ≡ self.old.receivers.ends }
-        ensures waiting { Leaves number self.old.receivers.waiting.items (length self.old.messages.items == 0) result self.new.receivers.waiting.items }
+    /// Has a receiver wait for a message. If there is one, or the channel is closed, or there is no
+    /// memory for its place, the waker comes back, and is to be woken.
+    pub(crate) fn wait_to_receive(
+        &mut self,
+        place: Option<usize>,
+        waker: V,
+    ) -> Result<(usize, Option<V>), V>
+        ensures { WaitsToReceive self.old place waker result self.new }
     {
-        let waker = self.receivers.leave(number);
-        if waker.is_some() || self.messages.is_empty() {
-            return (waker, Due::Nobody);
+        if self.is_closed || !self.messages.is_empty() {
+            return Err(waker);
         }
-        (None, self.receivers.first())
+        self.receivers.wait(place, waker)
+    }
+
+    /// Has a sender wait no longer. If it was told of room that it did not use, the next one is.
+    pub(crate) fn leave_senders(&mut self, place: Option<usize>) -> Left<S>
+        ensures { LeavesSenders self.old place result self.new }
+    {
+        let room = self.capacity - self.messages.len();
+        self.senders.leave(place, room)
+    }
+
+    /// Has a receiver wait no longer. If it was told of a message that it did not take, the next one is.
+    pub(crate) fn leave_receivers(&mut self, place: Option<usize>) -> Left<V>
+        ensures { LeavesReceivers self.old place result self.new }
+    {
+        let there = self.messages.len();
+        self.receivers.leave(place, there)
+    }
+
+    /// Closes the channel, and gives all who wait. What is inside stays. Nothing changes if it was
+    /// closed before.
+    pub(crate) fn close(&mut self, alloc: Global) -> Option<Closing<S, V>>
+        ensures { Closes self.old result self.new }
+    {
+        if self.is_closed {
+            return None;
+        }
+        self.is_closed = true;
+        let senders = replace(&mut self.senders.waiters, WaitQueue::new(alloc));
+        let receivers = replace(&mut self.receivers.waiters, WaitQueue::new(alloc));
+        Some(Closing {
+            senders: AllDue { waiters: senders },
+            receivers: AllDue { waiters: receivers },
+        })
     }
 }

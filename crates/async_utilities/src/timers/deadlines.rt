@@ -1,22 +1,19 @@
 //! The deadlines of a timer, which stand under its lock.
-ghost use Rattle.std.specs.Prelude.{◌≡◌, ◌+◌, ◌<◌, ◌≤◌, ◌↔◌, max, All, Some, None, IsSome, IfSome, IfNone, IfOk, IfErr, IsOk, OnErr, IsTrue, drop, slice_get, false, if◌then◌else◌};
+ghost use Rattle.std.specs.Prelude.{◌≡◌, ◌+◌, ◌<◌, ◌≤◌, ◌↔◌, max, All, Some, None, IsSome, IfSome, IfOk, IfErr, IsOk, drop, slice_get, false, if◌then◌else◌};
 ghost use Rattle.std.specs.Duration.{as_nanos};
 ghost use Rattle.std.specs.BTreeMap.{get, keys, Updates, ContainsKey, IsUnchanged, IsEmpty};
-ghost use Rattle.async_utilities.specs.Places.{waker_in};
-ghost use Rattle.async_utilities.specs.Deadlines.{by_time, fired, is_first, is_fired, IsFresh};
+ghost use Rattle.async_utilities.specs.Deadlines.{by_time, fired, is_fired, is_nearer, news_of, IsFresh};
 
 use crate::due::Due;
 use crate::timers::reading::Reading;
-use async_executor::OutOfMemory;
 use std::alloc::Global;
 use std::collections::BTreeMap;
-use std::time::Duration;
 
-/// A deadline, in nanoseconds since the start of the clock, and its number, which no other one of the
+/// A time, in nanoseconds since the start of the clock, and a number, which no other deadline of the
 /// same timer has. The earlier one comes first, and of two at one time the one that was set first.
 #[derive(Clone, Copy, Debug, PartialEq, Eq, PartialOrd, Ord, Hash)]
 pub(crate) struct Deadline {
-    pub(crate) nanos: u128,
+    pub(crate) nanos: u64,
     pub(crate) number: u64,
 }
 
@@ -25,14 +22,33 @@ pub(crate) enum Fired<W> {
     /// It was reached. It is gone, and this waker is to be woken.
     One(Due<W>),
     /// It is still to come, at this time, or there is none.
-    Rest(Option<u128>),
+    Rest(Option<u64>),
 }
 
-/// The deadlines that were set, each until it is fired or removed, with the waker that was left there,
-/// and the latest time that the clock was read at.
+/// Whether a deadline comes before all that were there. It cannot be dropped: `Drivers::tell` is its
+/// one end.
+pub(crate) enum News {
+    Nearer,
+    NoNearer,
+}
+
+impl News {
+    fn of(is_nearer: bool) -> News
+        ensures { result ≡ news_of is_nearer }
+    {
+        if is_nearer {
+            News::Nearer
+        } else {
+            News::NoNearer
+        }
+    }
+}
+
+/// The deadlines that somebody waits for, each until it is fired or removed, with the waker that was
+/// left there, and the latest time that the clock was read at.
 #[derive(Drop)]
 pub(crate) struct Deadlines<W> {
-    waiting: BTreeMap<Deadline, Option<W>, Global>,
+    waiting: BTreeMap<Deadline, W, Global>,
     latest: Reading,
     next_number: u64,
     ghost fresh: { IsFresh waiting next_number },
@@ -51,79 +67,82 @@ impl<W: Drop> Deadlines<W> {
         }
     }
 
-    /// The clock was read at this time. A time before the latest one counts as that.
-    pub(crate) fn advance(&mut self, now: Reading)
+    /// The clock was read at this time. A time before the latest one counts as that. Gives the latest.
+    pub(crate) fn advance(&mut self, now: Reading) -> Reading
         ensures latest { as_nanos self.new.latest.since_start ≡ max (as_nanos self.old.latest.since_start) (as_nanos now.since_start) }
+        ensures result { result ≡ self.new.latest }
         ensures waiting { self.new.waiting ≡ self.old.waiting }
     {
         self.latest = self.latest.later(now);
+        self.latest
     }
 
-    /// Sets a deadline so long after the latest time, with no waker.
-    pub(crate) fn set(&mut self, duration: Duration) -> Result<Deadline, OutOfMemory>
-        ensures set { IfOk result (λ deadline. (get by_time self.old.waiting deadline ≡ None) × Updates by_time self.old.waiting self.new.waiting deadline (Some None)) }
-        ensures time { IfOk result (λ deadline. deadline.nanos ≡ as_nanos self.old.latest.since_start + as_nanos duration) }
-        ensures refused { OnErr result (IsUnchanged self.old.waiting self.new.waiting) }
-        ensures latest { self.new.latest ≡ self.old.latest }
-    {
-        let nanos = self.latest.nanos() + duration.as_nanos();
-        let number = self.next_number;
-        let Some(next) = number.checked_add(1) else {
-            return Err(OutOfMemory);
-        };
-        let deadline = Deadline { nanos, number };
-        match self.waiting.insert(deadline, None) {
-            Ok(_) => {
-                self.next_number = next;
-                Ok(deadline)
-            }
-            Err(_) => Err(OutOfMemory),
-        }
-    }
-
-    /// Whether this one is the first.
-    pub(crate) fn is_first(&self, deadline: Deadline) -> bool
-        ensures { result ≡ is_first self.now.waiting.entries deadline.number }
-    {
-        match self.waiting.first_key_value() {
-            Some((first, _)) => first.number == deadline.number,
-            None => false,
-        }
-    }
-
-    /// The latest time, if this deadline is reached.
-    pub(crate) fn reached(&self, deadline: Deadline) -> Option<Reading>
-        ensures reached { IsSome result ↔ (deadline.nanos ≤ as_nanos self.now.latest.since_start) }
+    /// The latest time, if this one is reached.
+    pub(crate) fn reached(&self, nanos: u64) -> Option<Reading>
+        ensures reached { IsSome result ↔ (nanos ≤ as_nanos self.now.latest.since_start) }
         ensures latest { IfSome result (λ now. now ≡ self.now.latest) }
     {
-        if deadline.nanos <= self.latest.nanos() {
+        if u128::from(nanos) <= self.latest.nanos() {
             Some(self.latest)
         } else {
             None
         }
     }
 
-    /// Leaves a waker at a deadline, in place of an earlier one, which comes back. If the deadline is
+    // Whether a time is before all that are there.
+    fn is_nearer(&self, nanos: u64) -> bool
+        ensures { result ≡ is_nearer nanos self.now.waiting.entries }
+    {
+        match self.waiting.first_key_value() {
+            Some((first, _)) => nanos < first.nanos,
+            None => true,
+        }
+    }
+
+    /// Sets a deadline at this time, with a waker. If memory is refused, the waker comes back.
+    pub(crate) fn set(&mut self, nanos: u64, waker: W) -> Result<(Deadline, News), W>
+        ensures set { IfOk result (λ set. (get by_time self.old.waiting set.0 ≡ None) × Updates by_time self.old.waiting self.new.waiting set.0 (Some waker)) }
+        ensures time { IfOk result (λ set. set.0.nanos ≡ nanos) }
+        ensures news { IfOk result (λ set. set.1 ≡ news_of (is_nearer nanos self.old.waiting.entries)) }
+        ensures refused { IfErr result (λ back. (back ≡ waker) × IsUnchanged self.old.waiting self.new.waiting) }
+        ensures latest { self.new.latest ≡ self.old.latest }
+    {
+        let number = self.next_number;
+        let Some(next) = number.checked_add(1) else {
+            return Err(waker);
+        };
+        let deadline = Deadline { nanos, number };
+        let is_nearer = self.is_nearer(nanos);
+        match self.waiting.insert(deadline, waker) {
+            Ok(_) => {
+                self.next_number = next;
+                Ok((deadline, News::of(is_nearer)))
+            }
+            Err(failed) => Err(failed.value.1),
+        }
+    }
+
+    /// Leaves a waker at a deadline, in place of the earlier one, which comes back. If the deadline is
     /// gone, this one does.
-    pub(crate) fn leave(&mut self, deadline: Deadline, waker: W) -> Result<Option<W>, W>
-        ensures left { IfOk result (λ earlier. (earlier ≡ waker_in (get by_time self.old.waiting deadline)) × Updates by_time self.old.waiting self.new.waiting deadline (Some (Some waker))) }
+    pub(crate) fn leave(&mut self, deadline: Deadline, waker: W) -> Result<W, W>
+        ensures left { IfOk result (λ earlier. (get by_time self.old.waiting deadline ≡ Some earlier) × Updates by_time self.old.waiting self.new.waiting deadline (Some waker)) }
         ensures gone { IfErr result (λ back. (back ≡ waker) × IsUnchanged self.old.waiting self.new.waiting) }
         ensures variant { IsOk result ↔ ContainsKey by_time self.old.waiting deadline }
         ensures latest { self.new.latest ≡ self.old.latest }
     {
         match self.waiting.get_mut(&deadline) {
-            Some(kept) => Ok(kept.replace(waker)),
+            Some(kept) => Ok(std::mem::replace(kept, waker)),
             None => Err(waker),
         }
     }
 
-    /// Removes a deadline, and gives the waker that was left there.
+    /// Removes a deadline, and gives the waker that was left there, if it is not gone.
     pub(crate) fn remove(&mut self, deadline: Deadline) -> Option<W>
         ensures removed { Updates by_time self.old.waiting self.new.waiting deadline None }
-        ensures waker { result ≡ waker_in (get by_time self.old.waiting deadline) }
+        ensures waker { result ≡ get by_time self.old.waiting deadline }
         ensures latest { self.new.latest ≡ self.old.latest }
     {
-        self.waiting.remove(&deadline)?
+        self.waiting.remove(&deadline)
     }
 
     /// Takes the first deadline, if the latest time has reached it, with the waker that was left there.
@@ -136,14 +155,13 @@ impl<W: Drop> Deadlines<W> {
     {
         match self.waiting.first_key_value() {
             None => return Fired::Rest(None),
-            Some((first, _)) if self.latest.nanos() < first.nanos => {
+            Some((first, _)) if self.latest.nanos() < u128::from(first.nanos) => {
                 return Fired::Rest(Some(first.nanos));
             }
             Some(_) => {}
         }
         match self.waiting.pop_first() {
-            Some((_, Some(waker))) => Fired::One(Due::One(waker)),
-            Some((_, None)) => Fired::One(Due::Nobody),
+            Some((_, waker)) => Fired::One(Due::One(waker)),
             None => unreachable!(),
         }
     }

@@ -1,12 +1,12 @@
-//! Times that a clock was read at.
-ghost use Rattle.std.specs.Prelude.{◌≡◌, ◌<◌, ◌*◌, ◌^◌, max};
-ghost use Rattle.std.specs.Duration.{as_nanos};
+//! Times of a clock.
+ghost use Rattle.std.specs.Prelude.{◌≡◌, ◌<◌, ◌+◌, ◌*◌, ◌^◌, ◌↔◌, max, IsSome, IfSome};
+ghost use Rattle.std.specs.Duration.{as_nanos, FitsDuration};
 
 use std::io;
 use std::time::{Clock, Duration};
 
-/// A time that a clock was read at, counted from the clock's start, which is arbitrary. There is none
-/// but those that a clock gave.
+/// A time that a clock was read at, or one so much later, counted from the clock's start, which is
+/// arbitrary. There is none but those that begin with what a clock gave.
 ///
 /// Example: `uses::rests`.
 ///
@@ -34,6 +34,22 @@ impl Reading {
     pub fn now(clock: &impl Clock) -> io::Result<Reading> {
         Ok(Reading {
             since_start: clock.monotonic()?,
+        })
+    }
+
+    /// The time that is so much later, unless a `Duration` cannot count it.
+    ///
+    /// Example: `uses::beats`.
+    ///
+    /// ```text
+    /// let first = Reading::now(rt).ok()?.checked_add(period)?;
+    /// ```
+    pub fn checked_add(self, duration: Duration) -> Option<Reading>
+        ensures variant { IsSome result ↔ FitsDuration (as_nanos self.since_start + as_nanos duration) }
+        ensures later { IfSome result (λ later. as_nanos later.since_start ≡ as_nanos self.since_start + as_nanos duration) }
+    {
+        Some(Reading {
+            since_start: self.since_start.checked_add(duration)?,
         })
     }
 

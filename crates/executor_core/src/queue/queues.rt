@@ -26,11 +26,13 @@ use crate::task::{Notice, TaskId};
 use std::alloc::{AllocError, Global};
 use std::marker::Model;
 
-// The queue of a registered runner, which has this number.
+// The queue of a registered runner, which has this number. Those of two runners share no cache line,
+// nor two lines that a processor asks for together.
 #[derive(Drop)]
 struct LocalQueue {
     runner: u64,
     ring: Ring,
+    before_next: [u64; 16],
 }
 
 /// The queues, and the places that are reserved for runners.
@@ -307,6 +309,7 @@ impl<P, T, W> Queues<P, T, W> {
         self.locals.push_reserved(LocalQueue {
             runner: key.number,
             ring,
+            before_next: [0; 16],
         });
         Ok(())
     }
@@ -339,6 +342,7 @@ impl<P, T, W> Queues<P, T, W> {
         let LocalQueue {
             runner: _,
             mut ring,
+            before_next: _,
         } = self.locals.remove(position);
         let count = ring.len();
         self.slots.append(&mut ring);
@@ -440,7 +444,7 @@ impl<P, T, W> Queues<P, T, W> {
     }
 
     // The first of the runners' queues in which a task stands.
-    fn first_occupied(&self) -> Option<usize>
+    pub(crate) fn first_occupied(&self) -> Option<usize>
         ensures { result ≡ first_occupied self.now.state.lists.locals }
     {
         first_in(&self.locals)

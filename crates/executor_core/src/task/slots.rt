@@ -35,10 +35,11 @@ struct Slot<P, T, W> {
 /// A contract sees it as `LinkedSlots`: what each slot has, and the queued ids as a list.
 #[derive(Drop)]
 pub(crate) struct Slots<P, T, W> {
-    slots: Slab<Slot<P, T, W>>,
+    // What each push and each take writes, close to the lock under which the table stands.
     first: usize,
     last: usize,
     len: usize,
+    slots: Slab<Slot<P, T, W>>,
 }
 
 impl<P, T, W> Model for Slots<P, T, W> {
@@ -64,10 +65,10 @@ impl<P, T, W> Slots<P, T, W> {
         ensures { result ≡ record { slots = []; queue = [] } }
     {
         Slots {
-            slots: Slab::new(alloc),
             first: NO_SLOT,
             last: NO_SLOT,
             len: 0,
+            slots: Slab::new(alloc),
         }
     }
 

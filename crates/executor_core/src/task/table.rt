@@ -38,8 +38,8 @@ pub enum EndPending<P> {
 /// and else in none.
 #[derive(Drop)]
 pub struct Cells<P, T, W> {
-    pub(crate) next: u64,
     pub(crate) queues: Queues<P, T, W>,
+    pub(crate) next: u64,
     pub(crate) undropped: usize,
     pub(crate) closed: bool,
 }
@@ -77,8 +77,8 @@ impl<P, T, W> Cells<P, T, W> {
         ensures { IfOk result (λ cells. cells ≡ empty_table first) }
     {
         Ok(Cells {
-            next: first,
             queues: Queues::new(alloc),
+            next: first,
             undropped: 0,
             closed: false,
         })

@@ -1,49 +1,72 @@
-use Rattle.std.proofs.Common.{◌+◌, ◌<◌, subst, sym, ap, ◌∙◌, rules}
-use Rattle.async_executor.specs.Runs.Fairs.{FindsIn, FindsFrom}
-use Rattle.async_executor.specs.Runs.Tickers.{ticker_after}
+use Rattle.std.proofs.Common.{◌≡◌, ◌+◌, ◌<◌, true, false, subst, sym, ap, ◌∙◌}
+use Rattle.async_executor.specs.Runs.{runner_at, store_asked, store_after, IsAsked}
+use Rattle.async_executor.specs.Runs.Fairs.{FindsFrom, FindsIn, HasFound}
+use Rattle.async_executor.specs.Runs.Replies.{decision}
+use Rattle.async_executor.specs.Runs.Rows.{IsRow, kept_after, next_of}
+use Rattle.async_executor.specs.Runs.Steps.{leads, may_lead}
+use Rattle.async_executor.specs.Runs.Tickers.{ticker_in, ticker_after, runner_in}
 use Rattle.async_executor.specs.Runs.Turns.{TurnFrom, under_way_in}
-use Rattle.async_executor.specs.declared.machine.run.RunState.TheVariants.{Ticking}
-use Rattle.async_executor.proofs.Fairs.{resumed_each}
-use Rattle.async_executor.proofs.RunRows.{ticked_row}
-use Rattle.async_executor.proofs.Runs.{ticking_gate, keeps_fit, resumed_seen, resumed_in_turn, ticked_next, may_by_aim, may_next}
+use Rattle.async_executor.specs.Ticks.Replies.{actor_after, actor_of}
+use Rattle.async_executor.specs.declared.machine.run.RunState.TheVariants.{PassingOn, Waiting}
+use Rattle.async_executor.specs.declared.machine.run.RunReply.TheVariants.{Tick}
+use Rattle.async_executor.specs.declared.machine.run.Runner.{Runner}
+use Rattle.async_executor.proofs.RunMachines.{run_asked, run_store, waiting_row, run_turn, run_fair, spending_row}
 use Rattle.async_executor.proofs.machine.run.RunMachine.next.Goals as goal
 
-pub next-requires : goal.next-requires
-next-requires g c = (ticking_gate c.args.self.state c.in-Ticking.aim c.in-Ticking.tick c.args.reply c.in-Tick.reply c.in-Ticking.is c.in-Tick.is c.requires).1
+pub returns-in-Tick-clause-asked : goal.returns-in-Tick-clause-asked
+returns-in-Tick-clause-asked g c = subst IsAsked (sym c.decide.ensures) (run_asked c.next.result c.next.ensures.asked)
 
-pub resume-requires-clause-course : goal.resume-requires-clause-course
-resume-requires-clause-course g c =
-    keeps_fit c.in-Ticking.aim _ _ _ (ticking_gate c.args.self.state c.in-Ticking.aim c.in-Ticking.tick c.args.reply c.in-Tick.reply c.in-Ticking.is c.in-Tick.is c.requires).0 c.next.ensures.course
+pub returns-in-Tick-clause-store : goal.returns-in-Tick-clause-store
+returns-in-Tick-clause-store g c = ap store_asked c.decide.ensures ∙ run_store c.next.result ∙ c.next.ensures.store ∙ ap store_after (sym c.in-Tick.is)
 
 pub returns-in-Tick-clause-ticker : goal.returns-in-Tick-clause-ticker
 returns-in-Tick-clause-ticker g c notified =
-    let gate = ticking_gate c.args.self.state c.in-Ticking.aim c.in-Ticking.tick c.args.reply c.in-Tick.reply c.in-Ticking.is c.in-Tick.is c.requires in
-    ticked_next c.args.self c.in-Ticking.aim c.in-Ticking.tick c.args.reply c.in-Tick.reply c.resume.result c.in-Ticking.is c.in-Tick.is notified
-    (ap ticker_after c.resume.ensures.decided ∙ resumed_seen c.args.self.runner c.in-Ticking.aim c.in-Ticking.tick c.in-Tick.reply c.next.result gate.0 gate.1 c.next.ensures.asked c.next.ensures.course c.next.ensures.ticker notified)
-
-pub returns-in-Tick-clause-turn : goal.returns-in-Tick-clause-turn
-returns-in-Tick-clause-turn g c =
-    let within : c.args.self.runner.count.counted < c.args.self.runner.count.limit = search rules in
-    let gate = ticking_gate c.args.self.state c.in-Ticking.aim c.in-Ticking.tick c.args.reply c.in-Tick.reply c.in-Ticking.is c.in-Tick.is c.requires in
-    subst (λ s. TurnFrom c.args.self.runner.count.limit (c.args.self.runner.count.counted + under_way_in s) c.resume.result) (sym c.in-Ticking.is)
-    (subst (TurnFrom c.args.self.runner.count.limit (c.args.self.runner.count.counted + under_way_in (Ticking c.in-Ticking.aim c.in-Ticking.tick))) (sym c.resume.ensures.decided)
-    (resumed_in_turn c.args.self.runner c.in-Ticking.aim c.in-Ticking.tick c.in-Tick.reply c.next.result gate.0 gate.1 c.next.ensures.asked c.next.ensures.course within))
+    let waiting = c.in-Waiting.waiting in
+    let came = c.next.ensures in
+    let row = waiting_row waiting c.in-Tick.reply c.next.result (ticker_in notified (Waiting waiting)) came.goes_on came.actor came.asked came.none came.course came.table (came.ticker (runner_in (actor_of waiting)) notified) in
+    subst (λ s. ticker_after c.decide.result ≡ leads (record { state = s }) c.args.reply (ticker_in notified s)) (sym c.in-Waiting.is)
+    (subst (λ r. ticker_after c.decide.result ≡ leads (record { state = Waiting waiting }) r (ticker_in notified (Waiting waiting))) (sym c.in-Tick.is)
+    (ap ticker_after c.decide.ensures ∙ row.3))
 
 pub returns-in-Tick-clause-enabled : goal.returns-in-Tick-clause-enabled
 returns-in-Tick-clause-enabled g c notified =
-    let gate = ticking_gate c.args.self.state c.in-Ticking.aim c.in-Ticking.tick c.args.reply c.in-Tick.reply c.in-Ticking.is c.in-Tick.is c.requires in
-    may_next c.args.self c.in-Ticking.aim c.in-Ticking.tick c.args.reply c.in-Tick.reply c.in-Ticking.is c.in-Tick.is notified
-    (may_by_aim c.args.self.runner c.in-Ticking.aim c.in-Ticking.tick c.in-Tick.reply gate.1 c.next.ensures.enabled notified)
+    subst (λ s. may_lead (record { state = s }) c.args.reply (ticker_in notified s) ≡ true) (sym c.in-Waiting.is)
+    (subst (λ r. may_lead (record { state = Waiting c.in-Waiting.waiting }) r (ticker_in notified (Waiting c.in-Waiting.waiting)) ≡ true) (sym c.in-Tick.is)
+    (c.next.ensures.enabled (runner_in (actor_of c.in-Waiting.waiting)) notified))
 
 pub returns-in-Tick-clause-table : goal.returns-in-Tick-clause-table
 returns-in-Tick-clause-table g c =
-    let gate = ticking_gate c.args.self.state c.in-Ticking.aim c.in-Ticking.tick c.args.reply c.in-Tick.reply c.in-Ticking.is c.in-Tick.is c.requires in
-    ticked_row c.args.self c.in-Ticking.aim c.in-Ticking.tick c.args.reply c.in-Tick.reply c.next.result c.resume.result c.in-Ticking.is c.in-Tick.is gate.0 gate.1 c.next.ensures.asked c.next.ensures.course c.next.ensures.table c.resume.ensures.decided
+    let waiting = c.in-Waiting.waiting in
+    let came = c.next.ensures in
+    let row = waiting_row waiting c.in-Tick.reply c.next.result (ticker_in false (Waiting waiting)) came.goes_on came.actor came.asked came.none came.course came.table (came.ticker (runner_in (actor_of waiting)) false) in
+    subst (λ s. IsRow (record { state = s }) c.args.reply c.decide.result) (sym c.in-Waiting.is)
+    (subst (λ r. IsRow (record { state = Waiting waiting }) r c.decide.result) (sym c.in-Tick.is)
+    (row.0, ap next_of c.decide.ensures ∙ row.1, ap kept_after c.decide.ensures ∙ row.2))
+
+pub returns-in-Tick-clause-turn : goal.returns-in-Tick-clause-turn
+returns-in-Tick-clause-turn g c =
+    let actor = c.next.ensures.actor in
+    let within = subst (λ (r : Runner). r.count.counted < r.count.limit) (sym actor) c.counts.ensures.0 in
+    subst (λ s. TurnFrom (runner_at s).count.limit ((runner_at s).count.counted + under_way_in s) c.decide.result) (sym c.in-Waiting.is)
+    (subst (TurnFrom (actor_of c.in-Waiting.waiting).count.limit ((actor_of c.in-Waiting.waiting).count.counted + 0)) (sym c.decide.ensures)
+    (subst (λ (r : Runner). TurnFrom r.count.limit (r.count.counted + 0) (decision c.next.result)) actor
+    (run_turn c.next.result c.next.ensures.none within)))
 
 pub returns-in-Tick-clause-fair : goal.returns-in-Tick-clause-fair
 returns-in-Tick-clause-fair g c n before =
-    let within : c.args.self.runner.found.counted < c.args.self.runner.found.limit = search rules in
-    let gate = ticking_gate c.args.self.state c.in-Ticking.aim c.in-Ticking.tick c.args.reply c.in-Tick.reply c.in-Ticking.is c.in-Tick.is c.requires in
-    subst (λ s. FindsFrom s c.args.self.runner.found.limit n c.resume.result) (sym c.in-Ticking.is)
-    (subst (FindsIn c.args.self.runner.found.limit n) (sym c.resume.ensures.decided)
-    (resumed_each c.args.self.runner c.in-Ticking.aim c.in-Ticking.tick c.in-Tick.reply c.next.result gate.0 c.next.ensures.asked c.next.ensures.course within n before))
+    let actor = c.next.ensures.actor in
+    let within = subst (λ (r : Runner). r.found.counted < r.found.limit) (sym actor) c.counts.ensures.1 in
+    subst (λ s. HasFound (runner_at s).found.limit n (runner_at s) → FindsFrom s (runner_at s).found.limit n c.decide.result) (sym c.in-Waiting.is)
+    (λ before. subst (FindsIn (actor_of c.in-Waiting.waiting).found.limit n) (sym c.decide.ensures)
+    (subst (λ (r : Runner). HasFound r.found.limit n r → FindsIn r.found.limit n (decision c.next.result)) actor
+    (run_fair n c.next.result c.next.ensures.none within) before))
+    before
+
+pub returns-in-Some-clause-table : goal.returns-in-Some-clause-table
+returns-in-Some-clause-table g c =
+    let left = c.in-PassingOn.left in
+    let spending = c.in-PassingOn.spending in
+    subst (λ s. IsRow (record { state = s }) c.args.reply c.ask-in-Some.result) (sym c.in-PassingOn.is)
+    (subst (λ r. IsRow (record { state = PassingOn spending left }) r c.ask-in-Some.result) (sym c.in-Tick-reply.is)
+    (subst (IsRow (record { state = PassingOn spending left }) (Tick c.in-Tick-reply.reply)) (sym c.ask-in-Some.ensures)
+    (spending_row spending c.in-Some.spending left c.in-Tick-reply.reply c.in-Some.action c.in-Some.ensures.goes_on c.in-Some.ensures.row)))

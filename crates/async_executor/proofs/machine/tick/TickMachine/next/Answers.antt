@@ -1,6 +1,21 @@
-use Rattle.std.proofs.Common.{subst, sym}
-use Rattle.async_executor.specs.Ticks.Rows.{IsRowIn}
+use Rattle.std.proofs.Common.{◌≡◌, true, subst, sym, ap, ◌∙◌}
+use Rattle.async_executor.specs.Ticks.Rows.{IsRow, next_of, kept_after}
+use Rattle.async_executor.specs.Ticks.Steps.{leads, may_lead}
+use Rattle.async_executor.specs.Ticks.Tickers.{ticker_in, ticker_after}
+use Rattle.async_executor.proofs.Machines.{tick_seen, tick_next, tick_kept}
 use Rattle.async_executor.proofs.machine.tick.TickMachine.next.Goals as goal
 
-pub returns-in-Leaving-clause-table : goal.returns-in-Leaving-clause-table
-returns-in-Leaving-clause-table g c = subst (λ state. IsRowIn state c.args.reply c.leave.result) (sym c.in-Leaving.is) c.leave.ensures.table
+pub returns-in-Waiting-clause-ticker : goal.returns-in-Waiting-clause-ticker
+returns-in-Waiting-clause-ticker g c runner notified =
+    subst (λ state. ticker_after runner c.decide-in-Waiting.result ≡ leads state c.args.reply (ticker_in runner notified state)) (sym c.in-Waiting.is)
+    (ap (ticker_after runner) c.decide-in-Waiting.ensures ∙ tick_seen runner c.next.result ∙ c.next.ensures.ticker runner notified)
+
+pub returns-in-Waiting-clause-enabled : goal.returns-in-Waiting-clause-enabled
+returns-in-Waiting-clause-enabled g c runner notified =
+    subst (λ state. may_lead state c.args.reply (ticker_in runner notified state) ≡ true) (sym c.in-Waiting.is) (c.next.ensures.enabled runner notified)
+
+pub returns-in-Waiting-clause-table : goal.returns-in-Waiting-clause-table
+returns-in-Waiting-clause-table g c =
+    let row = c.next.ensures.table in
+    subst (λ state. IsRow (record { state = state }) c.args.reply c.decide-in-Waiting.result) (sym c.in-Waiting.is)
+    (row.0, ap next_of c.decide-in-Waiting.ensures ∙ tick_next c.next.result ∙ row.1, ap kept_after c.decide-in-Waiting.ensures ∙ tick_kept c.next.result ∙ row.2)

@@ -1,0 +1,94 @@
+//! Rows whose tasks work in each poll.
+use crate::futures::Works;
+use crate::parking::parked_copies;
+use crate::running::run_copies;
+use crate::timing::Ran;
+use std::alloc::{AllocError, Global};
+use std::fmt;
+use std::fmt::{Display, Formatter, Write};
+use std::rt::Clock;
+use std::sync::Wait;
+use std::thread::Threads;
+use std::time::Instant;
+
+/// How many tasks a row has.
+const TASKS: u64 = 1_000;
+
+/// How many steps of a poll took a microsecond where the rows were measured.
+const STEPS_A_MICRO: u32 = 613;
+
+/// How many nanoseconds of work a poll has.
+const WORK: [u32; 8] = [0, 30, 100, 300, 1_000, 3_000, 10_000, 100_000];
+
+/// On how many threads.
+const THREADS: [u32; 3] = [1, 2, 4];
+
+/// 1,000 tasks, each of which works in each poll and wakes itself, by a run on each of some
+/// threads. Its name is `busy_W_T`, or `parked_busy_W_T`: the nanoseconds and the threads.
+#[derive(Debug, Clone, Copy, PartialEq, Eq)]
+pub struct Busy {
+    /// Whether the runs park while there is nothing to run.
+    pub is_parked: bool,
+    /// How many nanoseconds each poll works.
+    pub nanos: u32,
+    /// How many threads run tasks.
+    pub threads: u32,
+}
+
+impl Busy {
+    /// Each row that is measured.
+    pub fn all(alloc: Global) -> Result<Vec<Busy>, AllocError> {
+        let mut rows = Vec::new(alloc);
+        for is_parked in [false, true] {
+            for nanos in WORK {
+                for threads in THREADS {
+                    rows.push(Busy {
+                        is_parked,
+                        nanos,
+                        threads,
+                    })?;
+                }
+            }
+        }
+        Ok(rows)
+    }
+
+    /// The row of this name.
+    pub fn from_name(name: &str) -> Option<Busy> {
+        let unparked = name.strip_prefix("parked_");
+        let (nanos, threads) = unparked
+            .unwrap_or(name)
+            .strip_prefix("busy_")?
+            .split_once('_')?;
+        Some(Busy {
+            is_parked: unparked.is_some(),
+            nanos: nanos.parse().ok()?,
+            threads: threads.parse().ok()?,
+        })
+    }
+
+    /// Polls tasks this often or a little more. `None` if memory, a thread or the time was refused.
+    pub fn run<R: Wait + Clone + Drop + Send + Sync + Threads + Clock>(
+        self,
+        rt: &R,
+        alloc: Global,
+        operations: u64,
+    ) -> Option<Ran> {
+        let yields = operations.saturating_sub(1) / TASKS;
+        let future = &Works::after(yields, self.nanos.saturating_mul(STEPS_A_MICRO) / 1_000);
+        let polls = yields.saturating_add(1);
+        if self.is_parked {
+            return parked_copies(rt, alloc, self.threads as usize, TASKS, future, polls);
+        }
+        let start = Instant::now(rt).ok()?;
+        run_copies(rt, alloc, self.threads, TASKS, future)?;
+        Ran::since(rt, start, polls.saturating_mul(TASKS))
+    }
+}
+
+impl Display for Busy {
+    fn fmt<W: Write>(&self, f: &mut Formatter<W>) -> fmt::Result {
+        let parked = if self.is_parked { "parked_" } else { "" };
+        write!(f, "{parked}busy_{}_{}", self.nanos, self.threads)
+    }
+}

@@ -1,0 +1,14 @@
+-- What sets a signal.
+use Rattle.async_utilities.specs.WaitQueue.{Takes}
+use Rattle.std.specs.Prelude.{◌≡◌, ℕ, Option, None, Some, true, false, []}
+use Rattle.async_utilities.specs.declared.due.AllDue.{AllDue}
+use Rattle.async_utilities.specs.declared.signals.State.{State}
+
+-- one takes a place, if the signal is not set
+abbrev pub Joins : {W : Type 0} → State W → ℕ → State W → Type 0
+Joins old place new = old.is_set ≡ false → Takes old.waiters place new.waiters
+
+-- the signal is set, and all who waited come out, unless it was set before
+abbrev pub Sets : {W : Type 0} → State W → Option (AllDue W) → State W → Type 0
+Sets old None new = (old.is_set ≡ true) × (new.is_set ≡ true) × (new.waiters ≡ old.waiters)
+Sets old (Some all) new = (old.is_set ≡ false) × (new.is_set ≡ true) × (all.waiters ≡ old.waiters) × (new.waiters.waiting ≡ [])

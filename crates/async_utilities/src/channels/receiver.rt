@@ -1,0 +1,236 @@
+//! Receivers, and the futures of messages.
+ghost use Rattle.std.specs.Prelude.{◌≡◌, IfOk};
+ghost use Rattle.std.specs.Arc.{arc_value};
+
+use crate::channels::Channel;
+use crate::channels::state::Received;
+use crate::wait_queue::keep;
+use async_executor::{Future, OutOfMemory, Poll, Wake};
+use std::sync::{Arc, Wait};
+
+/// Why no message was received.
+///
+/// Example: `uses::tries`.
+///
+/// ```text
+/// let message = first.try_receive().ok()?;
+/// let none = second.try_receive().err()?;
+/// ```
+#[derive(Debug, Clone, Copy, PartialEq, Eq)]
+pub enum NoMessage {
+    /// There is none yet.
+    Empty,
+    /// There is none, and the channel is closed.
+    Closed,
+}
+
+/// Receives messages, in the order in which they were sent. A channel whose receivers are all dropped
+/// is closed: no message is taken any more.
+///
+/// Example: `uses::sends_to_a_task`.
+///
+/// ```text
+/// type Arrivals<R> = Receiver<u32, ThreadWaker, TaskWaker<ThreadWaker, R>, R>;
+/// ```
+pub struct Receiver<T: Drop, S: Wake, V: Wake, R: Wait + Drop> {
+    pub(crate) channel: Arc<Channel<T, S, V, R>>,
+    // Where `poll_receive` waits.
+    pub(crate) place: Option<usize>,
+}
+
+impl<T: Drop, S: Wake, V: Wake, R: Wait + Drop> Channel<T, S, V, R> {
+    // Takes the first message, if there is one. One that waited at this place does so no longer.
+    fn receive_from(&self, place: &mut Option<usize>) -> Result<T, NoMessage> {
+        let mut state = self.state();
+        match state.receive() {
+            Received::Message(message, due) => {
+                let left = state.leave_receivers(place.take());
+                drop(state);
+                due.wake();
+                left.end();
+                Ok(message)
+            }
+            Received::Empty => Err(NoMessage::Empty),
+            Received::Closed => Err(NoMessage::Closed),
+        }
+    }
+
+    // Gives the first message, or waits at this place.
+    fn poll_receive(&self, w: &V, place: &mut Option<usize>) -> Poll<Option<T>> {
+        match self.receive_from(place) {
+            Ok(message) => return Poll::Ready(Some(message)),
+            Err(NoMessage::Closed) => return Poll::Ready(None),
+            Err(NoMessage::Empty) => {}
+        }
+        let Ok(waker) = w.copy() else {
+            w.wake();
+            return Poll::Pending;
+        };
+        self.receive_or_wait(waker, place)
+    }
+
+    // Gives the first message, or waits with this waker.
+    fn receive_or_wait(&self, waker: V, place: &mut Option<usize>) -> Poll<Option<T>> {
+        let mut state = self.state();
+        let message = match state.receive() {
+            Received::Empty => {
+                let kept = state.wait_to_receive(*place, waker);
+                drop(state);
+                keep(place, kept);
+                return Poll::Pending;
+            }
+            Received::Message(message, due) => {
+                let left = state.leave_receivers(place.take());
+                drop(state);
+                due.wake();
+                left.end();
+                Some(message)
+            }
+            Received::Closed => {
+                drop(state);
+                None
+            }
+        };
+        drop(waker);
+        Poll::Ready(message)
+    }
+
+    // Has a receiver wait no longer, and the next one be told of a message that it does not take.
+    fn leave_receivers(&self, place: Option<usize>) {
+        if place.is_some() {
+            let left = self.state().leave_receivers(place);
+            left.end();
+        }
+    }
+}
+
+impl<T: Drop, S: Wake, V: Wake, R: Wait + Drop> Receiver<T, S, V, R> {
+    /// What this receiver shares with the other ends.
+    ///
+    /// Example: `uses::closes_a_channel`.
+    ///
+    /// ```text
+    /// let left = receiver.channel().len();
+    /// ```
+    pub fn channel(&self) -> &Channel<T, S, V, R>
+        ensures { result.now ≡ arc_value self.now.channel }
+    {
+        &self.channel
+    }
+
+    /// Another receiver of the same channel. Each message goes to one of them.
+    ///
+    /// # Errors
+    ///
+    /// `OutOfMemory` if memory for its place among those that wait is refused.
+    ///
+    /// Example: `uses::tries`.
+    ///
+    /// ```text
+    /// let second = first.copy().ok()?;
+    /// ```
+    pub fn copy(&self) -> Result<Receiver<T, S, V, R>, OutOfMemory>
+        ensures same { IfOk result (λ copy. arc_value copy.channel ≡ arc_value self.now.channel) }
+    {
+        let channel = Arc::try_clone(&self.channel)?;
+        channel.state().receivers.join()?;
+        Ok(Receiver {
+            channel,
+            place: None,
+        })
+    }
+
+    /// Takes the first message, if there is one. It is not behind those who wait for a message.
+    ///
+    /// # Errors
+    ///
+    /// `NoMessage`.
+    ///
+    /// Example: `uses::tries`.
+    ///
+    /// ```text
+    /// let message = first.try_receive().ok()?;
+    /// let none = second.try_receive().err()?;
+    /// ```
+    pub fn try_receive(&self) -> Result<T, NoMessage> {
+        self.channel.receive_from(&mut None)
+    }
+
+    /// Gives the first message, once there is one, or None if there is none and the channel is closed.
+    /// While it is pending, a copy of the waker is woken once there is a message. If the copy or a place
+    /// among those who wait is refused, the waker itself is woken, and nothing more is kept.
+    ///
+    /// Who stops polling before it is ready drops the receiver, or polls a `Receive` and drops that.
+    ///
+    /// Example: `uses::sends_to_a_task`.
+    ///
+    /// ```text
+    /// match self.arrivals.poll_receive(w) {
+    ///     Poll::Ready(None) => return Poll::Ready(self.total),
+    ///     Poll::Pending => return Poll::Pending,
+    /// ```
+    pub fn poll_receive(&mut self, w: &V) -> Poll<Option<T>> {
+        self.channel.poll_receive(w, &mut self.place)
+    }
+
+    /// A future of the next message, or of None if there is none and the channel is closed. One receiver
+    /// may have any number of them.
+    ///
+    /// Example: `uses::take_jobs`, which `uses::answers_in_order` calls.
+    ///
+    /// ```text
+    /// let Some(job) = block_on(rt, alloc, jobs.receive()).ok()? else {
+    /// ```
+    pub fn receive(&self) -> Receive<'_, T, S, V, R> {
+        Receive {
+            receiver: self,
+            place: None,
+        }
+    }
+}
+
+impl<T: Drop, S: Wake, V: Wake, R: Wait + Drop> Drop for Receiver<T, S, V, R> {
+    fn drop(self) {
+        let Receiver { channel, place } = self;
+        let mut state = channel.state();
+        let left = state.leave_receivers(place);
+        let closing = if state.receivers.part() {
+            state.close(channel.alloc())
+        } else {
+            None
+        };
+        drop(state);
+        left.end();
+        if let Some(closing) = closing {
+            closing.wake();
+        }
+    }
+}
+
+/// A future of the next message. Its drop takes none, and another receiver is told of the message that
+/// this one was told of.
+///
+/// Example: `uses::take_jobs`, which `uses::answers_in_order` calls.
+///
+/// ```text
+/// let Some(job) = block_on(rt, alloc, jobs.receive()).ok()? else {
+/// ```
+pub struct Receive<'a, T: Drop, S: Wake, V: Wake, R: Wait + Drop> {
+    receiver: &'a Receiver<T, S, V, R>,
+    place: Option<usize>,
+}
+
+impl<T: Drop, S: Wake, V: Wake, R: Wait + Drop> Future<V> for Receive<'_, T, S, V, R> {
+    type Output = Option<T>;
+
+    fn poll(&mut self, w: &V) -> Poll<Option<T>> {
+        self.receiver.channel.poll_receive(w, &mut self.place)
+    }
+}
+
+impl<T: Drop, S: Wake, V: Wake, R: Wait + Drop> Drop for Receive<'_, T, S, V, R> {
+    fn drop(self) {
+        let Receive { receiver, place } = self;
+        receiver.channel.leave_receivers(place);
+    }
+}

@@ -1,0 +1,70 @@
+//! What a timer, its futures and those who drive it share.
+ghost use Rattle.std.specs.Prelude.{◌≡◌, ◌≤◌, ◌-◌};
+ghost use Rattle.std.specs.Duration.{as_nanos};
+
+use crate::timers::deadlines::{Deadlines, Fired};
+use crate::timers::drivers::Drivers;
+use crate::timers::reading::Reading;
+use async_executor::Wake;
+use std::alloc::Global;
+use std::sync::{Mutex, MutexGuard, Wait};
+use std::time::Duration;
+
+#[derive(Drop)]
+pub(crate) struct Shared<W: Wake, R: Wait + Drop> {
+    deadlines: Mutex<Deadlines<W>>,
+    pub(crate) drivers: Drivers,
+    pub(crate) alloc: Global,
+    pub(crate) rt: R,
+}
+
+impl<W: Wake, R: Wait + Drop> Shared<W, R> {
+    /// No deadline, at this time.
+    pub(crate) fn new(rt: R, alloc: Global, now: Reading) -> Shared<W, R> {
+        Shared {
+            deadlines: Mutex::new(Deadlines::new(alloc, now)),
+            drivers: Drivers::new(alloc),
+            alloc,
+            rt,
+        }
+    }
+
+    pub(crate) fn deadlines(&self) -> MutexGuard<'_, Deadlines<W>> {
+        self.deadlines.lock(&self.rt)
+    }
+
+    /// The latest time that the clock was read at, which is this one if none was later.
+    pub(crate) fn latest(&self, now: Reading) -> Reading
+        ensures { as_nanos now.since_start ≤ as_nanos result.since_start }
+    {
+        self.deadlines().advance(now)
+    }
+
+    /// Wakes what was left at each deadline that is reached at this time. Says whether there was one,
+    /// and gives the first one that is left.
+    pub(crate) fn fire(&self, now: Reading) -> (bool, Option<u64>) {
+        self.latest(now);
+        let mut has_woken = false;
+        for _ in self.rt.forever() {
+            let fired = self.deadlines().fire();
+            match fired {
+                Fired::One(due) => {
+                    has_woken = true;
+                    due.wake();
+                }
+                Fired::Rest(next) => return (has_woken, next),
+            }
+        }
+        unreachable!()
+    }
+}
+
+/// From a time to a deadline.
+pub(crate) fn until(now: Reading, deadline: u64) -> Duration
+    ensures { as_nanos result ≡ deadline - as_nanos now.since_start }
+{
+    match u64::try_from(now.nanos()) {
+        Ok(nanos) => Duration::from_nanos(deadline.saturating_sub(nanos)),
+        Err(_) => Duration::ZERO,
+    }
+}

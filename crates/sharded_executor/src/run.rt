@@ -1,0 +1,196 @@
+//! The run of a sharded executor.
+ghost use Rattle.std.specs.Prelude.{◌≡◌, ◌<◌, ◌≤◌, None, IfOk, IfErr, IfSome, false, true, is_none, is_some, vec_len};
+ghost use Rattle.async_executor.specs.Answers.{is_ready};
+ghost use Rattle.async_executor.specs.RunError.{run_future};
+ghost use Rattle.sharded_executor.specs.Order.{IsServed};
+
+use crate::members::Members;
+use async_executor::runner::Words;
+use async_executor::{Executor, Future, Poll, RunError, RunnerError, TaskWaker, Wake};
+use std::alloc::Global;
+use std::sync::Wait;
+
+/// After so many turns of its own shard a run takes one task of another one.
+const TURNS: u32 = 4;
+
+/// A future that runs tasks of a sharded executor beside the future G, and ends with the output of G.
+///
+/// It runs the tasks of its own shard, a turn in each poll. If none is left there, it helps another: it
+/// asks the other shards, from one at random on, each once, and runs a handful of tasks of the first that
+/// has one. It sleeps only if none has any. After every fourth turn it takes one task of another shard at
+/// random, so that no shard waits for ever for who is never idle.
+///
+/// If it is dropped asleep, it leaves the sleepers of every shard, and if it was notified in one, another
+/// sleeper of that shard is woken in its place.
+///
+/// Example: `uses::shards`.
+///
+/// ```text
+/// let (one, two) = worker(&executor, 0, &stop).zip(worker(&executor, 1, &stop))?;
+/// let is_first = scope.spawn(move || block_on(rt, alloc, one)).is_ok();
+/// ```
+#[derive(Drop)]
+pub struct ShardedRun<'a, F, W, R, G>
+where
+    F: Future<TaskWaker<W, R>>,
+    W: Wake,
+    R: Wait + Clone + Drop,
+    G: Future<W>,
+{
+    going: Option<Going<'a, F, W, R, G>>,
+}
+
+// A run that has not ended. Its own future is dropped first: it may hold handles, whose tasks are queued as
+// they are cancelled.
+#[derive(Drop)]
+struct Going<'a, F, W, R, G>
+where
+    F: Future<TaskWaker<W, R>>,
+    W: Wake,
+    R: Wait + Clone + Drop,
+    G: Future<W>,
+{
+    own: G,
+    members: Members<'a, F, W, R>,
+    words: Words,
+    turns: u32,
+    // Whether the last poll left it among the sleepers of every shard.
+    is_asleep: bool,
+    ghost few: { turns < 4 },
+}
+
+impl<'a, F, W, R, G> ShardedRun<'a, F, W, R, G>
+where
+    F: Future<TaskWaker<W, R>>,
+    W: Wake,
+    R: Wait + Clone + Drop,
+    G: Future<W>,
+{
+    /// A run of the shard of this number, which was never polled.
+    pub(crate) fn new(
+        shards: &'a Vec<Executor<F, W, R>>,
+        alloc: Global,
+        number: usize,
+        own: G,
+    ) -> Result<ShardedRun<'a, F, W, R, G>, RunError<G>>
+        requires { number < vec_len shards.now }
+        ensures ok { IfOk result (λ run. is_some run.going ≡ true) }
+        ensures refused { IfErr result (λ e. run_future e ≡ own) }
+    {
+        match Members::new(shards, alloc, number) {
+            Ok(members) => Ok(ShardedRun {
+                going: Some(Going {
+                    own,
+                    members,
+                    words: Words::new(number as u64),
+                    turns: 0,
+                    is_asleep: false,
+                }),
+            }),
+            Err(RunnerError::OutOfMemory) => Err(RunError::OutOfMemory(own)),
+            Err(RunnerError::Exhausted) => Err(RunError::Exhausted(own)),
+        }
+    }
+}
+
+impl<F, W, R, G> Going<'_, F, W, R, G>
+where
+    F: Future<TaskWaker<W, R>>,
+    W: Wake,
+    R: Wait + Clone + Drop,
+    G: Future<W>,
+{
+    // Answers what it was notified of, and runs tasks of the first shard that has one, or sleeps if none has.
+    fn serve(&mut self, w: &W)
+        ensures { IsServed (λ s. s.inner.number) self.new.is_asleep self.new.members.sleepers.items self.new.members.answers.items }
+    {
+        if let Some(at) = self.members.leave() {
+            self.members.help(at);
+        }
+        let first = self.another();
+        match self.members.search(first) {
+            None => self.is_asleep = self.members.sleep(w),
+            Some(at) => {
+                if at == 0 {
+                    self.look_around();
+                }
+                self.is_asleep = false;
+            }
+        }
+    }
+
+    // Serves, and wakes the waker if it does not sleep.
+    fn serve_or_wake(&mut self, w: &W)
+        ensures { IsServed (λ s. s.inner.number) self.new.is_asleep self.new.members.sleepers.items self.new.members.answers.items }
+    {
+        self.serve(w);
+        if !self.is_asleep {
+            w.wake();
+        }
+    }
+
+    // The place of a shard at random, other than the own one if there is another.
+    fn another(&mut self) -> usize
+        ensures low { 0 < result }
+        ensures high { result ≤ vec_len self.new.members.sleepers }
+        ensures count { self.new.members.sleepers ≡ self.old.members.sleepers }
+    {
+        let others = self.members.count() - 1;
+        if others == 0 {
+            return 1;
+        }
+        1 + (self.words.next() % others as u64) as usize
+    }
+
+    // Takes a task of another shard after so many turns of the own one.
+    fn look_around(&mut self) {
+        self.turns += 1;
+        if self.turns < TURNS {
+            return;
+        }
+        self.turns = 0;
+        let at = self.another();
+        if at < self.members.count() {
+            self.members.run_one(at);
+        }
+    }
+}
+
+impl<F, W, R, G> Future<W> for ShardedRun<'_, F, W, R, G>
+where
+    F: Future<TaskWaker<W, R>>,
+    W: Wake,
+    R: Wait + Clone + Drop,
+    G: Future<W>,
+{
+    type Output = G::Output;
+
+    /// Polls the own future, and if that is ready, is ready with its output: all places are given back.
+    /// Else it leaves the sleepers of every shard, searches for what it was notified of, and runs tasks of
+    /// the first shard that has one, its own being the first. If none has any, a copy of the waker is kept
+    /// in every shard, and is woken once there may be a task in one. If a task was run, or seen, or a copy
+    /// is refused, the waker itself is woken. A run that was ready wakes it and is pending, and does
+    /// nothing more.
+    ///
+    /// Example: `uses::shards`.
+    ///
+    /// ```text
+    /// let is_first = scope.spawn(move || block_on(rt, alloc, one)).is_ok();
+    /// ```
+    fn poll(&mut self, w: &W) -> Poll<G::Output>
+        ensures ended { is_some self.old.going ≡ true → is_none self.new.going ≡ is_ready result }
+        ensures again { self.old.going ≡ None → (self.new.going ≡ None) × (is_ready result ≡ false) }
+        ensures served { is_ready result ≡ false → IfSome self.new.going (λ g. IsServed (λ s. s.inner.number) g.is_asleep g.members.sleepers.items g.members.answers.items) }
+    {
+        let Some(mut going) = self.going.take() else {
+            w.wake();
+            return Poll::Pending;
+        };
+        if let Poll::Ready(output) = going.own.poll(w) {
+            return Poll::Ready(output);
+        }
+        going.serve_or_wake(w);
+        self.going = Some(going);
+        Poll::Pending
+    }
+}

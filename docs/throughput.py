@@ -1,0 +1,193 @@
+"""Draws docs/throughput.svg, how many processors' worth of work the polls of an executor do, and says
+where others are ahead.
+
+Read by docs/figures.py. The figures are those of the kinds busy and parked_busy of docs/figures.txt.
+"""
+import itertools
+import re
+import statistics
+import textwrap
+
+KINDS = {"busy": "runs that never park", "parked_busy": "runs that park"}
+THREADS = {1: "one thread", 2: "two threads", 4: "four threads"}
+# What draws an executor: its name here and in a file of passes, its color, its dashes, its mark.
+DRAWN = (
+    ("here", "ours", "#1f5fa8", "none", '<circle cx="{x:g}" cy="{y:g}" r="4.5"/>'),
+    ("the Rust crate", "rust", "#b8500f", "7 4", '<rect x="{x0:g}" y="{y0:g}" width="8" height="8"/>'),
+    ("tokio 1.24", "tokio", "#3c7a3c", "2 4", '<path d="M{x:g} {y0:g}l5 9h-10z"/>'),
+)
+WIDTH = 720
+LEFT = 70
+# Between two amounts of work, and for one processor.
+STEP = 88
+PROCESSOR = 52
+
+
+def measured(text):
+    """The lines of docs/figures.txt that passes of all rows come to: 'value WHO ROW NANOSECONDS ..'."""
+    passes = {}
+    for line in text.splitlines():
+        row = re.fullmatch(r"value (\w+) (\w*busy)_(\d+)_(\d+) (.*)", line)
+        if row:
+            times = [float(time) for time in row[5].split()]
+            passes[row[1], row[2], int(row[3]), int(row[4])] = f"{min(times):.0f}/{statistics.median(times):.0f}"
+    works = sorted({work for _, _, work, _ in passes})
+    lines = []
+    for kind in KINDS:
+        # In runs that never park there is no tokio.
+        names = [name for _, name, *_ in DRAWN if any((name, kind, work, 1) in passes for work in works)]
+        for work in works:
+            cells = [", ".join(passes[name, kind, work, threads] for threads in THREADS) for name in names]
+            lines.append(" | ".join((kind, f"{work:,}", *cells)))
+    return lines
+
+
+def with_measured(figures, passes):
+    """The text of docs/figures.txt with the lines of these passes in place of those that it has."""
+    for kind in KINDS:
+        lines = [line for line in measured(passes) if line.startswith(f"{kind} |")]
+        if lines:
+            figures = re.sub(rf"(^{kind} \|.*\n)+", "\n".join(lines) + "\n", figures, flags=re.MULTILINE)
+    said = re.search("^swept (.*)$", passes, flags=re.MULTILINE)
+    return re.sub("(?<=^swept \\| ).*$", lambda _: said[1], figures, flags=re.MULTILINE) if said else figures
+
+
+def number(text):
+    """A number that is written with commas."""
+    return int(text.replace(",", ""))
+
+
+def median(row, executor, threads):
+    """Nanoseconds a poll on so many threads, of a row of docs/figures.txt."""
+    return int(row[1 + executor].split(", ")[list(THREADS).index(threads)].split("/")[1])
+
+
+def listed(words):
+    """A list of words, as in a sentence."""
+    return " and ".join(filter(None, (", ".join(words[:-1]), words[-1])))
+
+
+def ranges(words, those):
+    """Those of the words that are among those, in ranges if they follow one another."""
+    parts = []
+    for is_one, group in itertools.groupby(words, those.__contains__):
+        group = list(group)
+        if is_one:
+            parts += group if len(group) < 3 else [f"{group[0]} to {group[-1]}"]
+    return parts
+
+
+def ahead(found):
+    """The works at which another executor is ahead by more than a hundredth, in a sentence for each kind."""
+    sentences = []
+    for kind, runs in KINDS.items():
+        parts = []
+        for executor in range(1, len(found[kind][0]) - 1):
+            places = []
+            for threads, name in THREADS.items():
+                those = [
+                    row[0] for row in found[kind] if 1.01 * median(row, executor, threads) < median(row, 0, threads)
+                ]
+                works = ranges([row[0] for row in found[kind]], those)
+                places += [f"on {name} at {listed(works)}"] if works else []
+            where = listed(places) if places else "nowhere"
+            parts.append(f"{DRAWN[executor][0]} is ahead {where}")
+        sentences.append(f"In {runs} {'; '.join(parts)}.")
+    return "\n".join(textwrap.wrap(" ".join(sentences), 110))
+
+
+def worth(rows, executor):
+    """For each number of threads the work that an executor does in a time, by the amount of a poll's work."""
+    by_threads = {threads: [] for threads in THREADS}
+    for row in rows:
+        for threads in THREADS:
+            by_threads[threads].append(number(row[0]) / median(row, executor, threads))
+    return by_threads
+
+
+def curve(points, color, dashes, mark):
+    """A line through these points, with a mark at each."""
+    path = " ".join(f"{x:g},{y:g}" for x, y in points)
+    marks = "".join(mark.format(x=x, y=y, x0=x - 4, y0=y - (6 if "path" in mark else 4)) for x, y in points)
+    return (
+        f'<polyline points="{path}" fill="none" stroke="{color}" stroke-width="2.5" stroke-dasharray="{dashes}"/>'
+        f'<g fill="{color}">{marks}</g>'
+    )
+
+
+def said(nanoseconds):
+    """An amount of work as a reader says it."""
+    return f"{nanoseconds} ns" if nanoseconds < 1_000 else f"{nanoseconds // 1_000} \u00b5s"
+
+
+def panel(threads, bottom, works, all_worth):
+    """What this many threads do, above this height of the picture."""
+    places = [LEFT + 30 + STEP * n for n in range(len(works))]
+    right = places[-1] + 30
+    height = lambda processors: round(bottom - PROCESSOR * processors, 1)
+    lines = [f'<text x="{LEFT}" y="{height(threads) - 12:g}" font-weight="bold">{THREADS[threads]}</text>']
+    for processors in range(threads + 1):
+        ideal = processors == threads
+        stroke = 'stroke="#8a929c" stroke-width="3"' if ideal else 'stroke="#dfe3e8"'
+        lines += [
+            f'<line x1="{LEFT}" y1="{height(processors):g}" x2="{right}" y2="{height(processors):g}" {stroke}/>',
+            f'<text x="{LEFT - 8}" y="{height(processors) + 4:g}" text-anchor="end">{processors}</text>',
+        ]
+    for (_, _, color, dashes, mark), of_executor in reversed(list(zip(DRAWN, all_worth))):
+        points = [(x, height(y)) for x, y in zip(places, of_executor[threads])]
+        lines.append(curve(points, color, dashes, mark))
+    for x, work in zip(places, works):
+        lines.append(f'<text x="{x}" y="{bottom + 18}" text-anchor="middle">{said(work)}</text>')
+    return lines
+
+
+def description(works, all_worth):
+    """The figures in words."""
+    sentences = []
+    for threads in THREADS:
+        for place, work in enumerate(works):
+            values = [f"{name} {of[threads][place]:.2f}" for (name, *_), of in zip(DRAWN, all_worth)]
+            sentences.append(f"On {THREADS[threads]}, polls of {said(work)}: {', '.join(values)}.")
+    return " ".join(sentences)
+
+
+def legend(y):
+    """What each line stands for."""
+    lines = [
+        f'<line x1="{LEFT}" y1="{y}" x2="{LEFT + 34}" y2="{y}" stroke="#8a929c" stroke-width="3"/>',
+        f'<text x="{LEFT + 42}" y="{y + 4}">ideal</text>',
+    ]
+    for n, (name, _, *look) in enumerate(DRAWN):
+        x = LEFT + 120 + 165 * n
+        lines += [curve([(x, y), (x + 34, y)], *look), f'<text x="{x + 46}" y="{y + 4}">{name}</text>']
+    return lines
+
+
+def picture(found):
+    """The work that is done in a time, as so many processors, over the work of a poll."""
+    rows = [row for row in found["parked_busy"] if row[0] != "0"]
+    works = [number(row[0]) for row in rows]
+    all_worth = [worth(rows, executor) for executor in range(len(DRAWN))]
+    lines, bottom = legend(64), 92
+    for threads in THREADS:
+        bottom += 34 + PROCESSOR * threads
+        lines += panel(threads, bottom, works, all_worth)
+        bottom += 24
+    height = bottom + 34
+    title = "Processors' worth of work that 1,000 tasks do, over the work of a poll: more is better"
+    return "\n".join(
+        [
+            f'<svg xmlns="http://www.w3.org/2000/svg" width="{WIDTH}" height="{height}" viewBox="0 0 {WIDTH} {height}" '
+            'role="img" aria-labelledby="title description" font-family="sans-serif" font-size="14">',
+            f'<title id="title">{title}</title>',
+            f'<desc id="description">{description(works, all_worth)}</desc>',
+            f'<rect width="{WIDTH}" height="{height}" fill="white"/>',
+            f'<text x="10" y="22" font-size="15">{title}</text>',
+            '<text x="10" y="42" font-size="12">Each task wakes itself in each poll. The runs park while there is '
+            "nothing to run. Medians.</text>",
+            *lines,
+            f'<text x="{WIDTH // 2}" y="{height - 10}" text-anchor="middle">work in each poll</text>',
+            "</svg>",
+            "",
+        ]
+    )

@@ -1,0 +1,31 @@
+//! Runs each caller of the crate `uses`, and compares what it gives. Each line of a table has the name of a caller, and
+//! whether its answer is the one that is wanted.
+mod executors;
+mod handles;
+mod local;
+mod priorities;
+mod sharding;
+mod threads;
+mod timers;
+
+use std::test::Fail;
+
+type Line = (&'static str, bool);
+
+// Fails with the name of the first caller whose answer is another one.
+fn compare(lines: &[Line]) -> Result<(), Fail> {
+    for (caller, holds) in lines {
+        if !*holds {
+            return Err(Fail::new(format_args!("{caller} gives another answer")));
+        }
+    }
+    Ok(())
+}
+
+// Whether these outputs are there.
+fn are(outputs: Option<Vec<u64>>, wanted: &[u64]) -> bool {
+    match outputs {
+        Some(outputs) => outputs.as_slice() == wanted,
+        None => false,
+    }
+}

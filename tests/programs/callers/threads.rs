@@ -1,0 +1,111 @@
+//! Callers of several threads, of channels and of timers.
+use super::{Line, are, compare};
+use async_utilities::{NoMessage, PoolError, Unsent};
+use std::alloc::Global;
+use std::sync::Wait;
+use std::test::Fail;
+use std::thread::Threads;
+use std::time::{Clock, Duration};
+use uses::common::executor;
+use uses::{
+    answers_in_order, closes_a_channel, fans_out, gives_up, joins, parks, pools, races, rests,
+    sends_to_a_task, serves, shares, tells, times_out, tries, winds_up,
+};
+
+// Twice each number below twenty.
+const DOUBLES: [u64; 20] = [
+    0, 2, 4, 6, 8, 10, 12, 14, 16, 18, 20, 22, 24, 26, 28, 30, 32, 34, 36, 38,
+];
+
+// Whether two threads ended as they should, and the sum of two outputs is there.
+fn are_joined(joined: Option<(u64, Vec<Result<(), PoolError>>)>) -> bool {
+    match joined {
+        Some((total, ended)) => total == 6 && ended.as_slice() == [Ok(()), Ok(())].as_slice(),
+        None => false,
+    }
+}
+
+// Whether ten milliseconds passed, and all of it took at least as long as that.
+fn is_late(passed: Option<(u128, Duration)>) -> bool {
+    match passed {
+        Some((nanos, took)) => 10_000_000 <= nanos && nanos <= took.as_nanos(),
+        None => false,
+    }
+}
+
+fn pooled<R: Wait + Threads + Clone + Drop + Send + Sync + 'static>(
+    rt: &R,
+    alloc: Global,
+) -> [Line; 4] {
+    [
+        ("parks", parks(rt, alloc) == Some(10)),
+        ("pools", pools(rt, alloc) == Some(10)),
+        ("joins", joins(rt, alloc) == Some(500_500)),
+        ("winds_up", are_joined(winds_up(rt, alloc))),
+    ]
+}
+
+fn sent<R: Wait + Threads + Clone + Drop + Send + Sync + 'static>(
+    rt: &R,
+    alloc: Global,
+) -> [Line; 6] {
+    let tried = Some((Unsent::Full(2), 1, NoMessage::Empty));
+    let closed = Some(([1, usize::MAX, 1, 1], [false, false, true], Ok(1)));
+    [
+        ("fans_out", fans_out(rt, alloc) == Some(15)),
+        ("sends_to_a_task", sends_to_a_task(rt, alloc) == Some(190)),
+        (
+            "answers_in_order",
+            are(answers_in_order(rt, alloc), &DOUBLES),
+        ),
+        ("tries", tries(rt, alloc) == tried),
+        ("closes_a_channel", closes_a_channel(rt, alloc) == closed),
+        ("gives_up", gives_up(rt, alloc) == Some(2)),
+    ]
+}
+
+fn lent<R: Wait + Threads + Clock + Clone + Drop + Send + Sync>(
+    rt: &R,
+    alloc: Global,
+) -> Option<[Line; 3]> {
+    let shared = executor(rt, alloc)?;
+    Some([
+        ("shares", shares(rt, &shared) == Some(true)),
+        ("serves", serves(rt, executor(rt, alloc)?) == Some(10)),
+        ("times_out", times_out(rt, alloc) == Some(true)),
+    ])
+}
+
+fn waited<R: Wait + Threads + Clock + Clone + Drop + Send + Sync>(
+    rt: &R,
+    alloc: Global,
+) -> [Line; 3] {
+    [
+        ("races", races(rt, alloc) == Some(2)),
+        ("tells", tells(rt, alloc) == Some((false, true))),
+        ("rests", is_late(rests(rt, alloc))),
+    ]
+}
+
+#[test]
+fn threads_run_the_tasks_of_one_executor(rt: HostRuntime) -> Result<(), Fail> {
+    compare(&pooled(&rt, rt.alloc()))
+}
+
+#[test]
+fn channels_carry_what_is_wanted(rt: HostRuntime) -> Result<(), Fail> {
+    compare(&sent(&rt, rt.alloc()))
+}
+
+#[test]
+fn threads_wait_for_what_comes(rt: HostRuntime) -> Result<(), Fail> {
+    compare(&waited(&rt, rt.alloc()))
+}
+
+#[test]
+fn executors_are_lent_to_threads(rt: HostRuntime) -> Result<(), Fail> {
+    match lent(&rt, rt.alloc()) {
+        Some(lines) => compare(&lines),
+        None => Err(Fail::from("no memory")),
+    }
+}

@@ -1,0 +1,90 @@
+//! Futures made of others: one after another, and the first of several.
+use async_executor::{Future, Poll};
+use async_utilities::{
+    AnyOf, Change, Race, Ready, Then, ThreadWaker, YieldNow, block_on, poll_until_ready,
+};
+use std::alloc::Global;
+use std::sync::Wait;
+
+/// Begins a second future with what the first one gave.
+#[derive(Drop)]
+struct Begins {
+    number: u64,
+}
+
+impl Change<u64> for Begins {
+    type Output = Ready<(u64, u64)>;
+
+    ghost makes = { λ begins output. record { value = Some (output, begins.number) } };
+
+    fn change(self, output: u64) -> Ready<(u64, u64)> {
+        Ready::new((output, self.number))
+    }
+}
+
+/// Awaits a number, and then a future that is made of it.
+pub fn follows<R: Wait>(rt: &R, alloc: Global) -> Option<(u64, u64)> {
+    let mine = ThreadWaker::new(alloc).ok()?;
+    let mut both = Then::new(Ready::new(2), Begins { number: 1 });
+    Some(poll_until_ready(rt, &mine, |w| both.poll(w)))
+}
+
+/// Awaits three futures one after another with one waker, which takes no memory for that.
+pub fn reuses<R: Wait>(rt: &R, alloc: Global) -> Option<u64> {
+    let waker = ThreadWaker::new(alloc).ok()?;
+    let first = waker.block_on(rt, Ready::new(1u64));
+    waker.block_on(rt, YieldNow::new());
+    let second = waker.block_on(rt, Ready::new(2u64));
+    first.checked_add(second)
+}
+
+/// A number that comes at the second poll, for which it asks.
+#[derive(Drop)]
+struct Late {
+    first: YieldNow,
+    number: u64,
+}
+
+impl Late {
+    fn new(number: u64) -> Late {
+        Late {
+            first: YieldNow::new(),
+            number,
+        }
+    }
+}
+
+impl Future<ThreadWaker> for Late {
+    type Output = u64;
+
+    fn poll(&mut self, w: &ThreadWaker) -> Poll<u64> {
+        match self.first.poll(w) {
+            Poll::Ready(()) => Poll::Ready(self.number),
+            Poll::Pending => Poll::Pending,
+        }
+    }
+}
+
+/// Races two futures that are both ready at the second poll of the race, which begins with the right
+/// one.
+pub fn alternates(alloc: Global) -> Option<u64> {
+    let mine = ThreadWaker::new(alloc).ok()?;
+    let mut race = Race::new(Late::new(1), Late::new(2));
+    match (race.poll(&mine), race.poll(&mine)) {
+        (Poll::Pending, Poll::Ready(number)) => Some(number),
+        _ => None,
+    }
+}
+
+/// Gives the first of three futures that is ready: its place, its output, and how many others are left.
+pub fn picks<R: Wait>(rt: &R, alloc: Global) -> Option<(usize, u64, usize)> {
+    let mut futures = Vec::new(alloc);
+    for number in 0..3 {
+        futures.push(Late::new(number)).ok()?;
+    }
+    if futures.is_empty() {
+        return None;
+    }
+    let first = block_on(rt, alloc, AnyOf::new(futures)).ok()?;
+    Some((first.place, first.output, first.others.len()))
+}
