@@ -136,26 +136,41 @@ else
     fail "sha256sum, which digests one file after another, is not refused by that"
 fi
 
-# Whether a program that reads these four pipes reads the last one while the others are open and have
-# nothing. The first word is for how many seconds 4 MiB may wait to be read: a pipe has room for less.
+# Opens these four pipes for who reads them, and runs a command, the first word, while they have nothing.
+# The last of them is its file 7.
+with_open() {
+    command=$1
+    shift
+    mkfifo "$@"
+    timeout 300 sh -c 'exec 4> "$2" 5> "$3" 6> "$4" 7> "$5" && eval "$1"' sh "$command" "$@" &&
+        ended=well || ended=ill
+    rm "$@"
+    [ "$ended" = well ]
+}
+
+# Whether the last of four pipes is read beside the others. The first word is for how many seconds 4 MiB
+# may wait to be read: a pipe has room for less.
 reads_last() {
     seconds=$1
     shift
-    mkfifo "$@"
-    timeout 300 sh -c 'exec 4> "$2" 5> "$3" 6> "$4" 7> "$5" && timeout "$1" head -c 4M /dev/zero >&7' \
-        sh "$seconds" "$@" && last=yes || last=no
-    rm "$@"
-    [ "$last" = yes ]
+    with_open "timeout $seconds head -c 4M /dev/zero >&7" "$@"
 }
-for threads in 3 4; do
-    [ "$threads" = 3 ] && seconds=1 || seconds=60
+
+# Which of four files three threads read is up to them, but there is no fourth thread.
+for threads in 1 3 4; do
     run ours -j "$threads" -- a b c d &
-    reads_last "$seconds" a b c d && read=yes || read=no
+    case $threads in
+        1) reads_last 1 a b c d && read=yes || read=no ;;
+        3) with_open 'ls /proc/$(pgrep -f "[s]ha256sum -j 3 -- a b c d")/task | wc -l > count' a b c d
+            read=$(cat count) ;;
+        4) reads_last 60 a b c d && read=yes || read=no ;;
+    esac
     wait
     case "$threads $read" in
-        '3 no') pass "three threads read three files at a time" ;;
+        '1 no') pass "one thread reads one file at a time" ;;
+        '3 3') pass "three threads are all that read" ;;
         '4 yes') pass "four threads read four files at a time" ;;
-        *) fail "with $threads threads the fourth file is read: $read" ;;
+        *) fail "with $threads threads: $read" ;;
     esac
 done
 
