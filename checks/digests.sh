@@ -252,7 +252,7 @@ for n in $(seq 1 999); do
     [ -s "$work/refused" ] || break
     case "$status $(cat "$work/ours.err")" in
         "0 ") said=$(wc -c < "$work/whole") ;;
-        "4 sha256sum: memory exhausted" | "5 sha256sum: no thread is to be had")
+        "4 sha256sum: memory exhausted" | "5 sha256sum: cannot start a thread")
             said=$(wc -c < "$work/ours.out")
             ;;
         *) said=none ;;

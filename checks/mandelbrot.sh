@@ -63,7 +63,7 @@ is_refused_well() {
     case $1 in
         0) cmp "$work/part" "$work/wanted" ;;
         4) grep -q 'out of memory' "$work/message" && is_beginning ;;
-        5) grep -q 'no thread' "$work/message" && is_beginning ;;
+        5) grep -q 'cannot start a thread' "$work/message" && is_beginning ;;
         *) false ;;
     esac
 }

@@ -18,6 +18,7 @@ pub(crate) mod debug;
 pub(crate) mod dropper;
 pub mod executor;
 pub(crate) mod home;
+pub(crate) mod io_errors;
 pub(crate) mod left_over;
 pub mod local_executor;
 pub(crate) mod lock;

@@ -1,6 +1,7 @@
 pub mod ChannelSteps
 pub mod Channels
 pub mod Deadlines
+pub mod ErrorKinds
 pub mod Halves
 pub mod Joins
 pub mod Links

@@ -10,6 +10,7 @@ pub mod channels;
 pub mod combining;
 pub(crate) mod due;
 pub mod immediate;
+pub(crate) mod io_errors;
 pub mod joining;
 pub mod noop;
 pub mod pooling;

@@ -25,8 +25,8 @@ pub enum PoolError {
     /// Every runner number was given.
     #[error("no runner number is left")]
     Exhausted,
-    /// No thread is to be had.
-    #[error("no thread is to be had")]
+    /// A thread cannot be started.
+    #[error("cannot start a thread")]
     NoThread,
 }
 

@@ -30,7 +30,7 @@ pub enum Failure {
     #[error("memory exhausted")]
     OutOfMemory,
     /// The system starts no more threads.
-    #[error("no thread is to be had")]
+    #[error("cannot start a thread")]
     NoThread,
     /// The clock is not to be read.
     #[error("clock: {0}")]

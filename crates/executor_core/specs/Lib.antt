@@ -1,5 +1,6 @@
 pub mod Cell
 pub mod Cells
+pub mod ErrorKinds
 pub mod Limits
 pub mod Numbers
 pub mod Polling

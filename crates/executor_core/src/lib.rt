@@ -3,6 +3,7 @@
 #![tactic(auto)]
 
 pub mod interleave;
+pub(crate) mod io_errors;
 pub mod limits;
 pub mod plain_core;
 pub mod queue;

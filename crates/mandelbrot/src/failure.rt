@@ -18,7 +18,7 @@ pub enum Failure {
     #[error("out of memory")]
     OutOfMemory,
     /// A thread could not be started.
-    #[error("no thread is to be had")]
+    #[error("cannot start a thread")]
     NoThread,
     /// The executor gave up a band, or has no numbers left.
     #[error("the executor stopped before the picture was drawn")]

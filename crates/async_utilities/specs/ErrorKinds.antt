@@ -1,0 +1,34 @@
+-- Which kind of `io::Error` each error is.
+use Rattle.std.specs.IoError.{error_kind}
+use Rattle.std.specs.declared.io.ErrorKind.{ErrorKind}
+use Rattle.std.specs.declared.io.ErrorKind.TheVariants as kind
+use Rattle.async_utilities.specs.declared.pooling.PoolError.{PoolError}
+use Rattle.async_utilities.specs.declared.pooling.PoolError.TheVariants as pool
+use Rattle.async_utilities.specs.declared.timers.error.TimerError.{TimerError}
+use Rattle.async_utilities.specs.declared.timers.error.TimerError.TheVariants as timer
+use Rattle.async_utilities.specs.declared.channels.sender.Unsent.{Unsent}
+use Rattle.async_utilities.specs.declared.channels.sender.Unsent.TheVariants as unsent
+use Rattle.async_utilities.specs.declared.channels.receiver.NoMessage.{NoMessage}
+use Rattle.async_utilities.specs.declared.channels.receiver.NoMessage.TheVariants as none
+
+-- why there is no pool
+abbrev pub pool_kind : PoolError → ErrorKind
+pool_kind pool.OutOfMemory = kind.OutOfMemory
+pool_kind pool.Exhausted = kind.Other
+pool_kind pool.NoThread = kind.WouldBlock
+
+-- why a timer did nothing
+abbrev pub timer_kind : TimerError → ErrorKind
+timer_kind timer.OutOfMemory = kind.OutOfMemory
+timer_kind (timer.Clock error) = error_kind error
+
+-- why a message was not sent
+abbrev pub unsent_kind : {T : Type 0} → Unsent T → ErrorKind
+unsent_kind (unsent.Full message) = kind.WouldBlock
+unsent_kind (unsent.Closed message) = kind.BrokenPipe
+unsent_kind (unsent.Refused message) = kind.OutOfMemory
+
+-- why there is no message
+abbrev pub no_message_kind : NoMessage → ErrorKind
+no_message_kind none.Empty = kind.WouldBlock
+no_message_kind none.Closed = kind.UnexpectedEof
