@@ -1,4 +1,5 @@
 mod Counts
+mod Decisions
 mod Fairs
 mod Handles
 mod Machines

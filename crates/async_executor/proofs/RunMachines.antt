@@ -4,14 +4,15 @@ use Rattle.std.proofs.lemmas.Bool.{cases_Bool, eqb-true, eq-eqb, ne_eqb, cond-fa
 use Rattle.std.specs.Prelude.{◌==◌, ◌≢◌, suc, ◌%◌}
 use Rattle.executor_core.specs.declared.interleave.ticker.Phase.TheVariants as phase
 use Rattle.executor_core.specs.declared.interleave.ticker.Ticker.{Ticker}
-use Rattle.executor_core.specs.World.Tickers.{ended}
+use Rattle.executor_core.specs.World.Tickers.{ended, left}
 use Rattle.async_executor.specs.Ticks.{Asked, asked_of, asked_of_spending}
 use Rattle.async_executor.specs.Ticks.Table as tick
 use Rattle.async_executor.specs.Ticks.Replies as replies
 use Rattle.async_executor.specs.Ticks.Replies.{actor_of, actor_after, departs, is_ran, is_seeking, runs, KeepsCourse, RunsNone, Waits}
-use Rattle.async_executor.specs.Ticks.Rows.{kept_of, kept_by, next_to, IsRowOf, IsSpent}
+use Rattle.async_executor.specs.Ticks.Rows.{kept_of, kept_by, next_to, IsOver, IsRowOf, IsSpent}
 use Rattle.async_executor.specs.Runs.{RunAsked, AskTick, runner_of, store_asked, IsAsked}
 use Rattle.async_executor.specs.Runs.Counts.{goes_on, more, anew}
+use Rattle.async_executor.specs.Runs.Decisions.{decided, decision_to}
 use Rattle.async_executor.specs.Runs.Fairs.{HasFound, FindsIn}
 use Rattle.async_executor.specs.Runs.Fixed.{IsWithin}
 use Rattle.async_executor.specs.Runs.Replies.{decision, leaves}
@@ -38,6 +39,7 @@ use Rattle.async_executor.specs.declared.machine.waiting.TickEnd.TheVariants.{Pa
 use Rattle.async_executor.specs.declared.machine.waiting.TickReply.{TickReply}
 use Rattle.async_executor.specs.declared.machine.waiting.TickReply.TheVariants.{Begin, Dropped, Found, Empty, NoWaker, NoPlace, Inserted, Asleep, WasNotified, Unknown, Stored, RemovedIt, StoredRemoved, Exchanged, Notified, Woken, Ran}
 use Rattle.async_executor.specs.declared.machine.waiting.Waiting.{Waiting}
+use Rattle.async_executor.proofs.Decisions.{key_after}
 use Rattle.async_executor.proofs.Fairs.{counts_more, counts_anew}
 
 -- a turn in which no task is under way is kept as it is
@@ -127,6 +129,12 @@ module _ {W : Type 0} where
   run_store (Run running) = elim (cases_Bool (goes_on running.actor.found)) [ inl on ↦ rw on refl | inr off ↦ rw off refl ]
   run_store (End departed) = refl
 
+  pub run_key : (came : Came Runner W) → key_after (decision came) ≡ (actor_after came).key
+  run_key (Act waiting action) = refl
+  run_key (Rest at_rest end) = refl
+  run_key (Run running) = elim (cases_Bool (goes_on running.actor.found)) [ inl on ↦ rw on refl | inr off ↦ rw off refl ]
+  run_key (End departed) = refl
+
   run_seen : (came : Came Runner W) → ticker_after (decision came) ≡ replies.ticker_after (runner_in (actor_after came)) came
   run_seen (Act waiting action) = refl
   run_seen (Rest at_rest end) = refl
@@ -196,3 +204,20 @@ module _ {W : Type 0} where
       subst (IsRowTo (AskTick asked) action k) (sym (tick_table asked k reply goes))
       (subst (λ r. IsRowTo (AskTick asked) action k (of_row k r)) (same_row (tick.table asked tick.nothing reply) asked (tick.Ask action) tick.nothing its_row.0 its_row.1 its_row.2)
       (subst (IsRowTo (AskTick asked) action k) (sym (go_on_act (AskTick asked) k action tick.nothing (λ t. t) spent.0)) (refl, refl, refl)))
+
+module _ {W : Type 0} where
+  -- a run that leaves the sleepers does what its row says
+  pub leave_decided : (asked : RunAsked) (runner : Runner) (number : ℕ) (registered : Bool) (later : Option ℕ) (kept : tick.Kept) (step : Ticker → Ticker) → let r : Row W = leave asked (keeps runner registered later kept) number step in leaves (record { runner = runner; number = number }) ≡ decision_to runner.key r.next r.kept
+  leave_decided asked runner number registered later kept step =
+      elim (cases_Bool (number == 0)) [ inl awake ↦ rw awake refl | inr asleep ↦ rw asleep refl ]
+
+  over_decided_by : (k : Kept) (left : Left) (r : tick.Row W) → k ≡ keeps left.runner false (Some left.number) tick.nothing → tick.End Return ≡ r.next → leaves left ≡ decision_to left.runner.key (of_row k r).next (of_row k r).kept
+  over_decided_by k left r is over =
+      rw (is, sym over) (leave_decided (AskTick r.answers) left.runner left.number false (Some left.number) tick.nothing (λ t. t))
+
+  pub over_decided : (spending : Spending) (left : Left) (reply : TickReply W) → is_ran reply ≡ false → IsOver (asked_of_spending spending) reply → leaves left ≡ decided (record { state = state.PassingOn spending left }) (Tick reply)
+  over_decided spending left reply goes over =
+      let asked = asked_of_spending spending in
+      let k = kept_in (state.PassingOn spending left) in
+      subst (λ r. leaves left ≡ decision_to left.runner.key r.next r.kept) (sym (tick_table asked k reply goes))
+      (over_decided_by k left (tick.table asked tick.nothing reply) refl over.1)

@@ -1,5 +1,6 @@
 -- What a run asks for, and what answers it.
 pub mod Counts
+pub mod Decisions
 pub mod Fairs
 pub mod Fixed
 pub mod Replies

@@ -1,4 +1,6 @@
 -- What a tick asks for, and what answers it.
+pub mod Courses
+pub mod Decisions
 pub mod Replies
 pub mod Rows
 pub mod Steps

@@ -36,6 +36,12 @@ pub(crate) type CacheLine = [u64; 8];
 
 pub(crate) const APART: CacheLine = [0; 8];
 
+/// As many bytes as two cache lines have, around what the threads of one executor write: a line is
+/// fetched with its neighbour, so those of another executor would take both.
+pub(crate) type Border = [u64; 16];
+
+pub(crate) const BORDER: Border = [0; 16];
+
 // A pause before the first try, in spins of the processor: the least, and the most.
 const SHORTEST: u32 = 4;
 

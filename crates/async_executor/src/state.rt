@@ -5,7 +5,7 @@ ghost use Rattle.executor_core.specs.Cells.Law.{LockLaw};
 ghost use Rattle.executor_core.specs.Sleepers.{SleeperLaw};
 ghost use Rattle.executor_core.specs.Sleepers.Calls.{closed};
 
-use crate::lock::{APART, CacheLine, Lock};
+use crate::lock::{APART, BORDER, Border, CacheLine, Lock};
 use executor_core::sleepers::{ClosedSleepers, Flag, Sleepers};
 use executor_core::task::{Cells, Change, Notice, OutOfMemory, Pick, Wake, Wakeup};
 use std::alloc::Global;
@@ -54,7 +54,8 @@ pub(crate) use sleepers;
 ///
 /// No two of its locks are ever held together, and none while a waker is woken. What different
 /// threads write stands on cache lines of its own: the counts of the shares before the state, the
-/// flag, the cells with their lock, and the sleepers with theirs.
+/// flag, the cells with their lock, and the sleepers with theirs. The locks lie apart from what other
+/// executors have, too.
 ///
 /// What is large stands in a box: the drop of an `Arc` clears room for all that it may be the last to
 /// hold, and each task drops a share of this as it ends.
@@ -67,11 +68,13 @@ pub struct ExecutorState<W, R> {
 
 #[derive(Drop)]
 pub(crate) struct Parts<W, R> {
+    before_all: Border,
     pub(crate) cells: Lock<Cells<(), (), W>>,
     before_sleepers: CacheLine,
     pub(crate) sleepers: Lock<ClosedSleepers<W>>,
     rt: R,
     alloc: Global,
+    after_all: Border,
 }
 
 // What waits for no lock. It asks for no right to wait, so that it costs its caller no test.
@@ -112,11 +115,13 @@ impl<W: Wake, R: Wait + Clone + Drop> ExecutorState<W, R> {
     /// The state of an executor that has no tasks.
     pub(crate) fn new(rt: R, alloc: Global) -> Result<ExecutorState<W, R>, OutOfMemory> {
         let parts = Parts {
+            before_all: BORDER,
             cells: Lock::new(Cells::new(alloc)?),
             before_sleepers: APART,
             sleepers: Lock::new(ClosedSleepers::new(alloc)),
             rt,
             alloc,
+            after_all: BORDER,
         };
         match Box::new(alloc, parts) {
             Ok(parts) => Ok(ExecutorState {

@@ -1,5 +1,5 @@
 -- What comes of a reply to a step that waits for it.
-use Rattle.std.specs.Prelude.{◌≡◌, ℕ, Bool, true, false, Option, Some, None}
+use Rattle.std.specs.Prelude.{◌≡◌, ℕ, Bool, true, false, Option, Some, None, is_none}
 use Rattle.executor_core.specs.declared.interleave.ticker.Ticker.{Ticker}
 use Rattle.executor_core.specs.declared.task.values.Notice.{Notice}
 use Rattle.async_executor.specs.Steps.Tickers.{of_departed, of_rested, of_running}
@@ -24,7 +24,7 @@ use Rattle.async_executor.specs.declared.machine.waiting.TickAction.{TickAction}
 use Rattle.async_executor.specs.declared.machine.waiting.TickAction.TheVariants as asks
 use Rattle.async_executor.specs.declared.machine.waiting.TickEnd.TheVariants.{Return}
 use Rattle.async_executor.specs.declared.machine.waiting.TickReply.{TickReply}
-use Rattle.async_executor.specs.declared.machine.waiting.TickReply.TheVariants.{Exchanged, Notified, Ran}
+use Rattle.async_executor.specs.declared.machine.waiting.TickReply.TheVariants.{StoredRemoved, Exchanged, Notified, Woken, Ran}
 use Rattle.async_executor.specs.declared.machine.waiting.Waiting.{Waiting}
 use Rattle.async_executor.specs.declared.machine.waiting.Waiting.TheVariants.{Searching, Inserting, Updating, Storing, Removing, StoringRemoved, Announcing, Leaving, StoringLeft, PassingOn}
 
@@ -52,6 +52,14 @@ is_seeking _ = true
 abbrev pub is_ran : {W : Type 0} → TickReply W → Bool
 is_ran Ran = true
 is_ran _ = false
+
+-- one that was dropped has nothing left to spend
+abbrev pub is_last : {W : Type 0} → TickReply W → Bool
+is_last (StoredRemoved notified) = is_none notified
+is_last (Exchanged pick) = is_none pick
+is_last (Notified wakeup) = is_none wakeup
+is_last Woken = true
+is_last _ = false
 
 -- a notice is spent by the flag, its pick by the list, and the wakeup of that by a wake
 abbrev pub spends : {W : Type 0} → TickReply W → Option (Spending × TickAction W)
@@ -104,6 +112,17 @@ module _ {A W : Type 0} where
   KeepsCourse seeking (Rest at_rest end) = seeking ≡ true
   KeepsCourse seeking (Run running) = seeking ≡ true
   KeepsCourse seeking (End departed) = seeking ≡ false
+
+  -- one that was dropped ends with the last of its replies
+  abbrev pub has_left : Came A W → Bool
+  has_left (End departed) = true
+  has_left _ = false
+
+  abbrev pub EndsLast : Waiting A → TickReply W → Came A W → Type 0
+  EndsLast (Leaving s) reply came = has_left came ≡ is_last reply
+  EndsLast (StoringLeft s) reply came = has_left came ≡ is_last reply
+  EndsLast (PassingOn spending s) reply came = has_left came ≡ is_last reply
+  EndsLast _ reply came = Unit {0}
 
   -- the store that is asked for
   abbrev pub store_asked : Came A W → Option Asked

@@ -7,6 +7,7 @@ ghost use Rattle.std.specs.Prelude.{◌≡◌, cond, Bool, true, false, Ok, Err,
 ghost use Rattle.executor_core.specs.Limits.{is_lawful, default_limits};
 ghost use Rattle.async_executor.specs.Runs.{answers, asked, has_ended, new_rest, runner_of, store_asked, store_after, AskFirst, IsAsked};
 ghost use Rattle.async_executor.specs.Runs.Counts.{goes_on, more, anew};
+ghost use Rattle.async_executor.specs.Runs.Decisions.{decided};
 ghost use Rattle.async_executor.specs.Runs.Fairs.{HasFound, FairGoesOn};
 ghost use Rattle.async_executor.specs.Runs.Fixed.{fixed, IsWithin};
 ghost use Rattle.async_executor.specs.Runs.Replies.{ask, begun, decision, dropped, drops, polls, runs, searches};
@@ -373,6 +374,7 @@ impl RunMachine {
     /// What comes after this reply, which has to answer the last action.
     pub fn next<W>(self, reply: RunReply<W>) -> RunNext<W>
         requires { answers (asked self) reply ≡ true }
+        ensures decided { result ≡ decided self reply }
         ensures asked { IsAsked result }
         ensures store { store_asked result ≡ store_after reply }
         ensures ticker { (notified : Bool) → ticker_after result ≡ leads self reply (ticker_of notified self) }
@@ -422,13 +424,13 @@ impl RunMachine {
                 _ => unreachable!(),
             },
             RunState::Unregistering(unregistering) => match reply {
-                RunReply::Unregistered(Some(notice)) => ask(
-                    RunState::PassingOn(Exchanging, unregistering.unregistered()),
-                    RunAction::Tick(TickAction::Exchange(notice)),
-                ),
-                RunReply::Unregistered(None) => {
-                    decide(depart(unregistering.unregistered().depart()))
-                }
+                RunReply::Unregistered(notice) => match notice {
+                    Some(notice) => ask(
+                        RunState::PassingOn(Exchanging, unregistering.unregistered()),
+                        RunAction::Tick(TickAction::Exchange(notice)),
+                    ),
+                    None => decide(depart(unregistering.unregistered().depart())),
+                },
                 _ => unreachable!(),
             },
             RunState::PassingOn(spending, left) => match reply {

@@ -12,6 +12,8 @@ ghost use Rattle.executor_core.specs.World.Tickers.{polled};
 ghost use Rattle.async_executor.specs.Steps.{IsDeparting};
 ghost use Rattle.async_executor.specs.Steps.Tickers.{LeadsTick, left_awake, of_departed, of_departing, of_rested, of_running, of_searching};
 ghost use Rattle.async_executor.specs.Ticks.{answers, asked, store_asked, store_after, AskStart, IsAsked};
+ghost use Rattle.async_executor.specs.Ticks.Courses.{course, KeepsCourse};
+ghost use Rattle.async_executor.specs.Ticks.Decisions.{decided};
 ghost use Rattle.async_executor.specs.Ticks.Rows.{IsRow};
 ghost use Rattle.async_executor.specs.Ticks.Replies.{decision};
 ghost use Rattle.async_executor.specs.Ticks.Tickers.{ticker_of, ticker_after, rest_ticker};
@@ -201,11 +203,13 @@ impl TickMachine {
     #[inline(always)]
     pub fn next<W>(self, reply: TickReply<W>) -> TickNext<W>
         requires { answers (asked self) reply ≡ true }
+        ensures decided { result ≡ decided self reply }
         ensures asked { IsAsked result }
         ensures store { store_asked result ≡ store_after reply }
         ensures ticker { (runner : Option ℕ) (notified : Bool) → ticker_after runner result ≡ leads self.state reply (ticker_of runner notified self) }
         ensures enabled { (runner : Option ℕ) (notified : Bool) → may_lead self.state reply (ticker_of runner notified self) ≡ true }
         ensures table { IsRow self reply result }
+        ensures course { KeepsCourse (course self) reply result }
     {
         let TickMachine { state } = self;
         match state {

@@ -4,9 +4,9 @@
 //! own call says what is asked next. Each action is one step on what is shared, or spends a value of
 //! its own, so one that has a notice to spend goes through three: the notice, the pick that comes of
 //! it, and the wakeup of that pick.
-ghost use Rattle.std.specs.Prelude.{◌≡◌, ℕ, Bool, true, false, Option, IfNone, IfSome};
+ghost use Rattle.std.specs.Prelude.{◌≡◌, ℕ, Bool, true, false, Option, is_none, IfNone, IfSome};
 ghost use Rattle.async_executor.specs.Ticks.{answers, asked_of, asked_of_spending, store_after};
-ghost use Rattle.async_executor.specs.Ticks.Replies.{actor_of, actor_after, departs, finds, passes_on, sleeps, spends, is_ran, is_seeking, store_asked, ticker_after, KeepsCourse, RunsNone, Waits};
+ghost use Rattle.async_executor.specs.Ticks.Replies.{actor_of, actor_after, departs, finds, passes_on, sleeps, spends, has_left, is_last, is_ran, is_seeking, store_asked, ticker_after, EndsLast, KeepsCourse, RunsNone, Waits};
 ghost use Rattle.async_executor.specs.Ticks.Rows.{IsOver, IsRowOf, IsSpent, kept_of};
 ghost use Rattle.async_executor.specs.Ticks.Steps.{leads_from, may_lead_from};
 ghost use Rattle.async_executor.specs.Ticks.Tickers.{ticker_of_waiting};
@@ -184,7 +184,8 @@ pub(in crate::machine) fn depart<A, W>(departing: Departing<A>) -> Came<A, W>
 // It has left, and what it was notified of is spent.
 #[inline(always)]
 fn pass_on<A, W>(departed: Departed<A>, notified: Option<Notice>) -> Came<A, W>
-    ensures { result ≡ passes_on departed notified }
+    ensures step { result ≡ passes_on departed notified }
+    ensures ends { has_left result ≡ is_none notified }
 {
     match notified {
         Some(notice) => Came::Act(PassingOn(Exchanging, departed), Exchange(notice)),
@@ -204,6 +205,7 @@ impl Spending {
         ensures row { IfSome result (λ next. IsSpent (asked_of_spending self) reply next.1) }
         ensures over { IfNone result (IsOver (asked_of_spending self) reply) }
         ensures goes_on { is_ran reply ≡ false }
+        ensures ends { is_none result ≡ is_last reply }
     {
         match reply {
             Exchanged(Some(pick)) => Some((Notifying, Notify(pick))),
@@ -224,6 +226,7 @@ impl<A> Waiting<A> {
         ensures none { RunsNone result }
         ensures goes_on { is_ran reply ≡ false }
         ensures course { KeepsCourse (is_seeking self) result }
+        ensures ends { EndsLast self reply result }
         ensures store { store_asked result ≡ store_after reply }
         ensures ticker { (runner : Option ℕ) (notified : Bool) → ticker_after runner result ≡ leads_from self reply (ticker_of_waiting runner notified self) }
         ensures enabled { (runner : Option ℕ) (notified : Bool) → may_lead_from self reply (ticker_of_waiting runner notified self) ≡ true }

@@ -1,16 +1,18 @@
 use Rattle.std.proofs.Common.{◌≡◌, ◌+◌, ◌<◌, true, false, subst, sym, ap, ◌∙◌}
 use Rattle.async_executor.specs.Runs.{runner_at, store_asked, store_after, IsAsked}
+use Rattle.async_executor.specs.Runs.Decisions.{decided}
 use Rattle.async_executor.specs.Runs.Fairs.{FindsFrom, FindsIn, HasFound}
 use Rattle.async_executor.specs.Runs.Replies.{decision}
 use Rattle.async_executor.specs.Runs.Rows.{IsRow, kept_after, next_of}
 use Rattle.async_executor.specs.Runs.Steps.{leads, may_lead}
 use Rattle.async_executor.specs.Runs.Tickers.{ticker_in, ticker_after, runner_in}
 use Rattle.async_executor.specs.Runs.Turns.{TurnFrom, under_way_in}
-use Rattle.async_executor.specs.Ticks.Replies.{actor_after, actor_of}
+use Rattle.async_executor.specs.Ticks.Replies.{actor_after, actor_of, departs}
 use Rattle.async_executor.specs.declared.machine.run.RunState.TheVariants.{PassingOn, Waiting}
 use Rattle.async_executor.specs.declared.machine.run.RunReply.TheVariants.{Tick}
 use Rattle.async_executor.specs.declared.machine.run.Runner.{Runner}
-use Rattle.async_executor.proofs.RunMachines.{run_asked, run_store, waiting_row, run_turn, run_fair, spending_row}
+use Rattle.async_executor.proofs.Decisions.{key_after, run_decided}
+use Rattle.async_executor.proofs.RunMachines.{over_decided, run_key, run_asked, run_store, waiting_row, run_turn, run_fair, spending_row}
 use Rattle.async_executor.proofs.machine.run.RunMachine.next.Goals as goal
 
 pub returns-in-Tick-clause-asked : goal.returns-in-Tick-clause-asked
@@ -62,11 +64,30 @@ returns-in-Tick-clause-fair g c n before =
     (run_fair n c.next.result c.next.ensures.none within) before))
     before
 
-pub returns-in-Some-clause-table : goal.returns-in-Some-clause-table
-returns-in-Some-clause-table g c =
+pub returns-in-Some-next-clause-table : goal.returns-in-Some-next-clause-table
+returns-in-Some-next-clause-table g c =
     let left = c.in-PassingOn.left in
     let spending = c.in-PassingOn.spending in
-    subst (λ s. IsRow (record { state = s }) c.args.reply c.ask-in-Some.result) (sym c.in-PassingOn.is)
-    (subst (λ r. IsRow (record { state = PassingOn spending left }) r c.ask-in-Some.result) (sym c.in-Tick-reply.is)
-    (subst (IsRow (record { state = PassingOn spending left }) (Tick c.in-Tick-reply.reply)) (sym c.ask-in-Some.ensures)
-    (spending_row spending c.in-Some.spending left c.in-Tick-reply.reply c.in-Some.action c.in-Some.ensures.goes_on c.in-Some.ensures.row)))
+    subst (λ s. IsRow (record { state = s }) c.args.reply c.ask-in-Some-next.result) (sym c.in-PassingOn.is)
+    (subst (λ r. IsRow (record { state = PassingOn spending left }) r c.ask-in-Some-next.result) (sym c.in-Tick-reply.is)
+    (subst (IsRow (record { state = PassingOn spending left }) (Tick c.in-Tick-reply.reply)) (sym c.ask-in-Some-next.ensures)
+    (spending_row spending c.in-Some-next.spending left c.in-Tick-reply.reply c.in-Some-next.action c.in-Some-next.ensures.goes_on c.in-Some-next.ensures.row)))
+
+pub returns-in-Tick-clause-decided : goal.returns-in-Tick-clause-decided
+returns-in-Tick-clause-decided g c =
+    let waiting = c.in-Waiting.waiting in
+    let came = c.next.ensures in
+    let same = c.decide.ensures in
+    let row = waiting_row waiting c.in-Tick.reply c.next.result (ticker_in false (Waiting waiting)) came.goes_on came.actor came.asked came.none came.course came.table (came.ticker (runner_in (actor_of waiting)) false) in
+    subst (λ s. c.decide.result ≡ decided (record { state = s }) c.args.reply) (sym c.in-Waiting.is)
+    (subst (λ r. c.decide.result ≡ decided (record { state = Waiting waiting }) r) (sym c.in-Tick.is)
+    (run_decided c.decide.result _ _ _ (subst IsAsked (sym same) (run_asked c.next.result came.asked)) (ap next_of same ∙ row.1) (ap kept_after same ∙ row.2)
+    (ap key_after same ∙ run_key c.next.result ∙ ap (λ (runner : Runner). runner.key) came.actor)))
+
+pub returns-in-None-next-clause-decided : goal.returns-in-None-next-clause-decided
+returns-in-None-next-clause-decided g c =
+    let left = c.in-PassingOn.left in
+    let spending = c.in-PassingOn.spending in
+    subst (λ s. c.decide-in-None-next.result ≡ decided (record { state = s }) c.args.reply) (sym c.in-PassingOn.is)
+    (subst (λ r. c.decide-in-None-next.result ≡ decided (record { state = PassingOn spending left }) r) (sym c.in-Tick-reply.is)
+    (c.decide-in-None-next.ensures ∙ ap decision c.depart-in-None-next-2.ensures ∙ ap (λ d. decision (departs d)) c.depart-in-None-next.ensures.step ∙ over_decided spending left c.in-Tick-reply.reply c.in-None-next.ensures.goes_on c.in-None-next.ensures.over))

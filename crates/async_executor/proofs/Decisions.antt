@@ -1,0 +1,133 @@
+-- A machine is known by what it asks and keeps.
+use Rattle.std.proofs.Common.{◌≡◌, Bool, cond, refl, sym, ap, ap₂, subst, subst₂, ◌∙◌}
+use Rattle.executor_core.specs.declared.queue.runner.RunnerKey.{RunnerKey}
+use Rattle.async_executor.specs.Runs.{runner_at, runner_of, is_end}
+use Rattle.async_executor.specs.Runs.{asked_in as run_asked_in}
+use Rattle.async_executor.specs.Runs as run_asks
+use Rattle.async_executor.specs.Runs.Decisions as runs
+use Rattle.async_executor.specs.Runs.Rows as rows
+use Rattle.async_executor.specs.Runs.Rows.{kept_at}
+use Rattle.async_executor.specs.Runs.Rows.{kept_in as run_kept_in}
+use Rattle.async_executor.specs.Runs.Table as run_table
+use Rattle.async_executor.specs.Ticks.{asked_in, asked_of, asked_by, is_return, IsAsked}
+use Rattle.async_executor.specs.Ticks.Decisions.{decision_to, state_for, waiting_for}
+use Rattle.async_executor.specs.Ticks.Replies.{actor_of}
+use Rattle.async_executor.specs.Ticks.Rows.{kept_after, kept_in, kept_of, next_of}
+use Rattle.async_executor.specs.Ticks.Table.{Kept, Next}
+use Rattle.async_executor.specs.declared.machine.run.RunNext.{RunNext}
+use Rattle.async_executor.specs.declared.machine.run.RunNext.TheVariants as next
+use Rattle.async_executor.specs.declared.machine.run.RunState.{RunState}
+use Rattle.async_executor.specs.declared.machine.run.RunState.TheVariants as run
+use Rattle.async_executor.specs.declared.machine.run.Runner.{Runner}
+use Rattle.async_executor.specs.declared.machine.run.Stage.{Stage}
+use Rattle.async_executor.specs.declared.machine.run.Stage.TheVariants as stage
+use Rattle.async_executor.specs.declared.machine.run_steps.Begun.TheVariants as begun
+use Rattle.async_executor.specs.declared.machine.tick.TickNext.{TickNext}
+use Rattle.async_executor.specs.declared.machine.tick.TickNext.TheVariants.{Act, Rest}
+use Rattle.async_executor.specs.declared.machine.tick.TickState.{TickState}
+use Rattle.async_executor.specs.declared.machine.tick.TickState.TheVariants as state
+use Rattle.async_executor.specs.declared.machine.waiting.TickEnd.{TickEnd}
+use Rattle.async_executor.specs.declared.machine.waiting.Spending.TheVariants.{Exchanging, Notifying, Waking}
+use Rattle.async_executor.specs.declared.machine.waiting.Waiting.{Waiting}
+use Rattle.async_executor.specs.declared.machine.waiting.Waiting.TheVariants.{Searching, Inserting, Updating, Storing, Removing, StoringRemoved, Announcing, Leaving, StoringLeft, PassingOn}
+
+pub waiting_known : {A : Type 0} → (waiting : Waiting A) → waiting_for (actor_of waiting) (asked_of waiting) (kept_of waiting) ≡ waiting
+waiting_known (Searching s) = refl
+waiting_known (Inserting s) = refl
+waiting_known (Updating s) = refl
+waiting_known (Storing s) = refl
+waiting_known (Removing s) = refl
+waiting_known (StoringRemoved s) = refl
+waiting_known (Announcing Exchanging s) = refl
+waiting_known (Announcing Notifying s) = refl
+waiting_known (Announcing Waking s) = refl
+waiting_known (Leaving s) = refl
+waiting_known (StoringLeft s) = refl
+waiting_known (PassingOn Exchanging s) = refl
+waiting_known (PassingOn Notifying s) = refl
+waiting_known (PassingOn Waking s) = refl
+
+tick_known : (s : TickState) → state_for (asked_in s) (kept_in s) ≡ s
+tick_known (state.Resting number) = refl
+tick_known (state.Waiting (Searching s)) = refl
+tick_known (state.Waiting (Inserting s)) = refl
+tick_known (state.Waiting (Updating s)) = refl
+tick_known (state.Waiting (Storing s)) = refl
+tick_known (state.Waiting (Removing s)) = refl
+tick_known (state.Waiting (StoringRemoved s)) = refl
+tick_known (state.Waiting (Announcing Exchanging s)) = refl
+tick_known (state.Waiting (Announcing Notifying s)) = refl
+tick_known (state.Waiting (Announcing Waking s)) = refl
+tick_known (state.Waiting (Leaving s)) = refl
+tick_known (state.Waiting (StoringLeft s)) = refl
+tick_known (state.Waiting (PassingOn Exchanging s)) = refl
+tick_known (state.Waiting (PassingOn Notifying s)) = refl
+tick_known (state.Waiting (PassingOn Waking s)) = refl
+tick_known (state.Running s) = refl
+
+module _ {W : Type 0} where
+  -- so a decision is its row's
+  pub tick_decided : (next : TickNext W) (to : Next W) (k : Kept) → IsAsked next → next_of next ≡ to → kept_after next ≡ k → next ≡ decision_to to k
+  tick_decided (Act machine action) to k asks is keeps =
+      subst (λ to. Act machine action ≡ decision_to to k) is
+      (ap (λ s. Act (record { state = s }) action) (sym (tick_known machine.state) ∙ ap₂ state_for asks keeps))
+  tick_decided (Rest rest end) to k ends is keeps =
+      subst (λ to. Rest rest end ≡ decision_to to k) is
+      (ap₂ (λ n e. Rest (record { number = n; ended = e }) end) (ap (λ k. k.number) keeps) ends)
+
+run_known : (s : RunState) → runs.state_for (runs.runner_for (runner_at s).key (run_kept_in s)) (run_asked_in s) (run_kept_in s) ≡ s
+run_known (run.Resting (begun.Register s)) = refl
+run_known (run.Resting (begun.PollOwn s)) = refl
+run_known (run.Registering s) = refl
+run_known (run.PollingOwn s) = refl
+run_known (run.Waiting (Searching s)) = refl
+run_known (run.Waiting (Inserting s)) = refl
+run_known (run.Waiting (Updating s)) = refl
+run_known (run.Waiting (Storing s)) = refl
+run_known (run.Waiting (Removing s)) = refl
+run_known (run.Waiting (StoringRemoved s)) = refl
+run_known (run.Waiting (Announcing Exchanging s)) = refl
+run_known (run.Waiting (Announcing Notifying s)) = refl
+run_known (run.Waiting (Announcing Waking s)) = refl
+run_known (run.Waiting (Leaving s)) = refl
+run_known (run.Waiting (StoringLeft s)) = refl
+run_known (run.Waiting (PassingOn Exchanging s)) = refl
+run_known (run.Waiting (PassingOn Notifying s)) = refl
+run_known (run.Waiting (PassingOn Waking s)) = refl
+run_known (run.Sharing s) = refl
+run_known (run.Running s) = refl
+run_known (run.Unregistering s) = refl
+run_known (run.PassingOn Exchanging s) = refl
+run_known (run.PassingOn Notifying s) = refl
+run_known (run.PassingOn Waking s) = refl
+run_known (run.Releasing s) = refl
+
+-- and a rest is known by whether it has ended, and by what it keeps
+rest_known : (runner : Runner) (s : Stage) (e : Bool) → is_end s ≡ e → cond e stage.Ended (runs.stage_for (kept_at runner s)) ≡ s
+rest_known runner stage.New e is = rw (sym is) refl
+rest_known runner (stage.Joined number) e is = rw (sym is) refl
+rest_known runner stage.Ended e is = rw (sym is) refl
+
+runner_known : (runner : Runner) (s : Stage) → runs.runner_for runner.key (kept_at runner s) ≡ runner
+runner_known runner stage.New = refl
+runner_known runner (stage.Joined number) = refl
+runner_known runner stage.Ended = refl
+
+module _ {W : Type 0} where
+  -- the key of the runner
+  abbrev pub key_after : RunNext W → RunnerKey
+  key_after (next.Act machine action) = (runner_of machine).key
+  key_after (next.Rest rest end) = rest.runner.key
+
+  rest_is : {r s : Runner} {at then : Stage} (end : TickEnd) → r ≡ s → at ≡ then → ◌≡◌ {A = RunNext W} (next.Rest (record { runner = r; stage = at }) end) (next.Rest (record { runner = s; stage = then }) end)
+  rest_is end same stays = rw (same, stays) refl
+
+  pub run_decided : (to : RunNext W) (key : RunnerKey) (asks : run_table.Next W) (k : run_table.Kept) → run_asks.IsAsked to → rows.next_of to ≡ asks → rows.kept_after to ≡ k → key_after to ≡ key → to ≡ runs.decision_to key asks k
+  run_decided (next.Act machine action) key to k asks is keeps same =
+      subst (λ to. next.Act machine action ≡ runs.decision_to key to k) is
+      (subst₂ (λ k key. next.Act machine action ≡ next.Act (record { state = runs.state_for (runs.runner_for key k) (run_asks.asked_by action) k }) action) keeps same
+      (ap (λ s. next.Act (record { state = s }) action) (sym (run_known machine.state) ∙ ap (λ asked. runs.state_for (runs.runner_for (runner_of machine).key (run_kept_in machine.state)) asked (run_kept_in machine.state)) asks)))
+  run_decided (next.Rest rest end) key to k ends is keeps same =
+      subst (λ to. next.Rest rest end ≡ runs.decision_to key to k) is
+      (subst₂ (λ k key. ◌≡◌ {A = RunNext W} (next.Rest rest end) (next.Rest (record { runner = runs.runner_for key k; stage = cond (is_return end) stage.Ended (runs.stage_for k) }) end)) keeps same
+      (rest_is end (sym (runner_known rest.runner rest.stage)) (sym (rest_known rest.runner rest.stage _ ends))))
