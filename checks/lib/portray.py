@@ -1,16 +1,17 @@
 """Draws an execution that was written down, as an SVG: a lane for each thread, and the lengths below.
 
 A bar is a poll of a task, or the drop of its future, in the colour of the task. A line is a step on what is
-shared, with its reply. A thin arrow goes from the step that queued a task to its take by another thread, and a
-thick one from the notification of a sleeper to the next step of that sleeper. Below stand how many tasks are in
-the queues together, and how many sleepers have numbers. The text that a screen reader reads has each step.
+shared, with its reply. A thin arrow goes from the step that queued a task to its take by another thread, and
+a thick one from the notification of a sleeper to its next step. Below stand how many tasks are in the queues
+together, and how many sleepers have numbers. The text that a screen reader reads has each step.
 Usage: portray.py LOG NAME [FROM TO], for the execution NAME of a log of checks/replay.sh, as 0.fixed_3, from
 one of its lines to another. It prints the picture.
 """
 import sys
 from html import escape
 
-from replay import executions, steps_of, walk
+from recorded import executions, walk
+from world_steps import steps_of
 
 WIDTH, LEFT, LANE, BAR, BELOW = 1000, 76, 148, 18, 60
 STYLE = """
@@ -87,7 +88,8 @@ class Picture:
             shown = step if not step.startswith("search") else " ".join(step.split()[:2])
             said = shown if reply in ("nothing", "done") else f"{shown} → {reply}"
             self.draw(f'<line class="step" x1="{x:.1f}" y1="{y - 3}" x2="{x:.1f}" y2="{y + 5}"/>')
-            self.draw(f'<text class="small" transform="translate({x - 3:.1f} {y + 9}) rotate(90)">{escape(said)}</text>')
+            place = f"translate({x - 3:.1f} {y + 9}) rotate(90)"
+            self.draw(f'<text class="small" transform="{place}">{escape(said)}</text>')
             self.said.append(f"thread {self.lines[at].thread}: {step} → {reply}")
 
     def draw_arrow(self, kind, start, end):
@@ -116,11 +118,14 @@ class Picture:
                 self.draw_if_apart("wakes", notified.pop(of[0], None), place)
 
     def draw_if_apart(self, kind, start, end):
-        if start is not None and self.lines[self.steps[start][0]].thread != self.lines[self.steps[end][0]].thread:
+        if start is not None and self.thread(start) != self.thread(end):
             self.draw_arrow(kind, start, end)
 
+    def thread(self, place):
+        return self.lines[self.steps[place][0]].thread
+
     def draw_lengths(self, before):
-        """How many tasks are queued and how many sleepers there are after each step, from the first one on."""
+        """How many tasks are queued and how many sleepers there are, after each step of these."""
         base, queued, sleepers, path = self.height - 16, 0, 0, []
         shown = {at for at, _, _ in self.steps}
         lengths = []
