@@ -68,7 +68,7 @@ replay() {
 
 # Says whether both checks pass each execution of the right bodies, as they must.
 judge_right() {
-    executions=$((fixed + alone + storms))
+    executions=$((fixed + 2 * alone + storms))
     right=$(grep -cE '^0\.[a-z]+_[0-9]+: [0-9]+ steps$' "$copy/said" || :)
     passed=$((passed + right))
     [ "$right" = $executions ] || {

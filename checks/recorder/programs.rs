@@ -1,8 +1,9 @@
 //! Programs whose steps are written down: some that are the same each time, and random ones on one thread and
 //! on four.
 //!
-//! Its arguments are how many random programs one thread takes, how many four threads take, and the seed of
-//! the first of these. With a wrong body it takes the first one of one thread, and none of four.
+//! Its arguments are how many random programs one thread takes, on an executor that threads share and on a
+//! local one, how many four threads take, and the seed of the first of these. With a wrong body it takes the
+//! first one of one thread, and none of four.
 #![tactic(auto)]
 
 mod fixed;
@@ -13,7 +14,7 @@ use executor_core::recorder::{self, Ending, Kind};
 use fixed::Fixed;
 use std::test::Fail;
 use support::programs::Program;
-use support::trial::tried;
+use support::trial::{tried, tried_locally};
 
 fn main(rt: HostRuntime) -> Result<(), Fail> {
     let mut args = std::env::args(&rt)?.skip(1);
@@ -21,7 +22,7 @@ fn main(rt: HostRuntime) -> Result<(), Fail> {
         return Err("usage: recorded PROGRAMS STORMS SEED".into());
     };
     let (alone, storms, seed): (u64, u64, u64) = (alone.parse()?, storms.parse()?, seed.parse()?);
-    let (alone, storms) = if chosen() == 0 { (alone, storms) } else { (1, 0) };
+    let (alone, locally, storms) = if chosen() == 0 { (alone, alone, storms) } else { (1, 0, 0) };
     for (number, program) in Fixed::ALL.into_iter().enumerate() {
         fixed::take(&rt, program)?;
         end(Kind::Fixed, number as u64, Ending::Closed)?;
@@ -30,6 +31,11 @@ fn main(rt: HostRuntime) -> Result<(), Fail> {
         let program = Program::new(number, rt.alloc())?.alone(rt.alloc())?;
         let wrong = tried(&rt, &program)?;
         end(Kind::Alone, number, ending_of(&program, wrong))?;
+    }
+    for number in 0..locally {
+        let program = Program::new(number, rt.alloc())?.alone(rt.alloc())?;
+        let wrong = tried_locally(&rt, &program)?;
+        end(Kind::Local, number, ending_of(&program, wrong))?;
     }
     for number in seed..seed.saturating_add(storms) {
         let program = Program::new(number, rt.alloc())?;

@@ -198,6 +198,7 @@ pub fn go_on() {
 pub enum Kind {
     Fixed,
     Alone,
+    Local,
     Storm,
 }
 
