@@ -99,9 +99,9 @@ judge() {
 
 set -- $(edits_of wrong_bodies | xargs grep -l '^replay: ')
 lay_out "$@"
-seconds=60
+# The most that a run of all these programs may take, and one of exsim.
+seconds=$((60 + storms / 5))
 replay
 judge_right
 judge "$@"
-[ -z "${KEEP:-}" ] || cp "$copy/said" "$KEEP"
 count
