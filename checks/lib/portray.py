@@ -1,0 +1,189 @@
+"""Draws an execution that was written down, as an SVG: a lane for each thread, and the lengths below.
+
+A bar is a poll of a task, or the drop of its future, in the colour of the task. A line is a step on what is
+shared, with its reply. A thin arrow goes from the step that queued a task to its take by another thread, and
+a thick one from the notification of a sleeper to its next step. Below stand how many tasks are in the queues
+together, and how many sleepers have numbers. The text that a screen reader reads has each step.
+Usage: portray.py LOG NAME [FROM TO], for the execution NAME of a log of checks/replay.sh, as 0.fixed_3, from
+one of its lines to another. It prints the picture.
+"""
+import sys
+from html import escape
+
+from recorded import executions, walk
+from world_steps import steps_of
+
+WIDTH, LEFT, LANE, BAR, BELOW = 1000, 76, 148, 18, 60
+STYLE = """
+  text { font: 11px system-ui, sans-serif; fill: #1f2328 }
+  .small { font-size: 10px }
+  .lane { stroke: #8b949e; stroke-width: 1 }
+  .step { stroke: #1f2328; stroke-width: 1 }
+  .passes { fill: none; stroke: #57606a; stroke-width: 1 }
+  .wakes { fill: none; stroke: #b35900; stroke-width: 2.5 }
+  .length { fill: #a8c7fa }
+  .sleepers { fill: none; stroke: #b35900; stroke-width: 2 }
+  .asleep { fill: #b35900 }
+  .back { fill: #ffffff }
+  @media (prefers-color-scheme: dark) {
+    text { fill: #e6edf3 }
+    .step { stroke: #e6edf3 }
+    .passes { stroke: #9da7b3 }
+    .wakes, .sleepers { stroke: #f0883e }
+    .length { fill: #274a78 }
+    .back { fill: #0d1117 }
+    .asleep { fill: #f0883e }
+    .bar { filter: brightness(0.62) }
+  }
+"""
+
+
+class Picture:
+    """The steps of a window, each with its place from left to right, and the lanes of their threads."""
+
+    def __init__(self, lines, first, last):
+        self.lines = {line.at: line for line in lines}
+        self.steps = [(at, step, reply) for at, step, reply in steps_of(lines) if first <= at <= last]
+        self.lanes = sorted({self.lines[at].thread for at, _, _ in self.steps})
+        self.by = (WIDTH - LEFT - 12) / max(1, len(self.steps))
+        self.drawn, self.said = [], []
+        self.height = 24 + LANE * len(self.lanes) + 2 * BELOW
+
+    def x(self, place):
+        return LEFT + self.by * (place + 0.5)
+
+    def y(self, at):
+        return 24 + LANE * self.lanes.index(self.lines[at].thread)
+
+    def x_of_line(self, at):
+        """Where a line stands that may be no step: behind the steps before it."""
+        return LEFT + self.by * sum(1 for it, _, _ in self.steps if it < at)
+
+    def draw(self, text):
+        self.drawn.append(f"  {text}")
+
+    def draw_lanes(self):
+        for number, thread in enumerate(self.lanes):
+            y = 24 + LANE * number
+            self.draw(f'<line class="lane" x1="{LEFT}" y1="{y + BAR}" x2="{WIDTH - 8}" y2="{y + BAR}"/>')
+            self.draw(f'<text x="8" y="{y + BAR + 4}">thread {thread}</text>')
+
+    def draw_polls(self, lines, first, last):
+        for line, frame, _ in walk(lines):
+            is_end = line.word == "End" and frame.word in ("Future", "Disposal")
+            if is_end and first <= frame.at and line.at <= last:
+                self.draw_bar(frame, line)
+
+    def draw_bar(self, frame, end):
+        x, to = self.x_of_line(frame.at), self.x_of_line(end.at)
+        y, width = self.y(frame.at), max(to - x, self.by * 0.7)
+        colour = f"hsl({frame.of * 67 % 360} 65% 72%)"
+        self.draw(f'<rect class="bar" x="{x:.1f}" y="{y}" width="{width:.1f}" height="{BAR - 2}" rx="3"'
+                  f' fill="{colour}"/>')
+        self.draw(f'<text class="small" x="{x + 2:.1f}" y="{y + 12}">{frame.of}</text>')
+
+    def draw_steps(self):
+        for place, (at, step, reply) in enumerate(self.steps):
+            x, y = self.x(place), self.y(at) + BAR
+            shown = step if not step.startswith("search") else " ".join(step.split()[:2])
+            said = shown if reply in ("nothing", "done") else f"{shown} → {reply}"
+            self.draw(f'<line class="step" x1="{x:.1f}" y1="{y - 3}" x2="{x:.1f}" y2="{y + 5}"/>')
+            place = f"translate({x - 3:.1f} {y + 9}) rotate(90)"
+            self.draw(f'<text class="small" transform="{place}">{escape(said)}</text>')
+            self.said.append(f"thread {self.lines[at].thread}: {step} → {reply}")
+
+    def draw_arrow(self, kind, start, end):
+        (x, y), (to, down) = ((self.x(place), self.y(self.steps[place][0]) + BAR) for place in (start, end))
+        middle = (x + to) / 2
+        self.draw(f'<path class="{kind}" marker-end="url(#end)" d="M{x:.1f} {y} C{middle:.1f} {y - 22}'
+                  f' {middle:.1f} {down - 22} {to:.1f} {down}"/>')
+
+    def draw_passing(self):
+        """The arrows, by what each step queues, takes and notifies."""
+        queued, numbers, notified = {}, {}, {}
+        for place, (at, step, reply) in enumerate(self.steps):
+            word, *of = step.split()
+            said, *value = reply.split()
+            if said in ("task", "queued"):
+                queued[value[0]] = place
+            elif said == "notice" and of:
+                queued[of[0]] = place
+            elif said in ("poll", "drop") and word in ("search", "trytick", "tryany", "drain"):
+                self.draw_if_apart("passes", queued.pop(value[0], None), place)
+            if said == "number":
+                numbers[value[0]] = of[0]
+            elif said == "sleeper":
+                notified[numbers.get(value[0])] = place
+            elif of and word in ("poll", "sleep", "remove", "unregister", "drop"):
+                self.draw_if_apart("wakes", notified.pop(of[0], None), place)
+
+    def draw_if_apart(self, kind, start, end):
+        if start is not None and self.thread(start) != self.thread(end):
+            self.draw_arrow(kind, start, end)
+
+    def thread(self, place):
+        return self.lines[self.steps[place][0]].thread
+
+    def draw_lengths(self, before):
+        """How many tasks are queued and how many sleepers there are, after each step of these."""
+        base, queued, sleepers, path = self.height - 16, 0, 0, []
+        shown = {at for at, _, _ in self.steps}
+        lengths = []
+        for at, step, reply in before:
+            queued += change_of_queues(step, reply)
+            sleepers += (reply.startswith("number ")) - (reply in ("notified", "unnotified"))
+            if at in shown:
+                lengths.append((queued, sleepers))
+        most = max(1, *(max(pair) for pair in lengths))
+        for place, (tasks, asleep) in enumerate(lengths):
+            high = (BELOW - 6) * tasks / most
+            self.draw(f'<rect class="length" x="{self.x(place) - self.by / 2:.1f}" y="{base - high:.1f}"'
+                      f' width="{self.by:.1f}" height="{high:.1f}"/>')
+            path.append(f"{self.x(place):.1f} {base - (BELOW - 6) * asleep / most:.1f}")
+        self.draw(f'<polyline class="sleepers" points="{", ".join(path)}"/>')
+        self.draw(f'<text x="8" y="{base - 34}">queued</text>')
+        self.draw(f'<text x="8" y="{base - 18}" class="asleep">sleepers</text>')
+        self.draw(f'<text class="small" x="{LEFT - 16}" y="{base - BELOW + 14}">{most}</text>')
+        self.draw(f'<text class="small" x="{LEFT - 16}" y="{base}">0</text>')
+
+    def text(self, name):
+        steps = escape(". ".join(self.said))
+        return "\n".join([
+            f'<svg xmlns="http://www.w3.org/2000/svg" viewBox="0 0 {WIDTH} {self.height}" role="img"'
+            ' aria-labelledby="title steps">',
+            f'  <title id="title">What {len(self.lanes)} threads did, in the order of their tickets</title>',
+            f'  <desc id="steps">{escape(name)}. {steps}.</desc>',
+            f"  <style>{STYLE}  </style>",
+            '  <defs><marker id="end" viewBox="0 0 6 6" refX="5" refY="3" markerWidth="6" markerHeight="6"'
+            ' orient="auto"><path d="M0 0L6 3L0 6z" fill="#8b6d3f"/></marker></defs>',
+            f'  <rect class="back" width="{WIDTH}" height="{self.height}"/>',
+            *self.drawn,
+            "</svg>",
+        ])
+
+
+def change_of_queues(step, reply):
+    """How many tasks more stand in the queues after a step. A close or a leak is not drawn."""
+    said, word = reply.split()[0], step.split()[0]
+    if said in ("task", "queued") or said == "notice" and word in ("wake", "cancel", "drophandle"):
+        return 1
+    return -1 if said in ("poll", "drop") and word in ("search", "trytick", "tryany", "drain") else 0
+
+
+def main(log, name, first=0, last=10**9):
+    for execution in executions(log):
+        if execution.name == name:
+            lines, first, last = execution.lines, int(first), int(last)
+            picture = Picture(lines, first, last)
+            picture.draw_lanes()
+            picture.draw_polls(lines, first, last)
+            picture.draw_steps()
+            picture.draw_passing()
+            picture.draw_lengths(steps_of(lines))
+            print(picture.text(name))
+            return
+    sys.exit(f"no execution {name}")
+
+
+if __name__ == "__main__":
+    main(*sys.argv[1:])
