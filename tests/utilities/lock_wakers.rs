@@ -14,9 +14,10 @@ type Locks<R> = (
     Mutex<u64, TestWaker, R>,
     Event<TestWaker, R>,
     Barrier<TestWaker, R>,
+    TestWaker,
 );
 
-// A semaphore without permits, a mutex, an event and a barrier for two.
+// A semaphore without permits, a mutex, an event and a barrier for two, and a waker of who uses them.
 fn locks<R: AllocGlobal + Wait + Clone + Drop>(rt: &R) -> Result<Locks<R>, Fail> {
     let alloc = rt.alloc();
     Ok((
@@ -24,6 +25,7 @@ fn locks<R: AllocGlobal + Wait + Clone + Drop>(rt: &R) -> Result<Locks<R>, Fail>
         Mutex::new(rt.clone()?, alloc, 0)?,
         Event::new(rt.clone()?, alloc)?,
         Barrier::new(rt.clone()?, alloc, 2)?,
+        quiet(rt)?,
     ))
 }
 
@@ -41,11 +43,13 @@ fn quiet(rt: &impl AllocGlobal) -> Result<TestWaker, Fail> {
 
 // Takes the lock of each.
 fn uses<R: Wait + Drop>(locks: &Locks<R>) {
-    let (semaphore, mutex, event, barrier) = locks;
+    let (semaphore, mutex, event, barrier, waker) = locks;
     let _ = semaphore.permits();
     drop(mutex.try_lock());
     event.notify(0);
-    drop(barrier.wait());
+    if let Ok(mut wait) = barrier.wait() {
+        wait.poll(waker);
+    }
 }
 
 // Whether they can be used while another thread halts in this step.
