@@ -23,7 +23,7 @@ pub use semaphore::{Acquire, Semaphore, SemaphoreGuard, TooManyPermits};
 /// Example: `uses::takes_turns`.
 ///
 /// ```text
-/// let unavailable = mutex.try_lock().err()?;
+/// let unavailable = other.try_lock().err()?;
 /// ```
 #[derive(Debug, Clone, Copy, PartialEq, Eq)]
 pub enum Unavailable {

@@ -16,7 +16,7 @@ use std::sync::{Arc, Mutex, MutexGuard, Wait};
 /// Example: `uses::meets`.
 ///
 /// ```text
-/// let barrier = Barrier::new(rt.clone().ok()?, alloc, 2).ok()?;
+/// let barrier: Barrier<ThreadWaker, R> = Barrier::new(rt.clone().ok()?, alloc, 2).ok()?;
 /// ```
 #[derive(Drop)]
 pub struct Barrier<W: Wake, R: Wait + Drop> {
@@ -34,7 +34,7 @@ pub(crate) struct Shared<W: Wake, R: Wait + Drop> {
 /// Example: `uses::meets`.
 ///
 /// ```text
-/// if result.is_leader() {
+/// Some([one?.is_leader(), two?.is_leader()])
 /// ```
 #[derive(Debug, Clone, Copy, PartialEq, Eq)]
 pub struct BarrierWaitResult {
@@ -47,7 +47,7 @@ impl BarrierWaitResult {
     /// Example: `uses::meets`.
     ///
     /// ```text
-    /// if result.is_leader() {
+    /// Some([one?.is_leader(), two?.is_leader()])
     /// ```
     pub fn is_leader(&self) -> bool
         ensures { result ≡ self.now.is_leader }
@@ -139,7 +139,7 @@ impl<W: Wake, R: Wait + Drop> Barrier<W, R> {
     /// Example: `uses::meets`.
     ///
     /// ```text
-    /// let barrier = Barrier::new(rt.clone().ok()?, alloc, 2).ok()?;
+    /// let barrier: Barrier<ThreadWaker, R> = Barrier::new(rt.clone().ok()?, alloc, 2).ok()?;
     /// ```
     pub fn new(rt: R, alloc: Global, size: usize) -> Result<Barrier<W, R>, OutOfMemory>
         requires { 0 < size }
@@ -178,7 +178,7 @@ impl<W: Wake, R: Wait + Drop> Barrier<W, R> {
     /// Example: `uses::meets`.
     ///
     /// ```text
-    /// let result = block_on(rt, alloc, barrier.wait().ok()?).ok()?;
+    /// let (here, there) = (barrier.wait().ok()?, other.wait().ok()?);
     /// ```
     pub fn wait(&self) -> Result<BarrierWait<W, R>, OutOfMemory>
         ensures same { IfOk result (λ wait. arc_value wait.shared ≡ arc_value self.now.shared) }
@@ -201,7 +201,7 @@ impl<W: Wake, R: Wait + Drop> Barrier<W, R> {
 /// Example: `uses::meets`.
 ///
 /// ```text
-/// let result = block_on(rt, alloc, barrier.wait().ok()?).ok()?;
+/// let (here, there) = (barrier.wait().ok()?, other.wait().ok()?);
 /// ```
 pub struct BarrierWait<W: Wake, R: Wait + Drop> {
     shared: Arc<Shared<W, R>>,

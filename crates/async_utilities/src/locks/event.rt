@@ -17,7 +17,7 @@ use std::sync::{Arc, Mutex, MutexGuard, Wait};
 /// Example: `uses::hears`.
 ///
 /// ```text
-/// let event = Event::new(rt.clone().ok()?, alloc).ok()?;
+/// let event: Event<ThreadWaker, R> = Event::new(rt.clone().ok()?, alloc).ok()?;
 /// ```
 #[derive(Drop)]
 pub struct Event<W: Wake, R: Wait + Drop> {
@@ -61,7 +61,7 @@ impl<W: Wake, R: Wait + Drop> Event<W, R> {
     /// Example: `uses::hears`.
     ///
     /// ```text
-    /// let event = Event::new(rt.clone().ok()?, alloc).ok()?;
+    /// let event: Event<ThreadWaker, R> = Event::new(rt.clone().ok()?, alloc).ok()?;
     /// ```
     pub fn new(rt: R, alloc: Global) -> Result<Event<W, R>, OutOfMemory> {
         let state = Mutex::new(State::new(alloc));
@@ -99,7 +99,7 @@ impl<W: Wake, R: Wait + Drop> Event<W, R> {
     /// Example: `uses::hears`.
     ///
     /// ```text
-    /// let listener = event.listen().ok()?;
+    /// let third = event.listen().ok()?;
     /// ```
     pub fn listen(&self) -> Result<EventListener<W, R>, OutOfMemory>
         ensures same { IfOk result (λ listener. arc_value listener.shared ≡ arc_value self.now.shared) }
@@ -120,7 +120,7 @@ impl<W: Wake, R: Wait + Drop> Event<W, R> {
     /// Example: `uses::hears`.
     ///
     /// ```text
-    /// let told = event.notify(1);
+    /// let one = other.notify(1);
     /// ```
     pub fn notify(&self, count: usize) -> usize
         ensures { result ≤ count }
@@ -133,7 +133,7 @@ impl<W: Wake, R: Wait + Drop> Event<W, R> {
     /// Example: `uses::hears`.
     ///
     /// ```text
-    /// event.notify_additional(1);
+    /// let more = other.notify_additional(1);
     /// ```
     pub fn notify_additional(&self, count: usize) -> usize
         ensures { result ≤ count }
@@ -146,7 +146,7 @@ impl<W: Wake, R: Wait + Drop> Event<W, R> {
     /// Example: `uses::hears`.
     ///
     /// ```text
-    /// event.notify_all();
+    /// let all = other.notify_all();
     /// ```
     pub fn notify_all(&self) -> usize {
         self.shared.tell(usize::MAX, false)
@@ -160,7 +160,7 @@ impl<W: Wake, R: Wait + Drop> Event<W, R> {
 /// Example: `uses::hears`.
 ///
 /// ```text
-/// block_on(rt, alloc, listener).ok()?;
+/// block_on(rt, alloc, first).ok()?;
 /// ```
 pub struct EventListener<W: Wake, R: Wait + Drop> {
     shared: Arc<Shared<W, R>>,

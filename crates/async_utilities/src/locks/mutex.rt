@@ -19,7 +19,7 @@ use std::sync::{self, Arc, Wait};
 /// Example: `uses::takes_turns`.
 ///
 /// ```text
-/// let mutex = Mutex::new(rt.clone().ok()?, alloc, 1).ok()?;
+/// let mutex: Mutex<u64, ThreadWaker, R> = Mutex::new(rt.clone().ok()?, alloc, 0).ok()?;
 /// ```
 #[derive(Drop)]
 pub struct Mutex<T: Drop, W: Wake, R: Wait + Drop> {
@@ -88,7 +88,7 @@ impl<T: Drop, W: Wake, R: Wait + Drop> Mutex<T, W, R> {
     /// Example: `uses::takes_turns`.
     ///
     /// ```text
-    /// let mutex = Mutex::new(rt.clone().ok()?, alloc, 1).ok()?;
+    /// let mutex: Mutex<u64, ThreadWaker, R> = Mutex::new(rt.clone().ok()?, alloc, 0).ok()?;
     /// ```
     pub fn new(rt: R, alloc: Global, value: T) -> Result<Mutex<T, W, R>, OutOfMemory> {
         let state = sync::Mutex::new(State::new(alloc, value));
@@ -126,7 +126,7 @@ impl<T: Drop, W: Wake, R: Wait + Drop> Mutex<T, W, R> {
     /// Example: `uses::takes_turns`.
     ///
     /// ```text
-    /// let mut guard = mutex.try_lock().ok()?;
+    /// let guard = mutex.try_lock().ok()?;
     /// ```
     pub fn try_lock(&self) -> Result<MutexGuard<T, W, R>, Unavailable>
         ensures same { IfOk result (λ guard. arc_value guard.shared ≡ arc_value self.now.shared) }
@@ -169,7 +169,7 @@ impl<T: Drop, W: Wake, R: Wait + Drop> Mutex<T, W, R> {
 /// Example: `uses::takes_turns`.
 ///
 /// ```text
-/// *guard += 1;
+/// *guard = guard.wrapping_add(1);
 /// drop(guard);
 /// ```
 pub struct MutexGuard<T: Drop, W: Wake, R: Wait + Drop> {

@@ -14,7 +14,7 @@ use std::sync::{Arc, OnceLock, Wait};
 /// Example: `uses::makes_once`.
 ///
 /// ```text
-/// let cell = OnceCell::new(rt, alloc).ok()?;
+/// let cell: OnceCell<u64, ThreadWaker, R> = OnceCell::new(rt, alloc).ok()?;
 /// ```
 #[derive(Drop)]
 pub struct OnceCell<T: Drop, W: Wake, R: Wait + Clone + Drop> {
@@ -61,7 +61,7 @@ impl<T: Drop, W: Wake, R: Wait + Clone + Drop> OnceCell<T, W, R> {
     /// Example: `uses::makes_once`.
     ///
     /// ```text
-    /// let cell = OnceCell::new(rt, alloc).ok()?;
+    /// let cell: OnceCell<u64, ThreadWaker, R> = OnceCell::new(rt, alloc).ok()?;
     /// ```
     pub fn new(rt: &R, alloc: Global) -> Result<OnceCell<T, W, R>, OutOfMemory> {
         let is_there = Signal::new(rt.clone()?, alloc)?;
@@ -101,7 +101,7 @@ impl<T: Drop, W: Wake, R: Wait + Clone + Drop> OnceCell<T, W, R> {
     /// Example: `uses::makes_once`.
     ///
     /// ```text
-    /// let value = cell.get()?;
+    /// let value = *cell.get()?;
     /// ```
     pub fn get(&self) -> Option<&T> {
         self.shared.value.get()
@@ -127,7 +127,7 @@ impl<T: Drop, W: Wake, R: Wait + Clone + Drop> OnceCell<T, W, R> {
     /// Example: `uses::makes_once`.
     ///
     /// ```text
-    /// let back = cell.set(2).err()?;
+    /// let back = other.set(2).err()?;
     /// ```
     pub fn set(&self, value: T) -> Result<(), T>
         ensures back { IfErr result (λ back. back ≡ value) }
@@ -160,7 +160,7 @@ impl<T: Drop, W: Wake, R: Wait + Clone + Drop> OnceCell<T, W, R> {
     /// Example: `uses::makes_once`.
     ///
     /// ```text
-    /// let made = cell.get_or_init(Ready::new(1)).ok()?;
+    /// let is_own = block_on(rt, alloc, cell.get_or_init(Ready::new(1)).ok()?).ok()?;
     /// ```
     pub fn get_or_init<G>(&self, future: G) -> Result<OnceInit<G, T, W, R>, AllocFailed<G>>
         ensures refused { IfErr result (λ failed. failed.value ≡ future) }

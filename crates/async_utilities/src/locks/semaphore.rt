@@ -21,7 +21,8 @@ use std::sync::{Arc, Mutex, MutexGuard, Wait};
 /// Example: `uses::takes_permits`.
 ///
 /// ```text
-/// let semaphore = Semaphore::new(rt.clone().ok()?, alloc, 2).ok()?;
+/// let semaphore: Semaphore<ThreadWaker, R> =
+///     Semaphore::new(rt.clone().ok()?, alloc, 2).ok()?;
 /// ```
 #[derive(Drop)]
 pub struct Semaphore<W: Wake, R: Wait + Drop> {
@@ -36,10 +37,10 @@ pub(crate) struct Shared<W: Wake, R: Wait + Drop> {
 
 /// More permits than a `usize` counts would be there in all.
 ///
-/// Example: `uses::takes_permits`, which lets it go.
+/// Example: `uses::takes_permits`.
 ///
 /// ```text
-/// semaphore.add_permits(1).ok()?;
+/// let too_many = semaphore.add_permits(usize::MAX).err()?;
 /// ```
 #[derive(Debug, Clone, Copy, PartialEq, Eq)]
 pub struct TooManyPermits;
@@ -111,7 +112,8 @@ impl<W: Wake, R: Wait + Drop> Semaphore<W, R> {
     /// Example: `uses::takes_permits`.
     ///
     /// ```text
-    /// let semaphore = Semaphore::new(rt.clone().ok()?, alloc, 2).ok()?;
+    /// let semaphore: Semaphore<ThreadWaker, R> =
+    ///     Semaphore::new(rt.clone().ok()?, alloc, 2).ok()?;
     /// ```
     pub fn new(rt: R, alloc: Global, permits: usize) -> Result<Semaphore<W, R>, OutOfMemory> {
         let state = Mutex::new(State::new(alloc, permits));
@@ -144,7 +146,7 @@ impl<W: Wake, R: Wait + Drop> Semaphore<W, R> {
     /// Example: `uses::takes_permits`.
     ///
     /// ```text
-    /// let left = semaphore.permits();
+    /// let first = semaphore.permits();
     /// ```
     pub fn permits(&self) -> usize {
         self.shared.state().permits
@@ -178,7 +180,7 @@ impl<W: Wake, R: Wait + Drop> Semaphore<W, R> {
     /// Example: `uses::takes_permits`.
     ///
     /// ```text
-    /// let both = semaphore.try_acquire_many(2).ok()?;
+    /// let unavailable = semaphore.try_acquire_many(2).err()?;
     /// ```
     pub fn try_acquire_many(&self, permits: usize) -> Result<SemaphoreGuard<W, R>, Unavailable>
         ensures same { IfOk result (λ guard. arc_value guard.shared ≡ arc_value self.now.shared) }
@@ -202,7 +204,7 @@ impl<W: Wake, R: Wait + Drop> Semaphore<W, R> {
     /// Example: `uses::takes_permits`.
     ///
     /// ```text
-    /// let permit = block_on(rt, alloc, semaphore.acquire().ok()?).ok()?;
+    /// let one = block_on(rt, alloc, semaphore.acquire().ok()?).ok()?;
     /// ```
     pub fn acquire(&self) -> Result<Acquire<W, R>, OutOfMemory>
         ensures same { IfOk result (λ acquire. IfSome acquire.shared (λ shared. arc_value shared ≡ arc_value self.now.shared)) }
@@ -222,7 +224,7 @@ impl<W: Wake, R: Wait + Drop> Semaphore<W, R> {
     /// Example: `uses::takes_permits`.
     ///
     /// ```text
-    /// let all = semaphore.acquire_many(3).ok()?;
+    /// let both = block_on(rt, alloc, semaphore.acquire_many(2).ok()?).ok()?;
     /// ```
     pub fn acquire_many(&self, permits: usize) -> Result<Acquire<W, R>, OutOfMemory>
         ensures same { IfOk result (λ acquire. IfSome acquire.shared (λ shared. arc_value shared ≡ arc_value self.now.shared)) }
@@ -246,7 +248,7 @@ impl<W: Wake, R: Wait + Drop> Semaphore<W, R> {
     /// Example: `uses::takes_permits`.
     ///
     /// ```text
-    /// semaphore.add_permits(1).ok()?;
+    /// other.add_permits(1).ok()?;
     /// ```
     pub fn add_permits(&self, permits: usize) -> Result<(), TooManyPermits> {
         if !self.shared.state().count(permits) {
@@ -300,7 +302,7 @@ impl<W: Wake, R: Wait + Drop> Drop for SemaphoreGuard<W, R> {
 /// Example: `uses::takes_permits`.
 ///
 /// ```text
-/// let permit = block_on(rt, alloc, semaphore.acquire().ok()?).ok()?;
+/// let one = block_on(rt, alloc, semaphore.acquire().ok()?).ok()?;
 /// ```
 pub struct Acquire<W: Wake, R: Wait + Drop> {
     // Moves into the permits.
