@@ -17,6 +17,7 @@ pub mod handling;
 pub mod interleaving;
 pub mod lasting;
 pub mod limiting;
+pub mod locking;
 pub mod messaging;
 pub mod mixing;
 pub mod nesting;
@@ -46,6 +47,7 @@ pub use handling::{cancels, cancels_half_way, detaches, drops, falls_back, lets_
 pub use interleaving::interleaves;
 pub use lasting::{keeps, lasts, prints, serves};
 pub use limiting::keeps_turns;
+pub use locking::{hears, makes_once, meets, takes_permits, takes_turns};
 pub use messaging::{closes_a_channel, gives_up, runs_here, sends_to_a_task, tries};
 pub use mixing::{boxes, mixes};
 pub use nesting::nests;

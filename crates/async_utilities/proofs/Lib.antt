@@ -1,4 +1,5 @@
 pub mod Deadlines
 pub mod LinkLemmas
 pub mod LinkedLemmas
+pub mod LockLemmas
 pub mod WaitLemmas

@@ -1,10 +1,10 @@
 -- What each call under the lock of a channel does.
 use Rattle.std.specs.Prelude.{ℕ, ◌≡◌, ◌≤◌, ◌<◌, ◌+◌, ◌-◌, Option, None, Some, Result, Ok, Err, Bool, true, false, IsTrue, List, [], ◌∷◌, ◌++◌, length}
 use Rattle.std.specs.VecDeque.{deque_capacity}
-use Rattle.async_utilities.specs.Channels.{AreGone, Enters, Leaves}
-use Rattle.async_utilities.specs.WaitQueue.{Notifies, Stays, Waiters}
-use Rattle.async_utilities.specs.declared.channels.side.Left.{Left}
+use Rattle.async_utilities.specs.Channels.{AreGone}
+use Rattle.async_utilities.specs.WaitQueue.{Enters, Leaves, Notifies, Stays, Waiters}
 use Rattle.async_utilities.specs.declared.channels.state.Closing.{Closing}
+use Rattle.async_utilities.specs.declared.due.Left.{Left}
 use Rattle.async_utilities.specs.declared.channels.state.State.{State}
 use Rattle.async_utilities.specs.declared.channels.state.Sent.{Sent}
 use Rattle.async_utilities.specs.declared.channels.state.Sent.TheVariants.{Kept, Full, Closed, Refused}

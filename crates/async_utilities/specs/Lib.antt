@@ -5,11 +5,16 @@ pub mod ErrorKinds
 pub mod Halves
 pub mod Joins
 pub mod Links
+pub mod Mutexes
 pub mod Places
 pub mod Polls
+pub mod Rounds
+pub mod Semaphores
 pub mod Signals
 pub mod Stages
 pub mod TimerErrors
 pub mod Times
 pub mod Unsent
+pub mod Values
 pub mod WaitQueue
+pub mod Wishes

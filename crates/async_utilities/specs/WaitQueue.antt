@@ -4,7 +4,7 @@ use Rattle.std.specs.Coded.{Coded, code_by, coded×, coded⊎, coded_ℕ, coded_
 use base.Stored.{coded_unit}
 use Rattle.std.proofs.Common.{inl, inr}
 use Rattle.slab.specs.Slab.{Slab, get, slab_len}
-use Rattle.async_utilities.specs.Links.{IsApart, IsIn, Order}
+use Rattle.async_utilities.specs.Links.{IsApart, IsIn, Order, without}
 use Rattle.async_utilities.specs.declared.due.Due.{Due}
 use Rattle.async_utilities.specs.declared.due.Due.TheVariants.{Nobody, One}
 use Rattle.async_utilities.specs.declared.wait_queue.Place.{Place}
@@ -80,6 +80,14 @@ module _ {W : Type 0} where
   abbrev pub first_due : Waiters W → Due W
   first_due s = due_at s s.waiting
 
+  -- the waker of the first of these
+  abbrev pub waker_first : Waiters W → List ℕ → Option W
+  waker_first s [] = None
+  waker_first s (first ∷ rest) = waker_of (place_at s first)
+
+  abbrev pub first_waker : Waiters W → Option W
+  first_waker s = waker_first s s.waiting
+
   -- who waits once one waits at this place: if it did before, its turn stays
   abbrev pub entered : Waiters W → ℕ → List ℕ
   entered s place = if is_waiting (place_at s place) then s.waiting else s.waiting ++ place ∷ []
@@ -122,6 +130,21 @@ module _ {W : Type 0} where
   -- if somebody waits, at least as many are notified as there is something to come for
   abbrev pub IsServed : ℕ → Waiters W → Type 0
   IsServed there s = 0 < length s.waiting → there ≤ s.notified
+
+  -- One waits with this waker: at a new place behind all others, or at its own.
+  abbrev pub Enters : Waiters W → Option ℕ → W → ℕ × Option W → Waiters W → Type 0
+  Enters old None waker kept new =
+      (place_at old kept.0 ≡ None) × Moves old new kept.0 (Some (Waiting waker)) (old.waiting ++ kept.0 ∷ []) × (kept.1 ≡ None)
+  Enters old (Some place) waker kept new =
+      (kept.0 ≡ place) × WaitsAt old place waker kept.1 new
+
+  -- One gives its place back, with its waker. If more is there than others are notified of, the first
+  -- of those who wait is due.
+  abbrev pub Leaves : Waiters W → Option ℕ → ℕ → Option W × Due W → Waiters W → Type 0
+  Leaves old None there left new = (left.0 ≡ None) × (left.1 ≡ Nobody) × (new ≡ old)
+  Leaves old (Some place) there left new =
+      (left.0 ≡ waker_of (place_at old place))
+      × ((between : Waiters W) × Moves old between place None (without place old.waiting) × Notifies between there left.1 new)
 
   -- how many more values fit, and can be linked
   abbrev pub room_of : Slab (Place W) → Order → ℕ

@@ -18,6 +18,22 @@ impl<W: Wake> Due<W> {
     }
 }
 
+/// What is left of one that gave its place back: its waker, which is dropped, and whom to wake in its
+/// stead. It cannot be dropped.
+pub(crate) struct Left<W> {
+    pub(crate) waker: Option<W>,
+    pub(crate) due: Due<W>,
+}
+
+impl<W: Wake> Left<W> {
+    /// Drops the waker, and wakes whom it is to.
+    pub(crate) fn end(self) {
+        let Left { waker, due } = self;
+        drop(waker);
+        due.wake();
+    }
+}
+
 /// All who waited at a thing, each of whom is to be woken once no lock is held, the first one first.
 /// It cannot be dropped: `wake` is its one end.
 pub(crate) struct AllDue<W> {

@@ -1,5 +1,6 @@
 //! What programs need beside an executor: a thread that waits for a future, a waker that does nothing,
-//! small futures, joins, a signal, a channel, timers, a pool of threads, and work on it that blocks.
+//! small futures, joins, a signal, a channel, locks, timers, a pool of threads, and work on it that
+//! blocks.
 //!
 //! It stands on what `async_executor` makes public. Its futures are for wakers of any type, and its
 //! wakers serve any future.
@@ -12,6 +13,7 @@ pub(crate) mod due;
 pub mod immediate;
 pub(crate) mod io_errors;
 pub mod joining;
+pub mod locks;
 pub mod noop;
 pub mod pooling;
 pub mod signals;
@@ -26,6 +28,10 @@ pub use channels::{
 pub use combining::{Change, Either, Map, Or, Race, Then, Zip};
 pub use immediate::{Never, Ready, YieldNow};
 pub use joining::{AnyOf, First, JoinAll};
+pub use locks::{
+    Acquire, Barrier, BarrierWait, BarrierWaitResult, Event, EventListener, Lock, Mutex,
+    MutexGuard, OnceCell, OnceInit, Semaphore, SemaphoreGuard, TooManyPermits, Unavailable,
+};
 pub use noop::NoopWaker;
 pub use pooling::{Pool, PoolError};
 pub use signals::{Signal, Waiting};

@@ -13,13 +13,14 @@
 //! waits, at least as many are notified as there is something to come for. So nothing lies beside one
 //! that sleeps. And `notify` wakes nobody if that many are notified already, so nobody is woken in vain
 //! but by another that came first.
-ghost use Rattle.std.specs.Prelude.{◌≡◌, ◌==◌, ◌+◌, ◌≤◌, ◌<◌, ◌-◌, ◌∷◌, ◌++◌, [], ℕ, None, Some, IfOk, OnOk, OnErr, IsOk, IsSome, length};
+ghost use Rattle.std.specs.Prelude.{◌≡◌, ◌==◌, ◌+◌, ◌≤◌, ◌<◌, ◌-◌, ◌∷◌, ◌++◌, [], ℕ, None, Some, true, IfOk, IfErr, OnOk, OnErr, IsOk, IsSome, length, option_copied};
 ghost use Rattle.async_utilities.specs.Links.{without};
-ghost use Rattle.async_utilities.specs.WaitQueue.{IsServed, Moves, Notifies, Stays, Steps, Takes, WaitsAt, first_due, place_at, waker_of};
+ghost use Rattle.async_utilities.specs.WaitQueue.{Enters, IsServed, Leaves, Moves, Notifies, Stays, Steps, Takes, WaitsAt, first_due, first_waker, is_notified, place_at, waker_of};
 
 pub(crate) mod links;
+pub(crate) mod rounds;
 
-use crate::due::Due;
+use crate::due::{Due, Left};
 use crate::wait_queue::links::Links;
 use async_executor::Wake;
 use slab::Slab;
@@ -87,6 +88,33 @@ impl<W> WaitQueue<W> {
         ensures { result ≡ self.now.notified }
     {
         self.notified
+    }
+
+    /// Whether the one at this place was notified, and has not come yet.
+    pub(crate) fn is_notified(&self, place: usize) -> bool
+        ensures { result ≡ is_notified (place_at self.now place) }
+    {
+        matches!(self.places.get(place), Some(Place::Notified))
+    }
+
+    /// The waker of the one that waits at this place, if it does.
+    pub(crate) fn waiting_at(&self, place: usize) -> Option<&W>
+        ensures { option_copied result ≡ waker_of (place_at self.now place) }
+    {
+        match self.places.get(place) {
+            Some(Place::Waiting(waker)) => Some(waker),
+            _ => None,
+        }
+    }
+
+    /// The waker of the first one that waits.
+    pub(crate) fn peek(&self) -> Option<&W>
+        ensures { option_copied result ≡ first_waker self.now }
+    {
+        match self.order.first() {
+            Some(place) => self.waiting_at(place),
+            None => None,
+        }
     }
 }
 
@@ -177,6 +205,7 @@ impl<W: Drop> WaitQueue<W> {
     pub(crate) fn leave(&mut self, place: usize) -> Option<W>
         ensures waker { result ≡ waker_of (place_at self.old place) }
         ensures leaves { Moves self.old self.new place None (without place self.old.waiting) }
+        ensures stays { is_notified (place_at self.old place) ≡ true → self.new.waiting ≡ self.old.waiting }
     {
         match self.places.try_remove(place) {
             Some(Place::Waiting(waker)) => {
@@ -190,6 +219,42 @@ impl<W: Drop> WaitQueue<W> {
             Some(Place::Idle) => None,
             None => None,
         }
+    }
+
+    /// Has one wait with this waker, at its place if it has one, else at a new one. Gives the place, and
+    /// an earlier waker. If there is no memory for a place, the waker comes back.
+    pub(crate) fn enter(&mut self, place: Option<usize>, waker: W) -> Result<(usize, Option<W>), W>
+        ensures waits { IfOk result (λ kept. Enters self.old place waker kept self.new) }
+        ensures refused { IfErr result (λ back. (place ≡ None) × (back ≡ waker)) }
+        ensures stays { OnErr result (Stays self.old self.new) }
+    {
+        let place = match place {
+            Some(place) => place,
+            None => match self.join() {
+                Ok(place) => place,
+                Err(_) => return Err(waker),
+            },
+        };
+        let unused = self.wait(place, waker);
+        Ok((place, unused))
+    }
+
+    /// Gives a place back, if there is one. If it was notified of what it did not take, of which so much
+    /// is there, the next one is due.
+    pub(crate) fn pass(&mut self, place: Option<usize>, there: usize) -> Left<W>
+        ensures leaves { Leaves self.old place there (result.waker, result.due) self.new }
+        ensures served { IsServed there self.old → IsServed there self.new }
+        ensures nobody { self.old.waiting ≡ [] → self.new.waiting ≡ [] }
+    {
+        let Some(place) = place else {
+            return Left {
+                waker: None,
+                due: Due::Nobody,
+            };
+        };
+        let waker = self.leave(place);
+        let due = self.notify(there);
+        Left { waker, due }
     }
 }
 

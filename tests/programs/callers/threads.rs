@@ -1,6 +1,6 @@
 //! Callers of several threads, of channels and of timers.
 use super::{Line, are, compare};
-use async_utilities::{NoMessage, PoolError, Unsent};
+use async_utilities::{NoMessage, PoolError, TooManyPermits, Unavailable, Unsent};
 use std::alloc::Global;
 use std::sync::Wait;
 use std::test::Fail;
@@ -8,8 +8,9 @@ use std::thread::Threads;
 use std::time::{Clock, Duration};
 use uses::common::executor;
 use uses::{
-    answers_in_order, closes_a_channel, fans_out, gives_up, joins, parks, pools, races, rests,
-    sends_to_a_task, serves, shares, tells, times_out, tries, winds_up,
+    answers_in_order, closes_a_channel, fans_out, gives_up, hears, joins, makes_once, meets, parks,
+    pools, races, rests, sends_to_a_task, serves, shares, takes_permits, takes_turns, tells,
+    times_out, tries, winds_up,
 };
 
 // Twice each number below twenty.
@@ -64,6 +65,18 @@ fn sent<R: Wait + Threads + Clone + Drop + Send + Sync + 'static>(
     ]
 }
 
+fn locked<R: Wait + Threads + Clone + Drop + Send + Sync>(rt: &R, alloc: Global) -> [Line; 5] {
+    let permits = Some(([1, 0, 2, 3], Unavailable::Taken, TooManyPermits));
+    let led = meets(rt, alloc);
+    [
+        ("takes_permits", takes_permits(rt, alloc) == permits),
+        ("takes_turns", takes_turns(rt, alloc) == Some((300, Unavailable::Taken))),
+        ("hears", hears(rt, alloc) == Some([1, 1, 1])),
+        ("meets", led == Some([true, false]) || led == Some([false, true])),
+        ("makes_once", makes_once(rt, alloc) == Some((1, [false, true], 2))),
+    ]
+}
+
 fn lent<R: Wait + Threads + Clock + Clone + Drop + Send + Sync>(
     rt: &R,
     alloc: Global,
@@ -100,6 +113,11 @@ fn channels_carry_what_is_wanted(rt: HostRuntime) -> Result<(), Fail> {
 #[test]
 fn threads_wait_for_what_comes(rt: HostRuntime) -> Result<(), Fail> {
     compare(&waited(&rt, rt.alloc()))
+}
+
+#[test]
+fn tasks_and_threads_await_each_other(rt: HostRuntime) -> Result<(), Fail> {
+    compare(&locked(&rt, rt.alloc()))
 }
 
 #[test]

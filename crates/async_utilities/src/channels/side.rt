@@ -1,11 +1,8 @@
 //! The ends of one side of a channel, and who waits there.
-ghost use Rattle.std.specs.Prelude.{◌≡◌, ◌+◌, ◌-◌, ◌==◌, ◌<◌, ◌++◌, ◌∷◌, [], None, Some, IfErr, IfOk, IsSome, OnErr, OnOk};
-ghost use Rattle.async_utilities.specs.WaitQueue.{IsServed, Stays};
-ghost use Rattle.async_utilities.specs.Channels.{Enters, Leaves};
+ghost use Rattle.std.specs.Prelude.{◌≡◌, ◌+◌, ◌-◌, ◌==◌, [], IfOk, OnErr, OnOk};
+ghost use Rattle.async_utilities.specs.WaitQueue.{Stays};
 
-use crate::due::Due;
 use crate::wait_queue::WaitQueue;
-use async_executor::Wake;
 use std::alloc::{AllocError, Global};
 
 /// How many ends there are, and who waits.
@@ -13,22 +10,6 @@ use std::alloc::{AllocError, Global};
 pub(crate) struct Side<W> {
     pub(crate) ends: usize,
     pub(crate) waiters: WaitQueue<W>,
-}
-
-/// What is left of one that gave its place back: its waker, which is dropped, and whom to wake in its
-/// stead. It cannot be dropped.
-pub(crate) struct Left<W> {
-    pub(crate) waker: Option<W>,
-    pub(crate) due: Due<W>,
-}
-
-impl<W: Wake> Left<W> {
-    /// Drops the waker, and wakes whom it is to.
-    pub(crate) fn end(self) {
-        let Left { waker, due } = self;
-        drop(waker);
-        due.wake();
-    }
 }
 
 impl<W: Drop> Side<W> {
@@ -64,43 +45,5 @@ impl<W: Drop> Side<W> {
     {
         self.ends = self.ends.saturating_sub(1);
         self.ends == 0
-    }
-
-    /// Has one wait with this waker, at its place if it has one, else at a new one. Gives the place, and
-    /// an earlier waker. If there is no memory for a place, the waker comes back.
-    pub(crate) fn wait(&mut self, place: Option<usize>, waker: W) -> Result<(usize, Option<W>), W>
-        ensures ends { self.new.ends ≡ self.old.ends }
-        ensures waits { IfOk result (λ kept. Enters self.old.waiters place waker kept self.new.waiters) }
-        ensures refused { IfErr result (λ back. (place ≡ None) × (back ≡ waker)) }
-        ensures stays { OnErr result (Stays self.old.waiters self.new.waiters) }
-    {
-        let place = match place {
-            Some(place) => place,
-            None => match self.waiters.join() {
-                Ok(place) => place,
-                Err(_) => return Err(waker),
-            },
-        };
-        let unused = self.waiters.wait(place, waker);
-        Ok((place, unused))
-    }
-
-    /// Gives a place back, if there is one. If it was notified of what it did not take, the next one is
-    /// due.
-    pub(crate) fn leave(&mut self, place: Option<usize>, there: usize) -> Left<W>
-        ensures ends { self.new.ends ≡ self.old.ends }
-        ensures leaves { Leaves self.old.waiters place there (result.waker, result.due) self.new.waiters }
-        ensures served { IsServed there self.old.waiters → IsServed there self.new.waiters }
-        ensures nobody { self.old.waiters.waiting ≡ [] → self.new.waiters.waiting ≡ [] }
-    {
-        let Some(place) = place else {
-            return Left {
-                waker: None,
-                due: Due::Nobody,
-            };
-        };
-        let waker = self.waiters.leave(place);
-        let due = self.waiters.notify(there);
-        Left { waker, due }
     }
 }

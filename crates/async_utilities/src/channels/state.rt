@@ -7,8 +7,8 @@ ghost use Rattle.std.specs.VecDeque.{deque_capacity};
 ghost use Rattle.async_utilities.specs.Channels.{AreGone};
 ghost use Rattle.async_utilities.specs.WaitQueue.{IsServed};
 
-use crate::channels::side::{Left, Side};
-use crate::due::{AllDue, Due};
+use crate::channels::side::Side;
+use crate::due::{AllDue, Due, Left};
 use crate::wait_queue::WaitQueue;
 use async_executor::Wake;
 use std::alloc::{AllocError, Global};
@@ -129,7 +129,7 @@ impl<T: Drop, S: Drop, V: Drop> State<T, S, V> {
         if self.is_closed || self.messages.len() < self.capacity {
             return Err(waker);
         }
-        self.senders.wait(place, waker)
+        self.senders.waiters.enter(place, waker)
     }
 
     /// Has a receiver wait for a message. If there is one, or the channel is closed, or there is no
@@ -144,7 +144,7 @@ impl<T: Drop, S: Drop, V: Drop> State<T, S, V> {
         if self.is_closed || !self.messages.is_empty() {
             return Err(waker);
         }
-        self.receivers.wait(place, waker)
+        self.receivers.waiters.enter(place, waker)
     }
 
     /// Has a sender wait no longer. If it was told of room that it did not use, the next one is.
@@ -152,7 +152,7 @@ impl<T: Drop, S: Drop, V: Drop> State<T, S, V> {
         ensures { LeavesSenders self.old place result self.new }
     {
         let room = self.capacity - self.messages.len();
-        self.senders.leave(place, room)
+        self.senders.waiters.pass(place, room)
     }
 
     /// Has a receiver wait no longer. If it was told of a message that it did not take, the next one is.
@@ -160,7 +160,7 @@ impl<T: Drop, S: Drop, V: Drop> State<T, S, V> {
         ensures { LeavesReceivers self.old place result self.new }
     {
         let there = self.messages.len();
-        self.receivers.leave(place, there)
+        self.receivers.waiters.pass(place, there)
     }
 
     /// Closes the channel, and gives all who wait. What is inside stays. Nothing changes if it was

@@ -1,0 +1,96 @@
+//! What a barrier has under its lock: how many have come in the round under way, and who waits.
+ghost use Rattle.std.specs.Prelude.{◌≡◌, ◌==◌, ◌<◌, ◌+◌, ◌-◌, [], IfErr, OnErr, OnOk, false, not, true, if◌then◌else◌};
+
+use crate::wait_queue::rounds::{Parted, Rounds};
+use std::alloc::Global;
+
+/// Where one waits at a barrier, and in which round it came.
+#[derive(Clone, Copy)]
+pub(crate) struct Arrival {
+    pub(crate) place: usize,
+    pub(crate) round: u64,
+}
+
+/// Who waits, how many have come, and how many each round has.
+#[derive(Drop)]
+pub(crate) struct State<W> {
+    pub(crate) size: usize,
+    pub(crate) come: usize,
+    pub(crate) waiters: Rounds<W>,
+    ghost open: { come < size },
+}
+
+impl<W: Drop> State<W> {
+    /// Nobody has come.
+    pub(crate) fn new(alloc: Global, size: usize) -> State<W>
+        requires { 0 < size }
+        ensures size { result.size ≡ size }
+        ensures nobody { result.come ≡ 0 }
+    {
+        State {
+            size,
+            come: 0,
+            waiters: Rounds::new(alloc),
+        }
+    }
+
+    /// Ends the round, if one more is its last, and says whether it was.
+    pub(crate) fn complete(&mut self) -> bool
+        ensures last { result ≡ (self.old.come + 1 == self.old.size) }
+        ensures come { self.new.come ≡ (if result then 0 else self.old.come) }
+        ensures size { self.new.size ≡ self.old.size }
+        ensures waiters { self.new.waiters.waiters ≡ self.old.waiters.waiters }
+        ensures under_way { result ≡ false → self.new.waiters.round ≡ self.old.waiters.round }
+    {
+        if self.size - self.come > 1 {
+            return false;
+        }
+        self.come = 0;
+        self.waiters.begin();
+        true
+    }
+
+    /// One comes, which is not the last of its round, and waits with this waker. If it is the last, or
+    /// there is no memory for its place, the waker comes back, and is to be woken.
+    pub(crate) fn arrive(&mut self, waker: W) -> Result<Arrival, W>
+        ensures come { OnOk result (self.new.come ≡ self.old.come + 1) }
+        ensures size { self.new.size ≡ self.old.size }
+        ensures round { self.new.waiters.round ≡ self.old.waiters.round }
+    {
+        if self.size - self.come <= 1 {
+            return Err(waker);
+        }
+        let place = self.waiters.enter(waker)?;
+        self.come += 1;
+        let round = self.waiters.round;
+        Ok(Arrival { place, round })
+    }
+
+    /// Has one that came wait with this waker, if its round is under way. Gives what is not kept.
+    pub(crate) fn wait(&mut self, place: usize, waker: W) -> Option<W>
+        ensures come { self.new.come ≡ self.old.come }
+        ensures size { self.new.size ≡ self.old.size }
+    {
+        self.waiters.wait(place, waker)
+    }
+
+    /// Whether the round in which one came is over.
+    pub(crate) fn is_over(&self, arrival: Arrival) -> bool
+        ensures { result ≡ not (self.now.waiters.round == arrival.round) }
+    {
+        self.waiters.round != arrival.round
+    }
+
+    /// Gives a place back, with its waker. If its round is under way, one fewer has come.
+    pub(crate) fn leave(&mut self, arrival: Arrival) -> Option<W>
+        ensures come { self.new.come ≡ (if self.old.waiters.round == arrival.round then self.old.come - 1 else self.old.come) }
+        ensures size { self.new.size ≡ self.old.size }
+        ensures round { self.new.waiters.round ≡ self.old.waiters.round }
+    {
+        if !self.is_over(arrival) {
+            self.come = self.come.saturating_sub(1);
+        }
+        let Parted { waker, was_told: _ } = self.waiters.leave(arrival.place);
+        waker
+    }
+}

@@ -1,0 +1,208 @@
+//! An event that comes again and again, and that any number of tasks listen for.
+ghost use Rattle.std.specs.Prelude.{◌≡◌, ◌≤◌, IfOk, IsSome};
+ghost use Rattle.std.specs.Arc.{arc_value};
+
+pub(crate) mod state;
+
+use crate::locks::event::state::State;
+use crate::wait_queue::rounds::Told;
+use async_executor::{Future, OutOfMemory, Poll, Wake};
+use std::alloc::Global;
+use std::sync::{Arc, Mutex, MutexGuard, Wait};
+
+/// An event. Who listens for it is told by a `notify` that comes later, also if it was not polled yet:
+/// so one listens first, looks then whether there is something to wait for, and awaits the listener.
+/// W is the waker that listeners are polled with, and R the right to wait for the lock.
+///
+/// Example: `uses::hears`.
+///
+/// ```text
+/// let event: Event<ThreadWaker, R> = Event::new(rt.clone().ok()?, alloc).ok()?;
+/// ```
+#[derive(Drop)]
+pub struct Event<W: Wake, R: Wait + Drop> {
+    shared: Arc<Shared<W, R>>,
+}
+
+#[derive(Drop)]
+pub(crate) struct Shared<W: Wake, R: Wait + Drop> {
+    state: Mutex<State<W>>,
+    rt: R,
+}
+
+impl<W: Wake, R: Wait + Drop> Shared<W, R> {
+    fn state(&self) -> MutexGuard<'_, State<W>> {
+        self.state.lock(&self.rt)
+    }
+
+    // Tells so many of those who listen now, the first one first, each without the lock. Says how many.
+    fn tell(&self, count: usize, counts_told: bool) -> usize
+        ensures { result ≤ count }
+    {
+        let most = self.state().begin(count, counts_told);
+        for told in 0..most {
+            let next = self.state().listeners.tell();
+            match next {
+                Told::One(due) => due.wake(),
+                Told::Nobody => return told,
+            }
+        }
+        most
+    }
+}
+
+impl<W: Wake, R: Wait + Drop> Event<W, R> {
+    /// An event for which nobody listens.
+    ///
+    /// # Errors
+    ///
+    /// `OutOfMemory` if memory for it is refused.
+    ///
+    /// Example: `uses::hears`.
+    ///
+    /// ```text
+    /// let event: Event<ThreadWaker, R> = Event::new(rt.clone().ok()?, alloc).ok()?;
+    /// ```
+    pub fn new(rt: R, alloc: Global) -> Result<Event<W, R>, OutOfMemory> {
+        let state = Mutex::new(State::new(alloc));
+        match Arc::new(alloc, Shared { state, rt }) {
+            Ok(shared) => Ok(Event { shared }),
+            Err(_) => Err(OutOfMemory),
+        }
+    }
+
+    /// The same event, for another holder.
+    ///
+    /// # Errors
+    ///
+    /// `OutOfMemory` if another holder cannot be counted.
+    ///
+    /// Example: `uses::hears`.
+    ///
+    /// ```text
+    /// let other = event.copy().ok()?;
+    /// ```
+    pub fn copy(&self) -> Result<Event<W, R>, OutOfMemory>
+        ensures same { IfOk result (λ copy. arc_value copy.shared ≡ arc_value self.now.shared) }
+    {
+        let shared = Arc::try_clone(&self.shared)?;
+        Ok(Event { shared })
+    }
+
+    /// Listens from now on: behind those who listen already. Its place is reserved here, so its polls
+    /// take no memory beside the copy of the waker.
+    ///
+    /// # Errors
+    ///
+    /// `OutOfMemory` if memory for the place is refused.
+    ///
+    /// Example: `uses::hears`.
+    ///
+    /// ```text
+    /// let third = event.listen().ok()?;
+    /// ```
+    pub fn listen(&self) -> Result<EventListener<W, R>, OutOfMemory>
+        ensures same { IfOk result (λ listener. arc_value listener.shared ≡ arc_value self.now.shared) }
+        ensures listens { IfOk result (λ listener. IsSome listener.place) }
+    {
+        let shared = Arc::try_clone(&self.shared)?;
+        let place = shared.state().listen()?;
+        Ok(EventListener {
+            shared,
+            place: Some(place),
+        })
+    }
+
+    /// Tells those who listen, the first one first, until so many are told. Those who were told before
+    /// and did not come count too, so a second call does not tell further ones before the first came.
+    /// Gives how many it told. No lock is held while one is woken.
+    ///
+    /// Example: `uses::hears`.
+    ///
+    /// ```text
+    /// let one = other.notify(1);
+    /// ```
+    pub fn notify(&self, count: usize) -> usize
+        ensures { result ≤ count }
+    {
+        self.shared.tell(count, true)
+    }
+
+    /// Tells so many more of those who listen, whoever was told before. Gives how many it told.
+    ///
+    /// Example: `uses::hears`.
+    ///
+    /// ```text
+    /// let more = other.notify_additional(1);
+    /// ```
+    pub fn notify_additional(&self, count: usize) -> usize
+        ensures { result ≤ count }
+    {
+        self.shared.tell(count, false)
+    }
+
+    /// Tells all who listen now. Gives how many it told.
+    ///
+    /// Example: `uses::hears`.
+    ///
+    /// ```text
+    /// let all = other.notify_all();
+    /// ```
+    pub fn notify_all(&self) -> usize {
+        self.shared.tell(usize::MAX, false)
+    }
+}
+
+/// Ready once it was told, and from then on. While it is not, a copy of the waker of its last poll is
+/// kept, and is woken as it is told. If the copy is refused, the waker itself is woken, and nothing more
+/// is kept. If it was told and is dropped before a poll answered so, the next one is told.
+///
+/// Example: `uses::hears`.
+///
+/// ```text
+/// block_on(rt, alloc, first).ok()?;
+/// ```
+pub struct EventListener<W: Wake, R: Wait + Drop> {
+    shared: Arc<Shared<W, R>>,
+    // None once it heard.
+    place: Option<usize>,
+}
+
+impl<W: Wake, R: Wait + Drop> Future<W> for EventListener<W, R> {
+    type Output = ();
+
+    fn poll(&mut self, w: &W) -> Poll<()> {
+        let Some(place) = self.place else {
+            return Poll::Ready(());
+        };
+        if self.shared.state().hear(place) {
+            self.place = None;
+            return Poll::Ready(());
+        }
+        let Ok(waker) = w.copy() else {
+            w.wake();
+            return Poll::Pending;
+        };
+        let mut state = self.shared.state();
+        if state.hear(place) {
+            drop(state);
+            drop(waker);
+            self.place = None;
+            return Poll::Ready(());
+        }
+        let unused = state.listeners.wait(place, waker);
+        drop(state);
+        drop(unused);
+        Poll::Pending
+    }
+}
+
+impl<W: Wake, R: Wait + Drop> Drop for EventListener<W, R> {
+    fn drop(self) {
+        let EventListener { shared, place } = self;
+        if let Some(place) = place {
+            let left = shared.state().leave(place);
+            left.end();
+        }
+    }
+}

@@ -1,0 +1,345 @@
+//! A semaphore: permits that are taken, waited for in order, and given back.
+ghost use Rattle.std.specs.Prelude.{◌≡◌, ◌≤◌, ◌+◌, None, Some, IfOk, IfSome, IsSome};
+ghost use Rattle.std.specs.Arc.{arc_value};
+
+pub(crate) mod given;
+pub(crate) mod state;
+pub(crate) mod wish;
+
+use crate::locks::Unavailable;
+use crate::locks::semaphore::given::{Given, Gone};
+use crate::locks::semaphore::state::State;
+use crate::wait_queue::keep;
+use async_executor::{Future, OutOfMemory, Poll, Wake};
+use std::alloc::Global;
+use std::sync::{Arc, Mutex, MutexGuard, Wait};
+
+/// Permits, of which each holder has one or more. Who waits for permits gets them in the order in which
+/// it began to wait, however many it waits for: nobody who comes later takes them before. W is the waker
+/// that waits, and R the right to wait for the lock.
+///
+/// Example: `uses::takes_permits`.
+///
+/// ```text
+/// let semaphore: Semaphore<ThreadWaker, R> =
+///     Semaphore::new(rt.clone().ok()?, alloc, 2).ok()?;
+/// ```
+#[derive(Drop)]
+pub struct Semaphore<W: Wake, R: Wait + Drop> {
+    shared: Arc<Shared<W, R>>,
+}
+
+#[derive(Drop)]
+pub(crate) struct Shared<W: Wake, R: Wait + Drop> {
+    state: Mutex<State<W>>,
+    rt: R,
+}
+
+/// More permits than a `usize` counts would be there in all.
+///
+/// Example: `uses::takes_permits`.
+///
+/// ```text
+/// let too_many = semaphore.add_permits(usize::MAX).err()?;
+/// ```
+#[derive(Debug, Clone, Copy, PartialEq, Eq)]
+pub struct TooManyPermits;
+
+impl<W: Wake, R: Wait + Drop> Shared<W, R> {
+    fn state(&self) -> MutexGuard<'_, State<W>> {
+        self.state.lock(&self.rt)
+    }
+
+    // Gives so many permits, those who wait first, each without the lock.
+    fn give(&self, permits: usize) {
+        if permits > 0 {
+            let given = self.state().give(permits);
+            self.end(given);
+        }
+    }
+
+    // Wakes who is due, and gives what is left to those behind it.
+    fn end(&self, given: Given<W>) {
+        let Given { due, mut left } = given;
+        due.wake();
+        while left > 0 {
+            let Given { due, left: rest } = self.state().give(left);
+            left = rest;
+            due.wake();
+        }
+    }
+
+    // Takes so many permits, or has one wait for them at this place. Says whether it took them.
+    fn poll(&self, w: &W, place: &mut Option<usize>, permits: usize) -> bool {
+        if self.state().take(*place, permits) {
+            *place = None;
+            return true;
+        }
+        let Ok(waker) = w.copy() else {
+            w.wake();
+            return false;
+        };
+        let mut state = self.state();
+        if state.take(*place, permits) {
+            drop(state);
+            drop(waker);
+            *place = None;
+            return true;
+        }
+        let kept = state.wait(*place, permits, waker);
+        drop(state);
+        keep(place, kept);
+        false
+    }
+
+    // Has one wait no longer, and gives back what it was given.
+    fn leave(&self, place: Option<usize>, permits: usize) {
+        if place.is_some() {
+            let Gone { waker, given } = self.state().leave(place, permits);
+            drop(waker);
+            self.end(given);
+        }
+    }
+}
+
+impl<W: Wake, R: Wait + Drop> Semaphore<W, R> {
+    /// A semaphore with so many permits.
+    ///
+    /// # Errors
+    ///
+    /// `OutOfMemory` if memory for it is refused.
+    ///
+    /// Example: `uses::takes_permits`.
+    ///
+    /// ```text
+    /// let semaphore: Semaphore<ThreadWaker, R> =
+    ///     Semaphore::new(rt.clone().ok()?, alloc, 2).ok()?;
+    /// ```
+    pub fn new(rt: R, alloc: Global, permits: usize) -> Result<Semaphore<W, R>, OutOfMemory> {
+        let state = Mutex::new(State::new(alloc, permits));
+        match Arc::new(alloc, Shared { state, rt }) {
+            Ok(shared) => Ok(Semaphore { shared }),
+            Err(_) => Err(OutOfMemory),
+        }
+    }
+
+    /// The same semaphore, for another holder.
+    ///
+    /// # Errors
+    ///
+    /// `OutOfMemory` if another holder cannot be counted.
+    ///
+    /// Example: `uses::takes_permits`.
+    ///
+    /// ```text
+    /// let other = semaphore.copy().ok()?;
+    /// ```
+    pub fn copy(&self) -> Result<Semaphore<W, R>, OutOfMemory>
+        ensures same { IfOk result (λ copy. arc_value copy.shared ≡ arc_value self.now.shared) }
+    {
+        let shared = Arc::try_clone(&self.shared)?;
+        Ok(Semaphore { shared })
+    }
+
+    /// How many permits nobody has.
+    ///
+    /// Example: `uses::takes_permits`.
+    ///
+    /// ```text
+    /// let first = semaphore.permits();
+    /// ```
+    pub fn permits(&self) -> usize {
+        self.shared.state().permits
+    }
+
+    /// Takes a permit, if there is one and nobody waits for it.
+    ///
+    /// # Errors
+    ///
+    /// `Unavailable::Taken` if there is none, or somebody waits; `Unavailable::OutOfMemory` if another
+    /// holder cannot be counted. Nothing is taken then.
+    ///
+    /// Example: `uses::takes_permits`.
+    ///
+    /// ```text
+    /// let permit = semaphore.try_acquire().ok()?;
+    /// ```
+    pub fn try_acquire(&self) -> Result<SemaphoreGuard<W, R>, Unavailable>
+        ensures same { IfOk result (λ guard. arc_value guard.shared ≡ arc_value self.now.shared) }
+        ensures one { IfOk result (λ guard. guard.permits ≡ 1) }
+    {
+        self.try_acquire_many(1)
+    }
+
+    /// Takes so many permits at once, if they are there and nobody waits. None at all are always there.
+    ///
+    /// # Errors
+    ///
+    /// As `try_acquire`.
+    ///
+    /// Example: `uses::takes_permits`.
+    ///
+    /// ```text
+    /// let unavailable = semaphore.try_acquire_many(2).err()?;
+    /// ```
+    pub fn try_acquire_many(&self, permits: usize) -> Result<SemaphoreGuard<W, R>, Unavailable>
+        ensures same { IfOk result (λ guard. arc_value guard.shared ≡ arc_value self.now.shared) }
+        ensures many { IfOk result (λ guard. guard.permits ≡ permits) }
+    {
+        let Ok(shared) = Arc::try_clone(&self.shared) else {
+            return Err(Unavailable::OutOfMemory);
+        };
+        if !shared.state().take(None, permits) {
+            return Err(Unavailable::Taken);
+        }
+        Ok(SemaphoreGuard { shared, permits })
+    }
+
+    /// A future of a permit.
+    ///
+    /// # Errors
+    ///
+    /// `OutOfMemory` if another holder cannot be counted.
+    ///
+    /// Example: `uses::takes_permits`.
+    ///
+    /// ```text
+    /// let one = block_on(rt, alloc, semaphore.acquire().ok()?).ok()?;
+    /// ```
+    pub fn acquire(&self) -> Result<Acquire<W, R>, OutOfMemory>
+        ensures same { IfOk result (λ acquire. IfSome acquire.shared (λ shared. arc_value shared ≡ arc_value self.now.shared)) }
+        ensures begun { IfOk result (λ acquire. IsSome acquire.shared) }
+        ensures one { IfOk result (λ acquire. acquire.permits ≡ 1) }
+    {
+        self.acquire_many(1)
+    }
+
+    /// A future of so many permits at once. One that wants more than there are in all waits until so many
+    /// are added, and those behind it wait with it. One that wants none never waits.
+    ///
+    /// # Errors
+    ///
+    /// As `acquire`.
+    ///
+    /// Example: `uses::takes_permits`.
+    ///
+    /// ```text
+    /// let both = block_on(rt, alloc, semaphore.acquire_many(2).ok()?).ok()?;
+    /// ```
+    pub fn acquire_many(&self, permits: usize) -> Result<Acquire<W, R>, OutOfMemory>
+        ensures same { IfOk result (λ acquire. IfSome acquire.shared (λ shared. arc_value shared ≡ arc_value self.now.shared)) }
+        ensures begun { IfOk result (λ acquire. IsSome acquire.shared) }
+        ensures many { IfOk result (λ acquire. acquire.permits ≡ permits) }
+    {
+        let shared = Arc::try_clone(&self.shared)?;
+        Ok(Acquire {
+            shared: Some(shared),
+            permits,
+            place: None,
+        })
+    }
+
+    /// Adds so many permits, which those who wait get first, in order.
+    ///
+    /// # Errors
+    ///
+    /// `TooManyPermits` if there would be more in all than a `usize` counts. Nothing is added then.
+    ///
+    /// Example: `uses::takes_permits`.
+    ///
+    /// ```text
+    /// other.add_permits(1).ok()?;
+    /// ```
+    pub fn add_permits(&self, permits: usize) -> Result<(), TooManyPermits> {
+        if !self.shared.state().count(permits) {
+            return Err(TooManyPermits);
+        }
+        self.shared.give(permits);
+        Ok(())
+    }
+}
+
+/// Permits of a semaphore, which are given back by its drop. Those who wait get them first, in order.
+///
+/// Example: `uses::takes_permits`.
+///
+/// ```text
+/// let permit = semaphore.try_acquire().ok()?;
+/// drop(permit);
+/// ```
+pub struct SemaphoreGuard<W: Wake, R: Wait + Drop> {
+    shared: Arc<Shared<W, R>>,
+    permits: usize,
+}
+
+impl<W: Wake, R: Wait + Drop> SemaphoreGuard<W, R> {
+    /// How many permits it has.
+    ///
+    /// Example: `uses::takes_permits`.
+    ///
+    /// ```text
+    /// let count = both.permits();
+    /// ```
+    pub fn permits(&self) -> usize
+        ensures { result ≡ self.now.permits }
+    {
+        self.permits
+    }
+}
+
+impl<W: Wake, R: Wait + Drop> Drop for SemaphoreGuard<W, R> {
+    fn drop(self) {
+        let SemaphoreGuard { shared, permits } = self;
+        shared.give(permits);
+    }
+}
+
+/// A future of permits. While it is pending, a copy of the waker of its last poll is kept, and is woken
+/// once it has its permits. If the copy or a place among those who wait is refused, the waker itself is
+/// woken, and nothing more is kept. Its drop takes none, and gives back what it was given. Once it gave
+/// its permits it is pending, and wakes nobody.
+///
+/// Example: `uses::takes_permits`.
+///
+/// ```text
+/// let one = block_on(rt, alloc, semaphore.acquire().ok()?).ok()?;
+/// ```
+pub struct Acquire<W: Wake, R: Wait + Drop> {
+    // Moves into the permits.
+    shared: Option<Arc<Shared<W, R>>>,
+    permits: usize,
+    place: Option<usize>,
+}
+
+impl<W: Wake, R: Wait + Drop> Future<W> for Acquire<W, R> {
+    type Output = SemaphoreGuard<W, R>;
+
+    fn poll(&mut self, w: &W) -> Poll<SemaphoreGuard<W, R>> {
+        let Some(shared) = &self.shared else {
+            return Poll::Pending;
+        };
+        if !shared.poll(w, &mut self.place, self.permits) {
+            return Poll::Pending;
+        }
+        match self.shared.take() {
+            Some(shared) => Poll::Ready(SemaphoreGuard {
+                shared,
+                permits: self.permits,
+            }),
+            None => Poll::Pending,
+        }
+    }
+}
+
+impl<W: Wake, R: Wait + Drop> Drop for Acquire<W, R> {
+    fn drop(self) {
+        let Acquire {
+            shared,
+            permits,
+            place,
+        } = self;
+        if let Some(shared) = shared {
+            shared.leave(place, permits);
+        }
+    }
+}
