@@ -15,6 +15,7 @@ pub mod joining;
 pub mod noop;
 pub mod pooling;
 pub mod signals;
+pub mod spawning;
 pub mod timers;
 pub mod unblocking;
 pub(crate) mod wait_queue;
@@ -29,6 +30,7 @@ pub use joining::{AnyOf, First, JoinAll};
 pub use noop::NoopWaker;
 pub use pooling::{Pool, PoolError};
 pub use signals::{Signal, Waiting};
+pub use spawning::{JobLimits, JobPool, MakeTask, Server, Spawner};
 pub use timers::{
     After, Driver, Firing, Interval, Next, Reading, TimedOut, Timeout, Timer, TimerError,
     TimerFailed,

@@ -8,7 +8,7 @@ use std::thread::Threads;
 use std::time::{Clock, Duration};
 use uses::common::executor;
 use uses::{
-    answers_in_order, closes_a_channel, fans_out, gives_up, joins, parks, pools, races, rests,
+    answers_in_order, closes_a_channel, fans_out, gives_up, joins, parks, pools, races, requests_tasks, rests,
     sends_to_a_task, serves, shares, tells, times_out, tries, winds_up,
 };
 
@@ -48,11 +48,12 @@ fn pooled<R: Wait + Threads + Clone + Drop + Send + Sync + 'static>(
 fn sent<R: Wait + Threads + Clone + Drop + Send + Sync + 'static>(
     rt: &R,
     alloc: Global,
-) -> [Line; 6] {
+) -> [Line; 7] {
     let tried = Some((Unsent::Full(2), 1, NoMessage::Empty));
     let closed = Some(([1, usize::MAX, 1, 1], [false, false, true], Ok(1)));
     [
         ("fans_out", fans_out(rt, alloc) == Some(15)),
+        ("requests_tasks", requests_tasks(rt, alloc) == Some(15)),
         ("sends_to_a_task", sends_to_a_task(rt, alloc) == Some(190)),
         (
             "answers_in_order",

@@ -1,0 +1,410 @@
+//! Tasks that want tasks: a pool that makes a task of each job, and a spawner that goes into these tasks.
+//!
+//! A job is a plain value, so neither the type of a task nor that of a spawner contains itself. So many
+//! servers are tasks of a `Pool`: each takes a job, makes the task of it, polls that until it is ready, and
+//! takes the next. All is done once nobody who may hand in a job is left: the owner counts as one until it
+//! joins, and so does each job until its task is ready. The last one closes the channel of the jobs, and
+//! each server ends.
+ghost use Rattle.std.specs.Prelude.{◌≡◌, ◌↔◌, ◌×◌, ◌<◌, None, Some, IfErr, IfSome, IsSome, IsTrue};
+ghost use Rattle.executor_core.specs.declared.task.future.Poll.TheVariants.{Ready as gave};
+ghost use Rattle.async_utilities.specs.Polls.{IfReady};
+ghost use Rattle.async_utilities.specs.Unsent.{unsent};
+ghost use Rattle.async_utilities.specs.declared.spawning.Begun.TheVariants as Begun;
+
+use crate::blocking::ThreadWaker;
+use crate::channels::{Receiver, Sender, Unsent, bounded, unbounded};
+use crate::noop::NoopWaker;
+use crate::pooling::{Pool, PoolError};
+use async_executor::{Future, OutOfMemory, Poll, SpawnError, Task, TaskWaker, Wake};
+use std::alloc::{AllocError, Global};
+use std::sync::atomic::{AtomicUsize, Ordering};
+use std::sync::{Arc, Wait};
+use std::thread::Threads;
+
+// A poll of a server ends so many tasks at most: then it lets others of its thread go on.
+const TURN: usize = 16;
+
+// The waker of all tasks of a pool.
+type PoolWaker<R> = TaskWaker<ThreadWaker, R>;
+
+/// Makes the task of a job. It stands in the place of a closure, of which no field can say that it may be
+/// called.
+///
+/// Example: `uses::fans_out`, of a `Tree`.
+///
+/// ```text
+/// fn make(&self, depth: u32, spawner: &Spawner<u32, R>) -> Result<Branch<R>, u32> {
+/// ```
+pub trait MakeTask<J: Drop, R: Wait + Clone + Drop>: Drop {
+    /// The task. What it gives is dropped.
+    type Task: Future<TaskWaker<ThreadWaker, R>>;
+
+    /// Makes it. A job of which there is no memory for a task comes back, and is handed in again later.
+    ///
+    /// Example: `uses::fans_out`.
+    ///
+    /// ```text
+    /// fn make(&self, depth: u32, spawner: &Spawner<u32, R>) -> Result<Branch<R>, u32> {
+    /// ```
+    fn make(&self, job: J, spawner: &Spawner<J, R>) -> Result<Self::Task, J>
+        ensures back { IfErr result (λ failed. failed ≡ job) };
+}
+
+// What a pool, its servers and all spawners share: where jobs are handed in, and how many may still hand
+// one in.
+#[derive(Drop)]
+struct Desk<J: Drop, R: Wait + Clone + Drop> {
+    jobs: Sender<J, NoopWaker, PoolWaker<R>, R>,
+    open: AtomicUsize,
+}
+
+impl<J: Drop, R: Wait + Clone + Drop> Desk<J, R> {
+    // One of those who may hand in a job is done. The last one closes the channel.
+    fn end_one(&self) {
+        if self.open.fetch_sub(1, Ordering::SeqCst) == 1 {
+            self.jobs.channel().close();
+        }
+    }
+}
+
+/// Hands in jobs to a `JobPool`. A task may have a copy, and so may a thread.
+///
+/// Example: `uses::fans_out`.
+///
+/// ```text
+/// let _ = self.spawner.spawn(below);
+/// ```
+#[derive(Drop)]
+pub struct Spawner<J: Drop, R: Wait + Clone + Drop> {
+    desk: Arc<Desk<J, R>>,
+}
+
+impl<J: Drop, R: Wait + Clone + Drop> Spawner<J, R> {
+    /// The same spawner, for another holder. It takes no memory.
+    ///
+    /// # Errors
+    ///
+    /// `OutOfMemory` if another holder cannot be counted.
+    ///
+    /// Example: `uses::fans_out`.
+    ///
+    /// ```text
+    /// match spawner.copy() {
+    /// ```
+    pub fn copy(&self) -> Result<Spawner<J, R>, OutOfMemory> {
+        let desk = Arc::try_clone(&self.desk)?;
+        Ok(Spawner { desk })
+    }
+
+    /// Hands in a job, behind those that were handed in before. A task is made of it once fewer tasks run
+    /// than the pool allows.
+    ///
+    /// # Errors
+    ///
+    /// `Unsent` with the job: `Full` if there is no room, `Refused` if memory is refused, and `Closed` if
+    /// the pool is gone, or all its jobs were done after it was told to join.
+    ///
+    /// Example: `uses::fans_out`.
+    ///
+    /// ```text
+    /// let _ = self.spawner.spawn(below);
+    /// ```
+    pub fn spawn(&self, job: J) -> Result<(), Unsent<J>>
+        ensures back { IfErr result (λ failed. unsent failed ≡ job) }
+    {
+        let desk = &*self.desk;
+        desk.open.fetch_add(1, Ordering::SeqCst);
+        let sent = desk.jobs.try_send(job);
+        if sent.is_err() {
+            desk.end_one();
+        }
+        sent
+    }
+}
+
+/// A task of a pool, which makes a task of each job that it takes, and polls that until it is ready, one
+/// after another. It gives how many it did, once all jobs of the pool are done.
+///
+/// Example: `uses::fans_out`, which names its pool.
+///
+/// ```text
+/// let jobs = JobPool::new(rt.clone().ok()?, alloc, limits, Tree).ok()?;
+/// ```
+#[derive(Drop)]
+pub struct Server<J, M, R>
+where
+    J: Drop,
+    M: MakeTask<J, R>,
+    R: Wait + Clone + Drop,
+{
+    jobs: Receiver<J, NoopWaker, PoolWaker<R>, R>,
+    spawner: Spawner<J, R>,
+    maker: Arc<M>,
+    unmade: Option<J>,
+    task: Option<M::Task>,
+    done: u64,
+}
+
+// What a server that had no task has then.
+#[derive(Clone, Copy)]
+enum Begun {
+    Task,
+    Nothing,
+    Over,
+}
+
+impl<J, M, R> Server<J, M, R>
+where
+    J: Drop,
+    M: MakeTask<J, R>,
+    R: Wait + Clone + Drop,
+{
+    // Takes the next job, unless one is left of which no task was made.
+    fn take_job(&mut self, w: &PoolWaker<R>) -> Poll<Option<J>>
+        ensures left { IfSome self.old.unmade (λ job. result ≡ gave (Some job)) }
+        ensures taken { self.new.unmade ≡ None }
+        ensures task { self.new.task ≡ self.old.task }
+    {
+        match self.unmade.take() {
+            Some(job) => Poll::Ready(Some(job)),
+            None => self.jobs.poll_receive(w),
+        }
+    }
+
+    // Makes a task of the next job. If it is refused one, it keeps the job, and asks for another poll.
+    fn begin(&mut self, w: &PoolWaker<R>) -> Begun
+        requires { self.old.task ≡ None }
+        ensures task { result ≡ Begun.Task ↔ IsSome self.new.task }
+        ensures job { IfSome self.old.unmade (λ job. self.new.task ≡ None → self.new.unmade ≡ Some job) }
+        ensures over { result ≡ Begun.Over → self.new.unmade ≡ None }
+    {
+        let job = match self.take_job(w) {
+            Poll::Ready(Some(job)) => job,
+            Poll::Ready(None) => return Begun::Over,
+            Poll::Pending => return Begun::Nothing,
+        };
+        match self.maker.make(job, &self.spawner) {
+            Ok(task) => {
+                self.task = Some(task);
+                Begun::Task
+            }
+            Err(job) => {
+                self.unmade = Some(job);
+                w.wake();
+                Begun::Nothing
+            }
+        }
+    }
+
+    // Polls the task that is under way, and says whether it ended.
+    fn poll_task(&mut self, w: &PoolWaker<R>) -> bool
+        ensures ended { IsTrue result → self.new.task ≡ None }
+        ensures job { self.new.unmade ≡ self.old.unmade }
+    {
+        let Some(task) = &mut self.task else {
+            return false;
+        };
+        let Poll::Ready(_) = task.poll(w) else {
+            return false;
+        };
+        self.task = None;
+        self.done = self.done.saturating_add(1);
+        self.spawner.desk.end_one();
+        true
+    }
+}
+
+impl<J, M, R> Future<TaskWaker<ThreadWaker, R>> for Server<J, M, R>
+where
+    J: Drop,
+    M: MakeTask<J, R>,
+    R: Wait + Clone + Drop,
+{
+    type Output = u64;
+
+    fn poll(&mut self, w: &TaskWaker<ThreadWaker, R>) -> Poll<u64>
+        ensures { IfReady result (λ _. (self.new.task ≡ None) × (self.new.unmade ≡ None)) }
+    {
+        for _ in 0..TURN {
+            if self.task.is_none() {
+                match self.begin(w) {
+                    Begun::Task => {}
+                    Begun::Nothing => return Poll::Pending,
+                    Begun::Over => return Poll::Ready(self.done),
+                }
+            }
+            if !self.poll_task(w) {
+                return Poll::Pending;
+            }
+        }
+        w.wake();
+        Poll::Pending
+    }
+}
+
+// What a pool shares with its servers.
+fn shared<D: Drop, M: Drop>(
+    alloc: Global,
+    desk: D,
+    maker: M,
+) -> Result<(Arc<D>, Arc<M>), AllocError> {
+    let Ok(desk) = Arc::new(alloc, desk) else {
+        return Err(AllocError);
+    };
+    match Arc::new(alloc, maker) {
+        Ok(maker) => Ok((desk, maker)),
+        Err(_) => Err(AllocError),
+    }
+}
+
+/// How much a `JobPool` has.
+///
+/// Example: `uses::fans_out`.
+///
+/// ```text
+/// let limits = JobLimits {
+///     threads: 2,
+///     tasks: 4,
+/// ```
+#[derive(Debug, Clone, Copy, PartialEq, Eq)]
+pub struct JobLimits {
+    /// How many threads run its tasks.
+    pub threads: usize,
+    /// How many tasks run at once: the other jobs wait, in order.
+    pub tasks: usize,
+    /// For how many jobs that wait there is room. `None` is as many as there is memory for.
+    pub room: Option<usize>,
+}
+
+/// Threads that run a task for each job, of which a `MakeTask` makes it. Its tasks may hand in more jobs,
+/// by a `Spawner`. Its drop stops the threads, and drops the tasks and the jobs that are left.
+///
+/// Example: `uses::fans_out`.
+///
+/// ```text
+/// let jobs = JobPool::new(rt.clone().ok()?, alloc, limits, Tree).ok()?;
+/// jobs.spawner().spawn(3).ok()?;
+/// Some(jobs.join())
+/// ```
+#[derive(Drop)]
+pub struct JobPool<J, M, R>
+where
+    J: Send + Drop + 'static,
+    M: MakeTask<J, R> + Send + Sync + 'static,
+    M::Task: Send,
+    R: Wait + Threads + Clone + Drop + Send + Sync + 'static,
+{
+    pool: Pool<Server<J, M, R>, R>,
+    servers: Vec<Task<Server<J, M, R>, ThreadWaker, R>>,
+    spawner: Spawner<J, R>,
+    waker: ThreadWaker,
+}
+
+impl<J, M, R> JobPool<J, M, R>
+where
+    J: Send + Drop + 'static,
+    M: MakeTask<J, R> + Send + Sync + 'static,
+    M::Task: Send,
+    R: Wait + Threads + Clone + Drop + Send + Sync + 'static,
+{
+    /// A pool without jobs, whose tasks this maker makes.
+    ///
+    /// # Errors
+    ///
+    /// `PoolError`. The threads that were started are stopped again.
+    ///
+    /// Example: `uses::fans_out`.
+    ///
+    /// ```text
+    /// let jobs = JobPool::new(rt.clone().ok()?, alloc, limits, Tree).ok()?;
+    /// ```
+    pub fn new(rt: R, alloc: Global, limits: JobLimits, maker: M) -> Result<Self, PoolError>
+        requires threads { 0 < limits.threads }
+        requires tasks { 0 < limits.tasks }
+        requires room { IfSome limits.room (λ room. 0 < room) }
+    {
+        let (sender, jobs) = match limits.room {
+            Some(room) => bounded(rt.clone()?, alloc, room)?,
+            None => unbounded(rt.clone()?, alloc)?,
+        };
+        let desk = Desk {
+            jobs: sender,
+            open: AtomicUsize::new(1),
+        };
+        let Ok((desk, maker)) = shared(alloc, desk, maker) else {
+            return Err(PoolError::OutOfMemory);
+        };
+        let mut made = JobPool {
+            pool: Pool::new(rt, alloc, limits.threads)?,
+            servers: Vec::with_capacity(alloc, limits.tasks)?,
+            spawner: Spawner { desk },
+            waker: ThreadWaker::new(alloc)?,
+        };
+        for _ in 0..limits.tasks {
+            made.start(&jobs, &maker)?;
+        }
+        Ok(made)
+    }
+
+    // Spawns one server more.
+    fn start(
+        &mut self,
+        jobs: &Receiver<J, NoopWaker, PoolWaker<R>, R>,
+        maker: &Arc<M>,
+    ) -> Result<(), PoolError> {
+        let server = Server {
+            jobs: jobs.copy()?,
+            spawner: self.spawner.copy()?,
+            maker: Arc::try_clone(maker)?,
+            unmade: None,
+            task: None,
+            done: 0,
+        };
+        match self.pool.executor().spawn(server) {
+            Ok(task) => match self.servers.push(task) {
+                Ok(()) => Ok(()),
+                Err(_) => Err(PoolError::OutOfMemory),
+            },
+            Err(SpawnError::OutOfMemory(_)) => Err(PoolError::OutOfMemory),
+            Err(SpawnError::Exhausted(_)) => Err(PoolError::Exhausted),
+        }
+    }
+
+    /// The spawner of this pool.
+    ///
+    /// Example: `uses::fans_out`.
+    ///
+    /// ```text
+    /// jobs.spawner().spawn(3).ok()?;
+    /// ```
+    pub fn spawner(&self) -> &Spawner<J, R>
+        ensures { result.now ≡ self.now.spawner }
+    {
+        &self.spawner
+    }
+
+    /// Waits until no job is left and each task that was made has ended, those of jobs that other tasks
+    /// hand in meanwhile too, stops the threads, and says how many tasks ended.
+    ///
+    /// Example: `uses::fans_out`.
+    ///
+    /// ```text
+    /// Some(jobs.join())
+    /// ```
+    pub fn join(self) -> u64 {
+        let JobPool {
+            pool,
+            servers,
+            spawner,
+            waker,
+        } = self;
+        spawner.desk.end_one();
+        let mut done = 0u64;
+        for server in servers {
+            let ended = waker.block_on(&pool.rt, server);
+            done = done.saturating_add(ended.unwrap_or(0));
+        }
+        drop(pool.join());
+        done
+    }
+}
