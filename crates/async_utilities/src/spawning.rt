@@ -5,7 +5,7 @@
 //! takes the next. All is done once nobody who may hand in a job is left: the owner counts as one until it
 //! joins, and so does each job until its task is ready. The last one closes the channel of the jobs, and
 //! each server ends.
-ghost use Rattle.std.specs.Prelude.{◌≡◌, ◌↔◌, ◌×◌, ◌<◌, None, Some, IfErr, IfSome, IsSome, IsTrue};
+ghost use Rattle.std.specs.Prelude.{◌≡◌, ◌↔◌, ◌<◌, None, Some, IfErr, IfSome, IsSome, IsTrue};
 ghost use Rattle.executor_core.specs.declared.task.future.Poll.TheVariants.{Ready as gave};
 ghost use Rattle.async_utilities.specs.Polls.{IfReady};
 ghost use Rattle.async_utilities.specs.Unsent.{unsent};
