@@ -1,20 +1,59 @@
 //! Tasks that hand in jobs, of each of which a pool makes a task.
 use crate::tests::support::running::refusal::{MOST, is_order_left, refuse};
-use async_executor::{Future, Poll, Wake};
-use async_utilities::{JobLimits, JobPool, MakeTask, PoolError, Spawner, Unsent};
+use async_executor::{Future, Poll, Task, Wake};
+use async_utilities::{
+    JobLimits, Jobs, JoinAll, MakeTask, Pool, Server, Spawner, ThreadWaker, Unsent, block_on,
+    servers,
+};
 use std::alloc::Global;
 use std::sync::atomic::{AtomicBool, AtomicUsize, Ordering};
 use std::sync::{Arc, Mutex, Wait};
 use std::test::Fail;
 use std::thread::{Threads, yield_now};
 
-// So many threads, and so many tasks at once, with room for all jobs.
-fn limits(threads: usize, tasks: usize) -> JobLimits {
-    JobLimits {
-        threads,
-        tasks,
-        room: None,
+// So many tasks at once, with room for all jobs.
+fn limits(tasks: usize) -> JobLimits {
+    JobLimits { tasks, room: None }
+}
+
+type Servers<M, R> = Pool<Server<u32, M, R>, R>;
+
+type Handle<M, R> = Task<Server<u32, M, R>, ThreadWaker, R>;
+
+// Has the servers run on this pool, and gives their handles.
+fn spawned<M, R>(
+    rt: &R,
+    pool: &Servers<M, R>,
+    servers: Vec<Server<u32, M, R>>,
+) -> Result<Vec<Handle<M, R>>, Fail>
+where
+    M: MakeTask<u32, R> + Send + Sync + 'static,
+    M::Task: Send,
+    R: AllocGlobal + Wait + Threads + Clone + Drop + Send + Sync + 'static,
+{
+    let mut tasks = Vec::new(rt.alloc());
+    match pool.executor().spawn_many(servers.into_iter(), &mut tasks) {
+        Ok(_) => Ok(tasks),
+        Err(_) => Err("no memory for the servers".into()),
     }
+}
+
+// Waits for all jobs, and says how many tasks ended.
+fn ended<M, R>(rt: &R, jobs: Jobs<u32, R>, tasks: Vec<Handle<M, R>>) -> Result<u64, Fail>
+where
+    M: MakeTask<u32, R> + Send + Sync + 'static,
+    M::Task: Send,
+    R: AllocGlobal + Wait + Threads + Clone + Drop + Send + Sync + 'static,
+{
+    drop(jobs);
+    let Ok(all) = JoinAll::new(rt.alloc(), tasks) else {
+        return Err("no memory for the outputs".into());
+    };
+    let mut ended = 0u64;
+    for done in block_on(rt, rt.alloc(), all)? {
+        ended = ended.saturating_add(done?);
+    }
+    Ok(ended)
 }
 
 // Makes the branches of a tree, each of a job that says how deep the tree below it is. So many jobs are
@@ -38,7 +77,8 @@ impl<R: Wait + Clone + Drop> MakeTask<u32, R> for Tree {
     fn make(&self, depth: u32, spawner: &Spawner<u32, R>) -> Result<Branch<R>, u32> {
         let left = self.refusals.load(Ordering::SeqCst);
         if left > 0 {
-            self.refusals.store(left.saturating_sub(1), Ordering::SeqCst);
+            self.refusals
+                .store(left.saturating_sub(1), Ordering::SeqCst);
             return Err(depth);
         }
         match spawner.copy() {
@@ -80,23 +120,26 @@ impl<W: Wake, R: Wait + Clone + Drop> Future<W> for Branch<R> {
 // How many tasks of a tree of this depth ended, and what a spawner answers after that.
 fn grown<R: AllocGlobal + Wait + Threads + Clone + Drop + Send + Sync + 'static>(
     rt: &R,
-    limits: JobLimits,
+    threads: usize,
+    tasks: usize,
     tree: Tree,
     depth: u32,
 ) -> Result<(u64, Result<(), Unsent<u32>>), Fail> {
-    let jobs = JobPool::new(rt.clone()?, rt.alloc(), limits, tree)?;
+    let (jobs, servers) = servers(rt.clone()?, rt.alloc(), limits(tasks), tree)?;
+    let pool: Servers<Tree, R> = Pool::new(rt.clone()?, rt.alloc(), threads)?;
+    let tasks = spawned(rt, &pool, servers)?;
     let spawner = jobs.spawner().copy()?;
     if spawner.spawn(depth).is_err() {
         return Err("no room for the first job".into());
     }
-    let ended = jobs.join();
+    let ended = ended(rt, jobs, tasks)?;
     Ok((ended, spawner.spawn(9)))
 }
 
 #[test]
 fn each_job_becomes_one_task(rt: HostRuntime) -> Result<(), Fail> {
     for (threads, tasks) in [(1, 1), (1, 3), (2, 2), (4, 8)] {
-        let grown = grown(&rt, limits(threads, tasks), Tree::refusing(0), 6)?;
+        let grown = grown(&rt, threads, tasks, Tree::refusing(0), 6)?;
         assert_eq!(rt; grown, (127, Err(Unsent::Closed(9))));
     }
     Ok(())
@@ -104,15 +147,24 @@ fn each_job_becomes_one_task(rt: HostRuntime) -> Result<(), Fail> {
 
 #[test]
 fn a_job_that_is_refused_a_task_is_not_lost(rt: HostRuntime) -> Result<(), Fail> {
-    let grown = grown(&rt, limits(1, 2), Tree::refusing(5), 3)?;
+    let grown = grown(&rt, 1, 2, Tree::refusing(5), 3)?;
     assert_eq!(rt; grown.0, 15);
     Ok(())
 }
 
+// How many tasks ended of servers that get no job.
+fn idle<R: AllocGlobal + Wait + Threads + Clone + Drop + Send + Sync + 'static>(
+    rt: &R,
+) -> Result<u64, Fail> {
+    let (jobs, servers) = servers(rt.clone()?, rt.alloc(), limits(2), Tree::refusing(0))?;
+    let pool: Servers<Tree, R> = Pool::new(rt.clone()?, rt.alloc(), 2)?;
+    let tasks = spawned(rt, &pool, servers)?;
+    ended(rt, jobs, tasks)
+}
+
 #[test]
-fn a_pool_without_jobs_ends(rt: HostRuntime) -> Result<(), Fail> {
-    let jobs = JobPool::new(rt.clone()?, rt.alloc(), limits(2, 2), Tree::refusing(0))?;
-    assert_eq!(rt; jobs.join(), 0);
+fn servers_without_jobs_end(rt: HostRuntime) -> Result<(), Fail> {
+    assert_eq!(rt; idle(&rt)?, 0);
     Ok(())
 }
 
@@ -202,7 +254,9 @@ fn passes<R: AllocGlobal + Wait + Threads + Clone + Drop + Send + Sync + 'static
         gate: Arc::try_clone(&gate)?,
         rt: rt.clone()?,
     };
-    let jobs = JobPool::new(rt.clone()?, rt.alloc(), limits(1, tasks), waiters)?;
+    let (jobs, servers) = servers(rt.clone()?, rt.alloc(), limits(tasks), waiters)?;
+    let pool: Servers<Waiters<R>, R> = Pool::new(rt.clone()?, rt.alloc(), 1)?;
+    let handles = spawned(rt, &pool, servers)?;
     for number in 0..10 {
         if jobs.spawner().spawn(number).is_err() {
             return Err("no room for a job".into());
@@ -215,9 +269,12 @@ fn passes<R: AllocGlobal + Wait + Threads + Clone + Drop + Send + Sync + 'static
         yield_now();
     }
     gate.is_open.store(true, Ordering::SeqCst);
-    let ended = jobs.join();
+    let ended = ended(rt, jobs, handles)?;
     let begun = gate.begun.lock(rt);
-    let is_in_order = begun.iter().enumerate().all(|(at, number)| at == *number as usize);
+    let is_in_order = begun
+        .iter()
+        .enumerate()
+        .all(|(at, number)| at == *number as usize);
     Ok((gate.most.load(Ordering::SeqCst), ended, is_in_order))
 }
 
@@ -240,11 +297,12 @@ fn fills<R: AllocGlobal + Wait + Threads + Clone + Drop + Send + Sync + 'static>
         rt: rt.clone()?,
     };
     let limits = JobLimits {
-        threads: 1,
         tasks: 1,
         room: Some(2),
     };
-    let jobs = JobPool::new(rt.clone()?, rt.alloc(), limits, waiters)?;
+    let (jobs, servers) = servers(rt.clone()?, rt.alloc(), limits, waiters)?;
+    let pool: Servers<Waiters<R>, R> = Pool::new(rt.clone()?, rt.alloc(), 1)?;
+    let handles = spawned(rt, &pool, servers)?;
     let mut taken = 0u32;
     let mut is_full = false;
     // One task runs, and two jobs wait: at least one of four comes back.
@@ -256,7 +314,7 @@ fn fills<R: AllocGlobal + Wait + Threads + Clone + Drop + Send + Sync + 'static>
         }
     }
     gate.is_open.store(true, Ordering::SeqCst);
-    Ok((is_full, jobs.join() == u64::from(taken)))
+    Ok((is_full, ended(rt, jobs, handles)? == u64::from(taken)))
 }
 
 #[test]
@@ -274,13 +332,17 @@ fn leaves<R: AllocGlobal + Wait + Threads + Clone + Drop + Send + Sync + 'static
         gate: Arc::try_clone(&gate)?,
         rt: rt.clone()?,
     };
-    let jobs = JobPool::new(rt.clone()?, rt.alloc(), limits(1, 1), waiters)?;
+    let (jobs, servers) = servers(rt.clone()?, rt.alloc(), limits(1), waiters)?;
+    let pool: Servers<Waiters<R>, R> = Pool::new(rt.clone()?, rt.alloc(), 1)?;
+    let handles = spawned(rt, &pool, servers)?;
     let spawner = jobs.spawner().copy()?;
     for number in 0..3 {
         if spawner.spawn(number).is_err() {
             return Err("no room for a job".into());
         }
     }
+    drop(pool);
+    drop(handles);
     drop(jobs);
     Ok(spawner.spawn(9))
 }
@@ -291,35 +353,29 @@ fn a_job_comes_back_if_the_pool_is_gone(rt: HostRuntime) -> Result<(), Fail> {
     Ok(())
 }
 
-// So many requests come at least after all that its threads take: for the handles, the channel's places,
-// and the tasks.
-const OWN_REQUESTS: usize = 3;
+// Requests of the channel, of what is shared, of the Vec, and of a place for the second server.
+const OWN_REQUESTS: usize = 5;
 
-// Makes a pool with this request refused, and joins it. Says whether the refusal was an answer of `new`, or
-// none was met.
-fn is_made_or_refused<R: AllocGlobal + Wait + Threads + Clone + Drop + Send + Sync + 'static>(
+// Makes servers with this request refused. Says whether the refusal was the answer, or none was met.
+fn are_made_or_refused<R: AllocGlobal + Wait + Clone + Drop + Send + Sync>(
     rt: &R,
     request: usize,
 ) -> Result<bool, Fail> {
+    let right = rt.clone()?;
     refuse(rt.alloc(), request);
-    match JobPool::new(rt.clone()?, rt.alloc(), limits(1, 1), Tree::refusing(0)) {
-        Ok(jobs) => Ok(jobs.join() == 0),
-        Err(error) => Ok(error == PoolError::OutOfMemory),
-    }
+    let is_made = servers(right, rt.alloc(), limits(2), Tree::refusing(0)).is_ok();
+    Ok(is_made == is_order_left(rt.alloc()))
 }
 
-// From the last request on, since the sanitizer cannot do without those that start a thread.
 #[test]
-fn a_refusal_is_an_answer_of_new(rt: HostRuntime) -> Result<(), Fail> {
-    let mut refused = 0;
-    for request in (1..=MOST).rev() {
-        assert!(rt; is_made_or_refused(&rt, request)?);
-        if !is_order_left(rt.alloc()) {
-            refused += 1;
-        }
-        if refused == OWN_REQUESTS {
-            return Ok(());
-        }
+fn a_refusal_is_an_answer(rt: HostRuntime) -> Result<(), Fail> {
+    for request in 1..=MOST {
+        assert!(rt; are_made_or_refused(&rt, request)?);
     }
-    Err("no pool is refused".into())
+    for request in 1..=OWN_REQUESTS {
+        refuse(rt.alloc(), request);
+        let made = servers(rt.clone()?, rt.alloc(), limits(2), Tree::refusing(0));
+        assert!(rt; made.is_err());
+    }
+    Ok(())
 }

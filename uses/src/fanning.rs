@@ -1,7 +1,8 @@
-//! A task that wants more tasks: it hands in jobs, and the pool makes a task of each.
+//! A task that wants more tasks: it hands in a job, and a task is made of each.
 use async_executor::{Future, Poll};
-use async_utilities::{JobLimits, JobPool, MakeTask, Spawner};
+use async_utilities::{JobLimits, JoinAll, MakeTask, Pool, Server, Spawner, block_on, servers};
 use std::alloc::Global;
+use std::io;
 use std::sync::Wait;
 use std::thread::Threads;
 
@@ -44,13 +45,20 @@ impl<W, R: Wait + Clone + Drop> Future<W> for Branch<R> {
 pub fn fans_out<R: Wait + Threads + Clone + Drop + Send + Sync + 'static>(
     rt: &R,
     alloc: Global,
-) -> Option<u64> {
+) -> io::Result<u64> {
     let limits = JobLimits {
-        threads: 2,
         tasks: 4,
         room: None,
     };
-    let jobs = JobPool::new(rt.clone().ok()?, alloc, limits, Tree).ok()?;
-    jobs.spawner().spawn(3).ok()?;
-    Some(jobs.join())
+    let (jobs, servers) = servers(rt.clone()?, alloc, limits, Tree)?;
+    let pool: Pool<Server<u32, Tree, R>, R> = Pool::new(rt.clone()?, alloc, 2)?;
+    let mut tasks = Vec::new(alloc);
+    pool.executor().spawn_many(servers.into_iter(), &mut tasks)?;
+    jobs.spawner().spawn(3)?;
+    drop(jobs);
+    let mut ended = 0u64;
+    for done in block_on(rt, alloc, JoinAll::new(alloc, tasks)?)? {
+        ended = ended.saturating_add(done?);
+    }
+    Ok(ended)
 }

@@ -121,7 +121,10 @@ fn spawn_all<R: Wait + Clone + Drop + Send + Sync>(
 
 /// Spawns a task that asks for two more, each of which does the same, three levels deep. Gives how
 /// many tasks ended.
-pub fn requests_tasks<R: Wait + Clone + Drop + Send + Sync>(rt: &R, alloc: Global) -> Option<usize> {
+pub fn requests_tasks<R: Wait + Clone + Drop + Send + Sync>(
+    rt: &R,
+    alloc: Global,
+) -> Option<usize> {
     let mine = ThreadWaker::new(alloc).ok()?;
     let executor = executor(rt, alloc)?;
     let mut owner = Owner::new(rt, alloc)?;

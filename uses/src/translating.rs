@@ -48,12 +48,14 @@ pub fn squares<R: Wait + Clone + Drop + Send + Sync>(rt: &R, alloc: Global) -> O
     }
     drop(sender);
     let executor = Executor::new(rt.clone().ok()?, alloc).ok()?;
-    let task = executor.spawn(Squares {
-        numbers,
-        squares,
-        unsent: None,
-        sent: 0,
-    }).ok()?;
+    let task = executor
+        .spawn(Squares {
+            numbers,
+            squares,
+            unsent: None,
+            sent: 0,
+        })
+        .ok()?;
     let sent = run_until(rt, alloc, &executor, task).ok()?.ok()?;
     let mut sum = 0u64;
     for _ in 0..sent {

@@ -30,7 +30,7 @@ pub use joining::{AnyOf, First, JoinAll};
 pub use noop::NoopWaker;
 pub use pooling::{Pool, PoolError};
 pub use signals::{Signal, Waiting};
-pub use spawning::{JobLimits, JobPool, MakeTask, Server, Spawner};
+pub use spawning::{JobLimits, Jobs, MakeTask, Server, Spawner, servers};
 pub use timers::{
     After, Driver, Firing, Interval, Next, Reading, TimedOut, Timeout, Timer, TimerError,
     TimerFailed,

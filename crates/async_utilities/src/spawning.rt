@@ -1,11 +1,11 @@
-//! Tasks that want tasks: a pool that makes a task of each job, and a spawner that goes into these tasks.
+//! Tasks that want tasks: jobs, of each of which a task is made, and a spawner that goes into these tasks.
 //!
 //! A job is a plain value, so neither the type of a task nor that of a spawner contains itself. So many
-//! servers are tasks of a `Pool`: each takes a job, makes the task of it, polls that until it is ready, and
-//! takes the next. All is done once nobody who may hand in a job is left: the owner counts as one until it
-//! joins, and so does each job until its task is ready. The last one closes the channel of the jobs, and
-//! each server ends.
-ghost use Rattle.std.specs.Prelude.{◌≡◌, ◌↔◌, ◌<◌, None, Some, IfErr, IfSome, IsSome, IsTrue};
+//! servers are tasks of an executor: each takes a job, makes the task of it, polls that until it is ready,
+//! and takes the next. All is done once nobody who may hand in a job is left: the owner counts as one until
+//! its `Jobs` is dropped, and so does each job until its task is ready. The last one closes the channel of
+//! the jobs, and each server ends.
+ghost use Rattle.std.specs.Prelude.{◌≡◌, ◌↔◌, ◌<◌, None, Some, IfErr, IfOk, IfSome, IsSome, IsTrue, vec_len};
 ghost use Rattle.executor_core.specs.declared.task.future.Poll.TheVariants.{Ready as gave};
 ghost use Rattle.async_utilities.specs.Polls.{IfReady};
 ghost use Rattle.async_utilities.specs.Unsent.{unsent};
@@ -14,17 +14,15 @@ ghost use Rattle.async_utilities.specs.declared.spawning.Begun.TheVariants as Be
 use crate::blocking::ThreadWaker;
 use crate::channels::{Receiver, Sender, Unsent, bounded, unbounded};
 use crate::noop::NoopWaker;
-use crate::pooling::{Pool, PoolError};
-use async_executor::{Future, OutOfMemory, Poll, SpawnError, Task, TaskWaker, Wake};
-use std::alloc::{AllocError, Global};
+use async_executor::{Future, OutOfMemory, Poll, TaskWaker, Wake};
+use std::alloc::Global;
 use std::sync::atomic::{AtomicUsize, Ordering};
 use std::sync::{Arc, Wait};
-use std::thread::Threads;
 
 // A poll of a server ends so many tasks at most: then it lets others of its thread go on.
 const TURN: usize = 16;
 
-// The waker of all tasks of a pool.
+// The waker of all servers.
 type PoolWaker<R> = TaskWaker<ThreadWaker, R>;
 
 /// Makes the task of a job. It stands in the place of a closure, of which no field can say that it may be
@@ -50,7 +48,7 @@ pub trait MakeTask<J: Drop, R: Wait + Clone + Drop>: Drop {
         ensures back { IfErr result (λ failed. failed ≡ job) };
 }
 
-// What a pool, its servers and all spawners share: where jobs are handed in, and how many may still hand
+// What the owner, the servers and all spawners share: where jobs are handed in, and how many may still hand
 // one in.
 #[derive(Drop)]
 struct Desk<J: Drop, R: Wait + Clone + Drop> {
@@ -67,7 +65,7 @@ impl<J: Drop, R: Wait + Clone + Drop> Desk<J, R> {
     }
 }
 
-/// Hands in jobs to a `JobPool`. A task may have a copy, and so may a thread.
+/// Hands in jobs. A task may have a copy, and so may a thread.
 ///
 /// Example: `uses::fans_out`.
 ///
@@ -96,13 +94,13 @@ impl<J: Drop, R: Wait + Clone + Drop> Spawner<J, R> {
         Ok(Spawner { desk })
     }
 
-    /// Hands in a job, behind those that were handed in before. A task is made of it once fewer tasks run
-    /// than the pool allows.
+    /// Hands in a job, behind those that were handed in before. The next server that is free makes a task
+    /// of it.
     ///
     /// # Errors
     ///
     /// `Unsent` with the job: `Full` if there is no room, `Refused` if memory is refused, and `Closed` if
-    /// the pool is gone, or all its jobs were done after it was told to join.
+    /// the servers are gone, or all jobs were done once the owner's `Jobs` was dropped.
     ///
     /// Example: `uses::fans_out`.
     ///
@@ -122,13 +120,15 @@ impl<J: Drop, R: Wait + Clone + Drop> Spawner<J, R> {
     }
 }
 
-/// A task of a pool, which makes a task of each job that it takes, and polls that until it is ready, one
-/// after another. It gives how many it did, once all jobs of the pool are done.
+/// Makes a task of each job that it takes, and polls that until it is ready, one after another. It gives
+/// how many it did, once all jobs are done. It is a task itself, of a `Pool` or of another executor whose
+/// threads park.
 ///
-/// Example: `uses::fans_out`, which names its pool.
+/// Example: `uses::fans_out`.
 ///
 /// ```text
-/// let jobs = JobPool::new(rt.clone().ok()?, alloc, limits, Tree).ok()?;
+/// let pool: Pool<Server<u32, Tree, R>, R> = Pool::new(rt.clone()?, alloc, 2)?;
+/// pool.executor().spawn_many(servers.into_iter(), &mut tasks)?;
 /// ```
 #[derive(Drop)]
 pub struct Server<J, M, R>
@@ -159,6 +159,22 @@ where
     M: MakeTask<J, R>,
     R: Wait + Clone + Drop,
 {
+    // A server that has no job yet.
+    fn new(
+        jobs: &Receiver<J, NoopWaker, PoolWaker<R>, R>,
+        spawner: &Spawner<J, R>,
+        maker: &Arc<M>,
+    ) -> Result<Server<J, M, R>, OutOfMemory> {
+        Ok(Server {
+            jobs: jobs.copy()?,
+            spawner: spawner.copy()?,
+            maker: Arc::try_clone(maker)?,
+            unmade: None,
+            task: None,
+            done: 0,
+        })
+    }
+
     // Takes the next job, unless one is left of which no task was made.
     fn take_job(&mut self, w: &PoolWaker<R>) -> Poll<Option<J>>
         ensures left { IfSome self.old.unmade (λ job. result ≡ gave (Some job)) }
@@ -242,169 +258,101 @@ where
     }
 }
 
-// What a pool shares with its servers.
-fn shared<D: Drop, M: Drop>(
-    alloc: Global,
-    desk: D,
-    maker: M,
-) -> Result<(Arc<D>, Arc<M>), AllocError> {
-    let Ok(desk) = Arc::new(alloc, desk) else {
-        return Err(AllocError);
-    };
-    match Arc::new(alloc, maker) {
-        Ok(maker) => Ok((desk, maker)),
-        Err(_) => Err(AllocError),
-    }
-}
-
-/// How much a `JobPool` has.
+/// How much is done at once.
 ///
 /// Example: `uses::fans_out`.
 ///
 /// ```text
 /// let limits = JobLimits {
-///     threads: 2,
 ///     tasks: 4,
+///     room: None,
 /// ```
 #[derive(Debug, Clone, Copy, PartialEq, Eq)]
 pub struct JobLimits {
-    /// How many threads run its tasks.
-    pub threads: usize,
     /// How many tasks run at once: the other jobs wait, in order.
     pub tasks: usize,
     /// For how many jobs that wait there is room. `None` is as many as there is memory for.
     pub room: Option<usize>,
 }
 
-/// Threads that run a task for each job, of which a `MakeTask` makes it. Its tasks may hand in more jobs,
-/// by a `Spawner`. Its drop stops the threads, and drops the tasks and the jobs that are left.
+/// The owner's end. Its drop says that the owner hands in no more jobs: once those that are left are done,
+/// and no task that runs hands in more, each server ends.
 ///
 /// Example: `uses::fans_out`.
 ///
 /// ```text
-/// let jobs = JobPool::new(rt.clone().ok()?, alloc, limits, Tree).ok()?;
-/// jobs.spawner().spawn(3).ok()?;
-/// Some(jobs.join())
+/// jobs.spawner().spawn(3)?;
+/// drop(jobs);
 /// ```
-#[derive(Drop)]
-pub struct JobPool<J, M, R>
-where
-    J: Send + Drop + 'static,
-    M: MakeTask<J, R> + Send + Sync + 'static,
-    M::Task: Send,
-    R: Wait + Threads + Clone + Drop + Send + Sync + 'static,
-{
-    pool: Pool<Server<J, M, R>, R>,
-    servers: Vec<Task<Server<J, M, R>, ThreadWaker, R>>,
+pub struct Jobs<J: Drop, R: Wait + Clone + Drop> {
     spawner: Spawner<J, R>,
-    waker: ThreadWaker,
 }
 
-impl<J, M, R> JobPool<J, M, R>
-where
-    J: Send + Drop + 'static,
-    M: MakeTask<J, R> + Send + Sync + 'static,
-    M::Task: Send,
-    R: Wait + Threads + Clone + Drop + Send + Sync + 'static,
-{
-    /// A pool without jobs, whose tasks this maker makes.
-    ///
-    /// # Errors
-    ///
-    /// `PoolError`. The threads that were started are stopped again.
+impl<J: Drop, R: Wait + Clone + Drop> Jobs<J, R> {
+    /// The spawner of these jobs.
     ///
     /// Example: `uses::fans_out`.
     ///
     /// ```text
-    /// let jobs = JobPool::new(rt.clone().ok()?, alloc, limits, Tree).ok()?;
-    /// ```
-    pub fn new(rt: R, alloc: Global, limits: JobLimits, maker: M) -> Result<Self, PoolError>
-        requires threads { 0 < limits.threads }
-        requires tasks { 0 < limits.tasks }
-        requires room { IfSome limits.room (λ room. 0 < room) }
-    {
-        let (sender, jobs) = match limits.room {
-            Some(room) => bounded(rt.clone()?, alloc, room)?,
-            None => unbounded(rt.clone()?, alloc)?,
-        };
-        let desk = Desk {
-            jobs: sender,
-            open: AtomicUsize::new(1),
-        };
-        let Ok((desk, maker)) = shared(alloc, desk, maker) else {
-            return Err(PoolError::OutOfMemory);
-        };
-        let mut made = JobPool {
-            pool: Pool::new(rt, alloc, limits.threads)?,
-            servers: Vec::with_capacity(alloc, limits.tasks)?,
-            spawner: Spawner { desk },
-            waker: ThreadWaker::new(alloc)?,
-        };
-        for _ in 0..limits.tasks {
-            made.start(&jobs, &maker)?;
-        }
-        Ok(made)
-    }
-
-    // Spawns one server more.
-    fn start(
-        &mut self,
-        jobs: &Receiver<J, NoopWaker, PoolWaker<R>, R>,
-        maker: &Arc<M>,
-    ) -> Result<(), PoolError> {
-        let server = Server {
-            jobs: jobs.copy()?,
-            spawner: self.spawner.copy()?,
-            maker: Arc::try_clone(maker)?,
-            unmade: None,
-            task: None,
-            done: 0,
-        };
-        match self.pool.executor().spawn(server) {
-            Ok(task) => match self.servers.push(task) {
-                Ok(()) => Ok(()),
-                Err(_) => Err(PoolError::OutOfMemory),
-            },
-            Err(SpawnError::OutOfMemory(_)) => Err(PoolError::OutOfMemory),
-            Err(SpawnError::Exhausted(_)) => Err(PoolError::Exhausted),
-        }
-    }
-
-    /// The spawner of this pool.
-    ///
-    /// Example: `uses::fans_out`.
-    ///
-    /// ```text
-    /// jobs.spawner().spawn(3).ok()?;
+    /// jobs.spawner().spawn(3)?;
     /// ```
     pub fn spawner(&self) -> &Spawner<J, R>
         ensures { result.now ≡ self.now.spawner }
     {
         &self.spawner
     }
+}
 
-    /// Waits until no job is left and each task that was made has ended, those of jobs that other tasks
-    /// hand in meanwhile too, stops the threads, and says how many tasks ended.
-    ///
-    /// Example: `uses::fans_out`.
-    ///
-    /// ```text
-    /// Some(jobs.join())
-    /// ```
-    pub fn join(self) -> u64 {
-        let JobPool {
-            pool,
-            servers,
-            spawner,
-            waker,
-        } = self;
+impl<J: Drop, R: Wait + Clone + Drop> Drop for Jobs<J, R> {
+    fn drop(self) {
+        let Jobs { spawner } = self;
         spawner.desk.end_one();
-        let mut done = 0u64;
-        for server in servers {
-            let ended = waker.block_on(&pool.rt, server);
-            done = done.saturating_add(ended.unwrap_or(0));
-        }
-        drop(pool.join());
-        done
     }
+}
+
+/// An end for the owner, and as many servers as tasks may run at once, which this maker serves: each of them
+/// is to be spawned.
+///
+/// # Errors
+///
+/// `OutOfMemory` if memory is refused.
+///
+/// Example: `uses::fans_out`.
+///
+/// ```text
+/// let (jobs, servers) = servers(rt.clone()?, alloc, limits, Tree)?;
+/// ```
+pub fn servers<J, M, R>(
+    rt: R,
+    alloc: Global,
+    limits: JobLimits,
+    maker: M,
+) -> Result<(Jobs<J, R>, Vec<Server<J, M, R>>), OutOfMemory>
+where
+    J: Drop,
+    M: MakeTask<J, R>,
+    R: Wait + Clone + Drop,
+    requires tasks { 0 < limits.tasks }
+    requires room { IfSome limits.room (λ room. 0 < room) }
+    ensures count { IfOk result (λ made. vec_len made.1 ≡ limits.tasks) }
+{
+    let (sender, receiver) = match limits.room {
+        Some(room) => bounded(rt, alloc, room)?,
+        None => unbounded(rt, alloc)?,
+    };
+    let open = AtomicUsize::new(1);
+    let Ok(desk) = Arc::new(alloc, Desk { jobs: sender, open }) else {
+        return Err(OutOfMemory);
+    };
+    let Ok(maker) = Arc::new(alloc, maker) else {
+        return Err(OutOfMemory);
+    };
+    let jobs = Jobs {
+        spawner: Spawner { desk },
+    };
+    let mut servers = Vec::with_capacity(alloc, limits.tasks)?;
+    for made in 0..limits.tasks {
+        servers.push_reserved(Server::new(&receiver, &jobs.spawner, &maker)?);
+    }
+    Ok((jobs, servers))
 }

@@ -7,8 +7,8 @@ use std::sync::Wait;
 use std::test::Fail;
 use uses::futures::Sum;
 use uses::{
-    boxes, boxes_kinds, closes, empties, interleaves, keeps, keeps_turns, mixes, nests, prints, reads,
-    receives, runs, spawns_many, squares,
+    boxes, boxes_kinds, closes, empties, interleaves, keeps, keeps_turns, mixes, nests, prints,
+    reads, receives, runs, spawns_many, squares,
 };
 
 fn spawned<R: Wait + Clone + Drop + Send + Sync>(rt: &R, alloc: Global) -> [Line; 4] {
