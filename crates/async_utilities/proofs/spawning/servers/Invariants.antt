@@ -4,4 +4,4 @@ use Rattle.async_utilities.proofs.spawning.servers.Given as goal
 
 -- so many servers were made, and there is room for all
 abbrev pub invariant-loop-made : goal.invariant-loop-made
-invariant-loop-made g l = (vec_len l.servers ≡ l.made) × (vec_capacity l.servers ≡ g.limits.tasks)
+invariant-loop-made _ l = (vec_len l.servers ≡ l.made) × (vec_capacity l.servers ≡ l.fn.limits.tasks)
