@@ -91,6 +91,10 @@ block "$utilities" rust "## A caller" > "$copy/said"
 cp uses/src/timing.rs "$copy/wanted"
 same "CALLING.md of async_utilities, the caller and the folder uses"
 
+block docs/OWN_REPOSITORY.md rust "## From an" > "$copy/said"
+sed -n '/^    fn poll/,/^    }/s/^    //p' uses/src/translating.rs > "$copy/wanted"
+same "OWN_REPOSITORY.md, the poll and the folder uses"
+
 # A clause is quoted with S for what self points to.
 cat crates/async_executor/src/*.rt crates/async_executor/src/*executor/*.rt \
     crates/async_executor/src/scheduler/*.rt crates/async_executor/src/runner/*.rt \
@@ -112,7 +116,7 @@ for page in README.md docs/PROVED.md docs/ARCHITECTURE.md docs/MEASURED.md "$cal
     fi
 done
 
-for crate in executor_core async_executor priority_executor sharded_executor async_utilities simulation digests mandelbrot; do
+for crate in executor_core async_executor priority_executor sharded_executor async_utilities simulation digests mandelbrot starter; do
     (cd crates/$crate/src && find . -name '*.rt') | sed 's/^\.\///; s/\.rt$//' |
         grep -vxE 'lib|main|tests(/.*)?' | sort > "$copy/wanted"
     quoted docs/ARCHITECTURE.md | grep -Fxf "$copy/wanted" | sort > "$copy/said"

@@ -56,10 +56,25 @@ fn what_has_no_text_of_its_own_is_given_one(rt: HostRuntime) -> Result<(), Fail>
         cause: RunnerError::Exhausted,
     };
     assert_eq!(rt; text_of(&rt, many)?.as_str(), "no task number is left");
-    assert_eq!(rt; text_of(&rt, Unsent::Full(1u8))?.as_str(), "the channel is full");
-    assert_eq!(rt; text_of(&rt, Unsent::Closed(1u8))?.as_str(), "the channel is closed");
-    assert_eq!(rt; text_of(&rt, Unsent::Refused(1u8))?.as_str(), "out of memory");
-    assert_eq!(rt; text_of(&rt, NoMessage::Empty)?.as_str(), "the channel is empty");
-    assert_eq!(rt; text_of(&rt, NoMessage::Closed)?.as_str(), "the channel is closed");
+    assert_eq!(rt;
+        text_of(&rt, Unsent::Full(1u8))?.as_str(),
+        "the channel is full"
+    );
+    assert_eq!(rt;
+        text_of(&rt, Unsent::Closed(1u8))?.as_str(),
+        "the channel is closed"
+    );
+    assert_eq!(rt;
+        text_of(&rt, Unsent::Refused(1u8))?.as_str(),
+        "out of memory"
+    );
+    assert_eq!(rt;
+        text_of(&rt, NoMessage::Empty)?.as_str(),
+        "the channel is empty"
+    );
+    assert_eq!(rt;
+        text_of(&rt, NoMessage::Closed)?.as_str(),
+        "the channel is closed"
+    );
     Ok(())
 }

@@ -17,6 +17,7 @@ pub mod locks;
 pub mod noop;
 pub mod pooling;
 pub mod signals;
+pub mod spawning;
 pub mod timers;
 pub mod unblocking;
 pub(crate) mod wait_queue;
@@ -35,6 +36,7 @@ pub use locks::{
 pub use noop::NoopWaker;
 pub use pooling::{Pool, PoolError};
 pub use signals::{Signal, Waiting};
+pub use spawning::{JobLimits, Jobs, MakeTask, Server, Spawner, servers};
 pub use timers::{
     After, Driver, Firing, Interval, Next, Reading, TimedOut, Timeout, Timer, TimerError,
     TimerFailed,

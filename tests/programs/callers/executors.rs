@@ -2,12 +2,13 @@
 use super::{Line, are, compare};
 use async_executor::{Cancelled, Poll};
 use std::alloc::Global;
+use std::io::ErrorKind;
 use std::sync::Wait;
 use std::test::Fail;
 use uses::futures::Sum;
 use uses::{
-    boxes, closes, empties, interleaves, keeps, keeps_turns, mixes, nests, prints, receives, runs,
-    spawns_many,
+    boxes, boxes_kinds, closes, empties, interleaves, keeps, keeps_turns, mixes, nests, prints,
+    reads, receives, runs, spawns_many, squares,
 };
 
 fn spawned<R: Wait + Clone + Drop + Send + Sync>(rt: &R, alloc: Global) -> [Line; 4] {
@@ -20,10 +21,12 @@ fn spawned<R: Wait + Clone + Drop + Send + Sync>(rt: &R, alloc: Global) -> [Line
     ]
 }
 
-fn kinds<R: Wait + Clone + Drop + Send + Sync>(rt: &R, alloc: Global) -> [Line; 5] {
+fn kinds<R: Wait + Clone + Drop + Send + Sync>(rt: &R, alloc: Global) -> [Line; 7] {
     [
         ("mixes", mixes(rt, alloc) == Some((3, 7))),
         ("boxes", boxes(rt, alloc) == Some(3)),
+        ("boxes_kinds", boxes_kinds(rt, alloc) == Some((0, 7))),
+        ("squares", squares(rt, alloc) == Some((3, 14))),
         ("receives", receives(rt, alloc) == Some(5)),
         ("nests", nests(rt, alloc) == Some(3)),
         ("interleaves", interleaves(alloc) == Some(true)),
@@ -46,6 +49,17 @@ fn executors_run_what_is_spawned(rt: HostRuntime) -> Result<(), Fail> {
 #[test]
 fn futures_of_several_kinds_are_run(rt: HostRuntime) -> Result<(), Fail> {
     compare(&kinds(&rt, rt.alloc()))
+}
+
+#[test]
+fn a_task_reads_a_file(rt: HostRuntime) -> Result<(), Fail> {
+    assert_eq!(rt; reads(&rt, rt.alloc(), "/dev/null")?, 0);
+    assert!(rt; reads(&rt, rt.alloc(), "/proc/self/stat")? > 0);
+    match reads(&rt, rt.alloc(), "/dev/null/none") {
+        Err(error) => assert_eq!(rt; error.kind(), ErrorKind::NotADirectory),
+        Ok(_) => return Err("there is such a file".into()),
+    }
+    Ok(())
 }
 
 #[test]

@@ -3,12 +3,14 @@ use super::{Line, compare};
 use std::alloc::Global;
 use std::sync::Wait;
 use std::test::Fail;
-use uses::{accepts, overtakes, prefers};
+use std::thread::Threads;
+use uses::{accepts, overtakes, prefers, serves_levels};
 
-fn levels<R: Wait + Clone + Drop + Send + Sync>(rt: &R, alloc: Global) -> [Line; 3] {
+fn levels<R: Wait + Threads + Clone + Drop + Send + Sync>(rt: &R, alloc: Global) -> [Line; 4] {
     [
         ("overtakes", overtakes(rt, alloc) == Some((0, 1001))),
         ("accepts", accepts(rt, alloc) == Some(3)),
+        ("serves_levels", serves_levels(rt, alloc) == Some(3)),
         ("prefers", prefers([false, true, true]) == (Some(1), 2)),
     ]
 }

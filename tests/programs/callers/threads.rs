@@ -8,9 +8,9 @@ use std::thread::Threads;
 use std::time::{Clock, Duration};
 use uses::common::executor;
 use uses::{
-    answers_in_order, closes_a_channel, fans_out, gives_up, hears, joins, makes_once, meets, parks,
-    pools, races, rests, sends_to_a_task, serves, shares, takes_permits, takes_turns, tells,
-    times_out, tries, winds_up,
+    answers_in_order, closes_a_channel, fans_out, gives_up, hears, joins, makes_once, meets,
+    parks, pools, races, requests_tasks, rests, sends_to_a_task, serves, shares, takes_permits,
+    takes_turns, tells, times_out, tries, winds_up,
 };
 
 // Twice each number below twenty.
@@ -49,11 +49,12 @@ fn pooled<R: Wait + Threads + Clone + Drop + Send + Sync + 'static>(
 fn sent<R: Wait + Threads + Clone + Drop + Send + Sync + 'static>(
     rt: &R,
     alloc: Global,
-) -> [Line; 6] {
+) -> [Line; 7] {
     let tried = Some((Unsent::Full(2), 1, NoMessage::Empty));
     let closed = Some(([1, usize::MAX, 1, 1], [false, false, true], Ok(1)));
     [
-        ("fans_out", fans_out(rt, alloc) == Some(15)),
+        ("fans_out", fans_out(rt, alloc).ok() == Some(15)),
+        ("requests_tasks", requests_tasks(rt, alloc) == Some(15)),
         ("sends_to_a_task", sends_to_a_task(rt, alloc) == Some(190)),
         (
             "answers_in_order",

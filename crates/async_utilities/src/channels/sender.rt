@@ -31,7 +31,7 @@ pub enum Unsent<T> {
 
 /// Sends messages. A channel whose senders are all dropped is closed: what is inside still comes out.
 ///
-/// Example: `uses::fans_out`.
+/// Example: `uses::requests_tasks`.
 ///
 /// ```text
 /// type Requests<R> = Sender<u32, TaskWaker<ThreadWaker, R>, ThreadWaker, R>;
@@ -157,7 +157,7 @@ impl<T: Drop, S: Wake, V: Wake, R: Wait + Drop> Sender<T, S, V, R> {
     ///
     /// `OutOfMemory` if memory for its place among those that wait is refused.
     ///
-    /// Example: `uses::fans_out`.
+    /// Example: `uses::requests_tasks`.
     ///
     /// ```text
     /// requests: requests.copy().ok()?,
@@ -199,7 +199,7 @@ impl<T: Drop, S: Wake, V: Wake, R: Wait + Drop> Sender<T, S, V, R> {
     ///
     /// Who stops polling before it is ready drops the sender, or polls a `Send` and drops that.
     ///
-    /// Example: `uses::fans_out`.
+    /// Example: `uses::requests_tasks`.
     ///
     /// ```text
     /// let Poll::Ready(_) = self.requests.poll_send(w, &mut self.left) else {

@@ -1,0 +1,358 @@
+//! Tasks that want tasks: jobs, of each of which a task is made, and a spawner that goes into these tasks.
+//!
+//! A job is a plain value, so neither the type of a task nor that of a spawner contains itself. So many
+//! servers are tasks of an executor: each takes a job, makes the task of it, polls that until it is ready,
+//! and takes the next. All is done once nobody who may hand in a job is left: the owner counts as one until
+//! its `Jobs` is dropped, and so does each job until its task is ready. The last one closes the channel of
+//! the jobs, and each server ends.
+ghost use Rattle.std.specs.Prelude.{◌≡◌, ◌↔◌, ◌<◌, None, Some, IfErr, IfOk, IfSome, IsSome, IsTrue, vec_len};
+ghost use Rattle.executor_core.specs.declared.task.future.Poll.TheVariants.{Ready as gave};
+ghost use Rattle.async_utilities.specs.Polls.{IfReady};
+ghost use Rattle.async_utilities.specs.Unsent.{unsent};
+ghost use Rattle.async_utilities.specs.declared.spawning.Begun.TheVariants as Begun;
+
+use crate::blocking::ThreadWaker;
+use crate::channels::{Receiver, Sender, Unsent, bounded, unbounded};
+use crate::noop::NoopWaker;
+use async_executor::{Future, OutOfMemory, Poll, TaskWaker, Wake};
+use std::alloc::Global;
+use std::sync::atomic::{AtomicUsize, Ordering};
+use std::sync::{Arc, Wait};
+
+// A poll of a server ends so many tasks at most: then it lets others of its thread go on.
+const TURN: usize = 16;
+
+// The waker of all servers.
+type PoolWaker<R> = TaskWaker<ThreadWaker, R>;
+
+/// Makes the task of a job. It stands in the place of a closure, of which no field can say that it may be
+/// called.
+///
+/// Example: `uses::fans_out`, of a `Tree`.
+///
+/// ```text
+/// fn make(&self, depth: u32, spawner: &Spawner<u32, R>) -> Result<Branch<R>, u32> {
+/// ```
+pub trait MakeTask<J: Drop, R: Wait + Clone + Drop>: Drop {
+    /// The task. What it gives is dropped.
+    type Task: Future<TaskWaker<ThreadWaker, R>>;
+
+    /// Makes it. A job of which there is no memory for a task comes back, and is handed in again later.
+    ///
+    /// Example: `uses::fans_out`.
+    ///
+    /// ```text
+    /// fn make(&self, depth: u32, spawner: &Spawner<u32, R>) -> Result<Branch<R>, u32> {
+    /// ```
+    fn make(&self, job: J, spawner: &Spawner<J, R>) -> Result<Self::Task, J>
+        ensures back { IfErr result (λ failed. failed ≡ job) };
+}
+
+// What the owner, the servers and all spawners share: where jobs are handed in, and how many may still hand
+// one in.
+#[derive(Drop)]
+struct Desk<J: Drop, R: Wait + Clone + Drop> {
+    jobs: Sender<J, NoopWaker, PoolWaker<R>, R>,
+    open: AtomicUsize,
+}
+
+impl<J: Drop, R: Wait + Clone + Drop> Desk<J, R> {
+    // One of those who may hand in a job is done. The last one closes the channel.
+    fn end_one(&self) {
+        if self.open.fetch_sub(1, Ordering::SeqCst) == 1 {
+            self.jobs.channel().close();
+        }
+    }
+}
+
+/// Hands in jobs. A task may have a copy, and so may a thread.
+///
+/// Example: `uses::fans_out`.
+///
+/// ```text
+/// let _ = self.spawner.spawn(below);
+/// ```
+#[derive(Drop)]
+pub struct Spawner<J: Drop, R: Wait + Clone + Drop> {
+    desk: Arc<Desk<J, R>>,
+}
+
+impl<J: Drop, R: Wait + Clone + Drop> Spawner<J, R> {
+    /// The same spawner, for another holder. It takes no memory.
+    ///
+    /// # Errors
+    ///
+    /// `OutOfMemory` if another holder cannot be counted.
+    ///
+    /// Example: `uses::fans_out`.
+    ///
+    /// ```text
+    /// match spawner.copy() {
+    /// ```
+    pub fn copy(&self) -> Result<Spawner<J, R>, OutOfMemory> {
+        let desk = Arc::try_clone(&self.desk)?;
+        Ok(Spawner { desk })
+    }
+
+    /// Hands in a job, behind those that were handed in before. The next server that is free makes a task
+    /// of it.
+    ///
+    /// # Errors
+    ///
+    /// `Unsent` with the job: `Full` if there is no room, `Refused` if memory is refused, and `Closed` if
+    /// the servers are gone, or all jobs were done once the owner's `Jobs` was dropped.
+    ///
+    /// Example: `uses::fans_out`.
+    ///
+    /// ```text
+    /// let _ = self.spawner.spawn(below);
+    /// ```
+    pub fn spawn(&self, job: J) -> Result<(), Unsent<J>>
+        ensures back { IfErr result (λ failed. unsent failed ≡ job) }
+    {
+        let desk = &*self.desk;
+        desk.open.fetch_add(1, Ordering::SeqCst);
+        let sent = desk.jobs.try_send(job);
+        if sent.is_err() {
+            desk.end_one();
+        }
+        sent
+    }
+}
+
+/// Makes a task of each job that it takes, and polls that until it is ready, one after another. It gives
+/// how many it did, once all jobs are done. It is a task itself, of a `Pool` or of another executor whose
+/// threads park.
+///
+/// Example: `uses::fans_out`.
+///
+/// ```text
+/// let pool: Pool<Server<u32, Tree, R>, R> = Pool::new(rt.clone()?, alloc, 2)?;
+/// pool.executor().spawn_many(servers.into_iter(), &mut tasks)?;
+/// ```
+#[derive(Drop)]
+pub struct Server<J, M, R>
+where
+    J: Drop,
+    M: MakeTask<J, R>,
+    R: Wait + Clone + Drop,
+{
+    jobs: Receiver<J, NoopWaker, PoolWaker<R>, R>,
+    spawner: Spawner<J, R>,
+    maker: Arc<M>,
+    unmade: Option<J>,
+    task: Option<M::Task>,
+    done: u64,
+}
+
+// What a server that had no task has then.
+#[derive(Clone, Copy)]
+enum Begun {
+    Task,
+    Nothing,
+    Over,
+}
+
+impl<J, M, R> Server<J, M, R>
+where
+    J: Drop,
+    M: MakeTask<J, R>,
+    R: Wait + Clone + Drop,
+{
+    // A server that has no job yet.
+    fn new(
+        jobs: &Receiver<J, NoopWaker, PoolWaker<R>, R>,
+        spawner: &Spawner<J, R>,
+        maker: &Arc<M>,
+    ) -> Result<Server<J, M, R>, OutOfMemory> {
+        Ok(Server {
+            jobs: jobs.copy()?,
+            spawner: spawner.copy()?,
+            maker: Arc::try_clone(maker)?,
+            unmade: None,
+            task: None,
+            done: 0,
+        })
+    }
+
+    // Takes the next job, unless one is left of which no task was made.
+    fn take_job(&mut self, w: &PoolWaker<R>) -> Poll<Option<J>>
+        ensures left { IfSome self.old.unmade (λ job. result ≡ gave (Some job)) }
+        ensures taken { self.new.unmade ≡ None }
+        ensures task { self.new.task ≡ self.old.task }
+    {
+        match self.unmade.take() {
+            Some(job) => Poll::Ready(Some(job)),
+            None => self.jobs.poll_receive(w),
+        }
+    }
+
+    // Makes a task of the next job. If it is refused one, it keeps the job, and asks for another poll.
+    fn begin(&mut self, w: &PoolWaker<R>) -> Begun
+        requires { self.old.task ≡ None }
+        ensures task { result ≡ Begun.Task ↔ IsSome self.new.task }
+        ensures job { IfSome self.old.unmade (λ job. self.new.task ≡ None → self.new.unmade ≡ Some job) }
+        ensures over { result ≡ Begun.Over → self.new.unmade ≡ None }
+    {
+        let job = match self.take_job(w) {
+            Poll::Ready(Some(job)) => job,
+            Poll::Ready(None) => return Begun::Over,
+            Poll::Pending => return Begun::Nothing,
+        };
+        match self.maker.make(job, &self.spawner) {
+            Ok(task) => {
+                self.task = Some(task);
+                Begun::Task
+            }
+            Err(job) => {
+                self.unmade = Some(job);
+                w.wake();
+                Begun::Nothing
+            }
+        }
+    }
+
+    // Polls the task that is under way, and says whether it ended.
+    fn poll_task(&mut self, w: &PoolWaker<R>) -> bool
+        ensures ended { IsTrue result → self.new.task ≡ None }
+        ensures job { self.new.unmade ≡ self.old.unmade }
+    {
+        let Some(task) = &mut self.task else {
+            return false;
+        };
+        let Poll::Ready(_) = task.poll(w) else {
+            return false;
+        };
+        self.task = None;
+        self.done = self.done.saturating_add(1);
+        self.spawner.desk.end_one();
+        true
+    }
+}
+
+impl<J, M, R> Future<TaskWaker<ThreadWaker, R>> for Server<J, M, R>
+where
+    J: Drop,
+    M: MakeTask<J, R>,
+    R: Wait + Clone + Drop,
+{
+    type Output = u64;
+
+    fn poll(&mut self, w: &TaskWaker<ThreadWaker, R>) -> Poll<u64>
+        ensures { IfReady result (λ _. (self.new.task ≡ None) × (self.new.unmade ≡ None)) }
+    {
+        for _ in 0..TURN {
+            if self.task.is_none() {
+                match self.begin(w) {
+                    Begun::Task => {}
+                    Begun::Nothing => return Poll::Pending,
+                    Begun::Over => return Poll::Ready(self.done),
+                }
+            }
+            if !self.poll_task(w) {
+                return Poll::Pending;
+            }
+        }
+        w.wake();
+        Poll::Pending
+    }
+}
+
+/// How much is done at once.
+///
+/// Example: `uses::fans_out`.
+///
+/// ```text
+/// let limits = JobLimits {
+///     tasks: 4,
+///     room: None,
+/// ```
+#[derive(Debug, Clone, Copy, PartialEq, Eq)]
+pub struct JobLimits {
+    /// How many tasks run at once: the other jobs wait, in order.
+    pub tasks: usize,
+    /// For how many jobs that wait there is room. `None` is as many as there is memory for.
+    pub room: Option<usize>,
+}
+
+/// The owner's end. Its drop says that the owner hands in no more jobs: once those that are left are done,
+/// and no task that runs hands in more, each server ends.
+///
+/// Example: `uses::fans_out`.
+///
+/// ```text
+/// jobs.spawner().spawn(3)?;
+/// drop(jobs);
+/// ```
+pub struct Jobs<J: Drop, R: Wait + Clone + Drop> {
+    spawner: Spawner<J, R>,
+}
+
+impl<J: Drop, R: Wait + Clone + Drop> Jobs<J, R> {
+    /// The spawner of these jobs.
+    ///
+    /// Example: `uses::fans_out`.
+    ///
+    /// ```text
+    /// jobs.spawner().spawn(3)?;
+    /// ```
+    pub fn spawner(&self) -> &Spawner<J, R>
+        ensures { result.now ≡ self.now.spawner }
+    {
+        &self.spawner
+    }
+}
+
+impl<J: Drop, R: Wait + Clone + Drop> Drop for Jobs<J, R> {
+    fn drop(self) {
+        let Jobs { spawner } = self;
+        spawner.desk.end_one();
+    }
+}
+
+/// An end for the owner, and as many servers as tasks may run at once, which this maker serves: each of them
+/// is to be spawned.
+///
+/// # Errors
+///
+/// `OutOfMemory` if memory is refused.
+///
+/// Example: `uses::fans_out`.
+///
+/// ```text
+/// let (jobs, servers) = servers(rt.clone()?, alloc, limits, Tree)?;
+/// ```
+pub fn servers<J, M, R>(
+    rt: R,
+    alloc: Global,
+    limits: JobLimits,
+    maker: M,
+) -> Result<(Jobs<J, R>, Vec<Server<J, M, R>>), OutOfMemory>
+where
+    J: Drop,
+    M: MakeTask<J, R>,
+    R: Wait + Clone + Drop,
+    requires tasks { 0 < limits.tasks }
+    requires room { IfSome limits.room (λ room. 0 < room) }
+    ensures count { IfOk result (λ made. vec_len made.1 ≡ limits.tasks) }
+{
+    let (sender, receiver) = match limits.room {
+        Some(room) => bounded(rt, alloc, room)?,
+        None => unbounded(rt, alloc)?,
+    };
+    let open = AtomicUsize::new(1);
+    let Ok(desk) = Arc::new(alloc, Desk { jobs: sender, open }) else {
+        return Err(OutOfMemory);
+    };
+    let Ok(maker) = Arc::new(alloc, maker) else {
+        return Err(OutOfMemory);
+    };
+    let jobs = Jobs {
+        spawner: Spawner { desk },
+    };
+    let mut servers = Vec::with_capacity(alloc, limits.tasks)?;
+    for made in 0..limits.tasks {
+        servers.push_reserved(Server::new(&receiver, &jobs.spawner, &maker)?);
+    }
+    Ok((jobs, servers))
+}

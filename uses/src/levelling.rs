@@ -1,0 +1,86 @@
+//! Two threads that run the tasks of all levels of urgency, each by one tick after another.
+use crate::common::added;
+use async_executor::{Future, Poll};
+use async_utilities::{Ready, Signal, ThreadWaker, Waiting, Zip, block_on, poll_until_ready};
+use priority_executor::PriorityExecutor;
+use std::alloc::Global;
+use std::sync::Wait;
+use std::thread::{self, Threads};
+
+type Levels<R> = PriorityExecutor<Ready<u64>, ThreadWaker, R, 2>;
+
+type Stopped<R> = Waiting<ThreadWaker, R>;
+
+// Runs a task, and parks while none is scheduled. Says whether the signal was set instead.
+fn ticks_or_stops<R: Wait + Clone + Drop + Send + Sync>(
+    rt: &R,
+    mine: &ThreadWaker,
+    executor: &Levels<R>,
+    stopped: &mut Stopped<R>,
+) -> Option<bool> {
+    let mut tick = executor.tick().ok()?;
+    Some(poll_until_ready(rt, mine, |w| {
+        if stopped.poll(w) == Poll::Ready(()) {
+            return Poll::Ready(true);
+        }
+        match tick.poll(w) {
+            Poll::Ready(()) => Poll::Ready(false),
+            Poll::Pending => Poll::Pending,
+        }
+    }))
+}
+
+// Runs tasks until the signal is set.
+fn serve<R: Wait + Clone + Drop + Send + Sync>(
+    rt: &R,
+    alloc: Global,
+    executor: &Levels<R>,
+    stopped: Stopped<R>,
+) -> Option<()> {
+    let mine = ThreadWaker::new(alloc).ok()?;
+    let mut stopped = stopped;
+    for _ in rt.forever() {
+        if ticks_or_stops(rt, &mine, executor, &mut stopped)? {
+            break;
+        }
+    }
+    Some(())
+}
+
+// Awaits a task of each level, and adds their outputs. The threads stop then.
+fn total<R: Wait + Clone + Drop + Send + Sync>(
+    rt: &R,
+    alloc: Global,
+    executor: &Levels<R>,
+    stop: &Signal<ThreadWaker, R>,
+) -> Option<u64> {
+    let later = executor.spawn(1, Ready::new(1)).ok();
+    let urgent = executor.spawn(0, Ready::new(2)).ok();
+    let both = match later.zip(urgent) {
+        Some((later, urgent)) => block_on(rt, alloc, Zip::new(later, urgent)).ok(),
+        None => None,
+    };
+    stop.set();
+    let (one, two) = both?;
+    added(one.ok().zip(two.ok()))
+}
+
+/// Has two threads run the tasks of two levels, and adds what those give on a third.
+pub fn serves_levels<R: Wait + Threads + Clone + Drop + Send + Sync>(
+    rt: &R,
+    alloc: Global,
+) -> Option<u64> {
+    let levels: Levels<R> = PriorityExecutor::new(rt.clone().ok()?, alloc).ok()?;
+    let stop = Signal::new(rt.clone().ok()?, alloc).ok()?;
+    let (one, two) = stop.waiting().ok().zip(stop.waiting().ok())?;
+    let executor = &levels;
+    thread::scope(thread::scope_env(), rt, |scope| {
+        let is_first = scope.spawn(move || serve(rt, alloc, executor, one)).is_ok();
+        let is_second = scope.spawn(move || serve(rt, alloc, executor, two)).is_ok();
+        if is_first || is_second {
+            total(rt, alloc, executor, &stop)
+        } else {
+            None
+        }
+    })
+}

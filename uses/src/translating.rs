@@ -1,0 +1,65 @@
+//! An `async fn` with a loop and two awaits, as a type with a poll.
+use async_executor::{Executor, Future, Poll, TaskWaker, Wake};
+use async_utilities::{NoopWaker, Receiver, Sender, ThreadWaker, bounded, run_until};
+use std::alloc::Global;
+use std::sync::Wait;
+
+// A poll passes so many numbers on at most: then it lets others of its thread go on.
+const TURN: usize = 16;
+
+/// Receives numbers, and sends the square of each, until either channel is closed. Gives how many it sent.
+#[derive(Drop)]
+struct Squares<R: Wait + Clone + Drop> {
+    numbers: Receiver<u64, NoopWaker, TaskWaker<ThreadWaker, R>, R>,
+    squares: Sender<u64, TaskWaker<ThreadWaker, R>, NoopWaker, R>,
+    unsent: Option<u64>,
+    sent: u64,
+}
+
+impl<R: Wait + Clone + Drop> Future<TaskWaker<ThreadWaker, R>> for Squares<R> {
+    type Output = u64;
+
+    fn poll(&mut self, w: &TaskWaker<ThreadWaker, R>) -> Poll<u64> {
+        for _ in 0..TURN {
+            if self.unsent.is_none() {
+                match self.numbers.poll_receive(w) {
+                    Poll::Ready(Some(number)) => self.unsent = Some(number.saturating_mul(number)),
+                    Poll::Ready(None) => return Poll::Ready(self.sent),
+                    Poll::Pending => return Poll::Pending,
+                }
+            }
+            match self.squares.poll_send(w, &mut self.unsent) {
+                Poll::Ready(Ok(())) => self.sent = self.sent.saturating_add(1),
+                Poll::Ready(Err(_)) => return Poll::Ready(self.sent),
+                Poll::Pending => return Poll::Pending,
+            }
+        }
+        w.wake();
+        Poll::Pending
+    }
+}
+
+/// Sends three numbers to a task, which sends the square of each. Gives how many it sent, and their sum.
+pub fn squares<R: Wait + Clone + Drop + Send + Sync>(rt: &R, alloc: Global) -> Option<(u64, u64)> {
+    let (sender, numbers) = bounded(rt.clone().ok()?, alloc, 4).ok()?;
+    let (squares, receiver) = bounded(rt.clone().ok()?, alloc, 4).ok()?;
+    for number in 1..4 {
+        sender.try_send(number).ok()?;
+    }
+    drop(sender);
+    let executor = Executor::new(rt.clone().ok()?, alloc).ok()?;
+    let task = executor
+        .spawn(Squares {
+            numbers,
+            squares,
+            unsent: None,
+            sent: 0,
+        })
+        .ok()?;
+    let sent = run_until(rt, alloc, &executor, task).ok()?.ok()?;
+    let mut sum = 0u64;
+    for _ in 0..sent {
+        sum = sum.saturating_add(receiver.try_receive().ok()?);
+    }
+    Some((sent, sum))
+}
