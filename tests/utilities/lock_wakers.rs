@@ -14,16 +14,18 @@ type Locks<R> = (
     Mutex<u64, TestWaker, R>,
     Event<TestWaker, R>,
     Barrier<TestWaker, R>,
+    TestWaker,
 );
 
-// A semaphore without permits, a mutex, an event and a barrier for two.
+// A semaphore without permits, a mutex, an event and a barrier for three, and a waker of who uses them.
 fn locks<R: AllocGlobal + Wait + Clone + Drop>(rt: &R) -> Result<Locks<R>, Fail> {
     let alloc = rt.alloc();
     Ok((
         Semaphore::new(rt.clone()?, alloc, 0)?,
         Mutex::new(rt.clone()?, alloc, 0)?,
         Event::new(rt.clone()?, alloc)?,
-        Barrier::new(rt.clone()?, alloc, 2)?,
+        Barrier::new(rt.clone()?, alloc, 3)?,
+        quiet(rt)?,
     ))
 }
 
@@ -41,11 +43,13 @@ fn quiet(rt: &impl AllocGlobal) -> Result<TestWaker, Fail> {
 
 // Takes the lock of each.
 fn uses<R: Wait + Drop>(locks: &Locks<R>) {
-    let (semaphore, mutex, event, barrier) = locks;
+    let (semaphore, mutex, event, barrier, waker) = locks;
     let _ = semaphore.permits();
     drop(mutex.try_lock());
     event.notify(0);
-    drop(barrier.wait());
+    if let Ok(mut wait) = barrier.wait() {
+        wait.poll(waker);
+    }
 }
 
 // Whether they can be used while another thread halts in this step.
@@ -161,9 +165,11 @@ fn while_the_last_at_a_barrier_wakes(rt: HostRuntime) -> Result<(), Fail> {
     let quiet = quiet(&rt)?;
     let locks = locks(&rt)?;
     let (mut first, mut second) = (locks.3.wait()?, locks.3.wait()?);
+    let mut last = locks.3.wait()?;
     first.poll(&waker);
+    second.poll(&quiet);
     assert!(rt; are_used(&rt, &halt, &locks, || {
-        second.poll(&quiet);
+        last.poll(&quiet);
     }));
     Ok(())
 }
@@ -224,5 +230,47 @@ fn while_a_waker_that_waits_is_replaced(rt: HostRuntime) -> Result<(), Fail> {
 #[test]
 fn while_a_waker_goes_with_one_that_waits(rt: HostRuntime) -> Result<(), Fail> {
     assert_eq!(rt; are_used_at(&rt, Moment::WakerDrop, true)?, [true; 4]);
+    Ok(())
+}
+
+// Polls of each while another thread gives what it waits for, between its first look and its second.
+#[test]
+fn what_comes_while_a_waker_is_copied_is_taken(rt: HostRuntime) -> Result<(), Fail> {
+    let locks = locks(&rt)?;
+    let (waker, halt) = halting(&rt, Moment::WakerCopy)?;
+    let guard = locks.1.try_lock();
+    let (mut acquire, mut lock) = (locks.0.acquire()?, locks.1.lock()?);
+    let (mut listener, mut wait) = (locks.2.listen()?, locks.3.wait()?);
+    let quiet = quiet(&rt)?;
+    let (mut before, mut other) = (locks.3.wait()?, locks.3.wait()?);
+    before.poll(&quiet);
+    let (are_ready, _other) = thread::join(
+        &rt,
+        || {
+            [
+                matches!(acquire.poll(&waker), executor_core::task::Poll::Ready(_)),
+                matches!(lock.poll(&waker), executor_core::task::Poll::Ready(_)),
+                matches!(listener.poll(&waker), executor_core::task::Poll::Ready(_)),
+                matches!(wait.poll(&waker), executor_core::task::Poll::Ready(_)),
+            ]
+        },
+        move || {
+            halt.await_other();
+            let _ = locks.0.add_permits(1);
+            halt.release();
+            halt.await_other();
+            drop(guard);
+            halt.release();
+            halt.await_other();
+            locks.2.notify(1);
+            halt.release();
+            halt.await_other();
+            other.poll(&quiet);
+            halt.open();
+            // One that goes before the round is over has not come.
+            other
+        },
+    );
+    assert_eq!(rt; are_ready, [true; 4]);
     Ok(())
 }
