@@ -28,7 +28,7 @@ pub mod timing;
 pub mod waking;
 
 use busy::Busy;
-use rows::{ROWS, Row};
+use rows::Row;
 use std::alloc::Global;
 use std::io;
 use std::process::ExitCode;
@@ -50,13 +50,7 @@ fn main(rt: HostRuntime) -> io::Result<ExitCode> {
         return print_counts(&rt, alloc);
     };
     if name.as_str() == "list" {
-        for (name, _) in ROWS {
-            println!(rt; "{name}")?;
-        }
-        for row in Busy::all(alloc)? {
-            println!(rt; "{row}")?;
-        }
-        return Ok(ExitCode::SUCCESS);
+        return print_names(&rt, alloc);
     }
     let operations = number_or(args.next(), SMALL);
     let runs = number_or(args.next(), RUNS);
@@ -83,11 +77,27 @@ fn refused(rt: &impl Print, name: &str) -> io::Result<ExitCode> {
     Ok(ExitCode::FAILURE)
 }
 
+fn print_names(rt: &impl Print, alloc: Global) -> io::Result<ExitCode> {
+    for place in 0..usize::MAX {
+        let Some((name, _)) = Row::at(place) else {
+            break;
+        };
+        println!(rt; "{name}")?;
+    }
+    for row in Busy::all(alloc)? {
+        println!(rt; "{row}")?;
+    }
+    Ok(ExitCode::SUCCESS)
+}
+
 fn print_counts<R: Wait + Clone + Drop + Send + Sync + Threads + Clock + Print>(
     rt: &R,
     alloc: Global,
 ) -> io::Result<ExitCode> {
-    for (name, row) in ROWS {
+    for place in 0..usize::MAX {
+        let Some((name, row)) = Row::at(place) else {
+            break;
+        };
         let Some(ran) = row.small().run(rt, alloc, SMALL) else {
             return refused(rt, name);
         };

@@ -126,7 +126,7 @@ pub enum Staying {
 }
 
 /// Each row whose tasks do not work, with its name on the command line.
-pub const ROWS: [(&str, Row); 105] = [
+const ROWS: [(&str, Row); 105] = [
     ("spawn_try_tick", Row::SpawnTryTick),
     ("spawn_drain", Row::SpawnDrain),
     ("yield_try_tick", Row::YieldTryTick),
@@ -322,6 +322,11 @@ impl Staying {
 }
 
 impl Row {
+    /// The row at this place, and its name. Those of `Busy` have no place.
+    pub fn at(place: usize) -> Option<(&'static str, Row)> {
+        ROWS.get(place).copied()
+    }
+
     /// The row of this name.
     pub fn from_name(name: &str) -> Option<Row> {
         for (known, row) in ROWS {

@@ -95,8 +95,22 @@ fn has_worked(seed: u64, steps: u32) -> bool {
     word != 0
 }
 
+// An executor with so many shards, of which there has to be one.
+fn executor<F, W, R>(rt: &R, alloc: Global, shards: usize) -> Option<ShardedExecutor<F, W, R>>
+where
+    F: Future<TaskWaker<W, R>> + Send,
+    F::Output: Send,
+    W: Wake + Send,
+    R: Wait + Clone + Drop + Send + Sync,
+{
+    if shards == 0 {
+        return None;
+    }
+    ShardedExecutor::new(rt.clone().ok()?, alloc, shards).ok()
+}
+
 // Spawns so many tasks on the shard of this number, and polls its run until every thread has spawned and
-// all shards are empty.
+// all shards are empty. `None` if there is no such shard, or memory is refused.
 fn run_all<R: Wait + Clone + Drop + Send + Sync>(
     rt: &R,
     ex: &ShardedExecutor<Yields, IdleShard, R>,
@@ -104,6 +118,9 @@ fn run_all<R: Wait + Clone + Drop + Send + Sync>(
     spawns: u64,
     begun: &AtomicU64,
 ) -> Option<()> {
+    if number >= ex.shards() {
+        return None;
+    }
     let shard = ex.shard(number);
     for _ in 0..spawns {
         shard.spawn(Yields::READY).ok()?.detach();
@@ -141,7 +158,7 @@ fn yields<R: Wait + Clone + Drop + Send + Sync + Threads>(
     threads: usize,
     operations: u64,
 ) -> Option<u64> {
-    let ex = ShardedExecutor::new(rt.clone().ok()?, alloc, threads).ok()?;
+    let ex = executor(rt, alloc, threads)?;
     let each = operations.saturating_sub(1) / TASKS;
     for _ in 0..TASKS {
         ex.spawn(Yields::after(each)).ok()?.detach();
@@ -156,7 +173,7 @@ fn spawns<R: Wait + Clone + Drop + Send + Sync + Threads>(
     threads: usize,
     operations: u64,
 ) -> Option<u64> {
-    let ex = ShardedExecutor::new(rt.clone().ok()?, alloc, threads).ok()?;
+    let ex = executor(rt, alloc, threads)?;
     let each = operations / threads as u64;
     on_threads(rt, &ex, each)?;
     Some(each.saturating_mul(threads as u64))
@@ -168,7 +185,7 @@ fn cycles<R: Wait + Clone + Drop + Send + Sync>(
     shards: usize,
     operations: u64,
 ) -> Option<u64> {
-    let ex = ShardedExecutor::new(rt.clone().ok()?, alloc, shards).ok()?;
+    let ex = executor(rt, alloc, shards)?;
     let mut run = ex.run(0, Never).ok()?;
     run.poll(&IdleShard);
     for _ in 0..operations {
@@ -279,6 +296,9 @@ fn beside_runs<R: Wait + Clone + Drop + Send + Sync + Threads + Clock>(
 ) -> Option<Ran> {
     let stop = Stop::new(alloc, threads)?;
     let left = Left::new(alloc, work.tasks()).ok()?;
+    if threads == 0 {
+        return None;
+    }
     let ex: Shards<'_, R> = ShardedExecutor::new(rt.clone().ok()?, alloc, threads).ok()?;
     let mut runs = Vec::new(alloc);
     for number in 0..threads {
