@@ -52,7 +52,7 @@ is_there() {
         [A-Z]*::[a-z]*) stands "fn ${1#*::}\b" ;;
         [A-Z]*) stands "(struct|enum|trait|type|const) $1\b" || stands "^ +$1(\(|,| \{|$)" ;;
         *) [ -d "$1" ] || stands "(fn|mod|ensures|pub|ghost) $1\b" || stands "codes \"$1\"" || grep -qw "$1" crates.txt ||
-            grep -q "^$1 " bench/stdout ;;
+            grep -q "^$1 " bench/stdout || [ -n "$(find checks -name "$1.edit")" ] ;;
     esac
 }
 
@@ -105,7 +105,7 @@ block "$calling" text "## Contracts" | sed -n 's/^  \(ensures\|requires\)\( [a-z
 sed 's/^ *//; s/[;,]$//' "$copy/clauses" | grep -Fxf "$copy/said" | sort -u > "$copy/wanted"
 same "CALLING.md, the clauses and the sources"
 
-for page in README.md docs/PROVED.md docs/ARCHITECTURE.md docs/MEASURED.md "$calling"; do
+for page in README.md docs/PROVED.md docs/ARCHITECTURE.md docs/BUGS.md docs/MEASURED.md "$calling"; do
     quoted "$page" | while read -r word; do
         is_there "$word" || echo "$word"
     done > "$copy/log"
@@ -202,6 +202,14 @@ sed -n '/^## One interleaving/,/^## /s/^| `\([^`]*\)` | `\([^`]*\)` |.*/\1\t\2/p
 cut -f2 "$copy/rows" > "$copy/said"
 cut -f1 "$copy/rows" | run_exsim > "$copy/wanted"
 same "EXSIM.md, the worked interleaving"
+
+# Each block of BUGS.md has lines for a new world, each with its reply behind two spaces or more.
+awk -v dir="$copy" '/^```text$/ { file = dir "/block." ++count; next } /^```$/ { file = "" } file { print > file }' docs/BUGS.md
+for block in "$copy"/block.*; do
+    sed 's/.*  //' "$block" > "$copy/said"
+    sed 's/  .*//' "$block" | run_exsim > "$copy/wanted"
+    same "BUGS.md, block ${block##*.} of exsim"
+done
 
 sed -n 's/^bench | \([a-z0-9_]*\) .*/\1/p' docs/figures.txt | sort > "$copy/said"
 cut -d' ' -f1 bench/stdout | grep -Fxf "$copy/said" | sort > "$copy/wanted"
