@@ -100,7 +100,7 @@ judge() {
 set -- $(edits_of wrong_bodies | xargs grep -l '^replay: ')
 lay_out "$@"
 # The most that a run of all these programs may take, and one of exsim.
-seconds=$((60 + storms / 5))
+seconds=$((300 + storms / 5))
 replay
 judge_right
 judge "$@"
