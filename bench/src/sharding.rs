@@ -174,7 +174,7 @@ fn spawns<R: Wait + Clone + Drop + Send + Sync + Threads>(
     operations: u64,
 ) -> Option<u64> {
     let ex = executor(rt, alloc, threads)?;
-    let each = operations / threads as u64;
+    let each = operations.checked_div(threads as u64).unwrap_or(0);
     on_threads(rt, &ex, each)?;
     Some(each.saturating_mul(threads as u64))
 }
