@@ -9,14 +9,14 @@ const TURN: usize = 16;
 
 /// Receives numbers, and sends the square of each, until either channel is closed. Gives how many it sent.
 #[derive(Drop)]
-struct Squares<R: Wait + Clone + Drop> {
+struct Squaring<R: Wait + Clone + Drop> {
     numbers: Receiver<u64, NoopWaker, TaskWaker<ThreadWaker, R>, R>,
     squares: Sender<u64, TaskWaker<ThreadWaker, R>, NoopWaker, R>,
     unsent: Option<u64>,
     sent: u64,
 }
 
-impl<R: Wait + Clone + Drop> Future<TaskWaker<ThreadWaker, R>> for Squares<R> {
+impl<R: Wait + Clone + Drop> Future<TaskWaker<ThreadWaker, R>> for Squaring<R> {
     type Output = u64;
 
     fn poll(&mut self, w: &TaskWaker<ThreadWaker, R>) -> Poll<u64> {
@@ -49,7 +49,7 @@ pub fn squares<R: Wait + Clone + Drop + Send + Sync>(rt: &R, alloc: Global) -> O
     drop(sender);
     let executor = Executor::new(rt.clone().ok()?, alloc).ok()?;
     let task = executor
-        .spawn(Squares {
+        .spawn(Squaring {
             numbers,
             squares,
             unsent: None,
