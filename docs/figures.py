@@ -65,28 +65,40 @@ def page(text, found):
     )
 
 
+# Where the names of the rows end, how long a bar is that takes as many instructions as the Rust crate,
+# and where the two columns of figures end.
+NAMES = 208
+SAME = 290
+COLUMNS = (716, 790)
+
+
 def chart(found):
     """The rows of the benchmark as bars, each as a part of the same row of the Rust crate."""
     rows = [row for row in found["bench"] if row[3].isdigit()]
-    scale = 460 / max(1, *(int(ours) / int(theirs) for _, _, ours, theirs, _ in rows))
-    height = 70 + 22 * len(rows)
-    all_of_it = round(160 + scale, 1)
+    height = 84 + 22 * len(rows)
+    same = NAMES + 8 + SAME
+    said = " ".join(f"{name}: {ours}, the Rust crate {theirs}." for name, _, ours, theirs, _ in rows)
     lines = [
-        f'<svg xmlns="http://www.w3.org/2000/svg" width="720" height="{height}" '
-        'font-family="sans-serif" font-size="13">',
-        "<title>Instructions an operation, beside the Rust crate: fewer is better</title>",
-        f'<rect width="720" height="{height}" fill="white"/>',
-        '<text x="10" y="22">Instructions an operation, here and in the Rust crate, which the line stands '
-        "for: fewer is better</text>",
-        f'<line x1="{all_of_it:g}" y1="34" x2="{all_of_it:g}" y2="{height - 14}" stroke="#b8bec6" stroke-width="3"/>',
+        f'<svg xmlns="http://www.w3.org/2000/svg" width="800" height="{height}" viewBox="0 0 800 {height}" '
+        'role="img" aria-labelledby="title description" font-family="sans-serif" font-size="13">',
+        '<title id="title">Instructions an operation, beside the Rust crate: fewer is better</title>',
+        f'<desc id="description">{said}</desc>',
+        throughput.STYLE,
+        f'<rect class="ground" width="800" height="{height}"/>',
+        '<text x="10" y="22" font-size="15">Instructions an operation: fewer is better</text>',
+        f'<text x="{same}" y="48" text-anchor="middle">as many as the Rust crate</text>',
+        f'<text x="{COLUMNS[0]}" y="48" text-anchor="end">here</text>',
+        f'<text x="{COLUMNS[1]}" y="48" text-anchor="end">Rust crate</text>',
+        f'<line x1="{same}" y1="56" x2="{same}" y2="{height - 10}" stroke="#8b949e" stroke-width="2"/>',
     ]
     for place, (name, _, ours, theirs, _) in enumerate(rows):
-        top = 42 + 22 * place
-        width = round(scale * int(ours) / int(theirs), 1)
+        top = 62 + 22 * place
+        width = round(SAME * int(ours) / int(theirs), 1)
         lines += [
-            f'<text x="152" y="{top + 12}" text-anchor="end">{name}</text>',
-            f'<rect x="160" y="{top}" width="{width:g}" height="15" fill="#1f5fa8"/>',
-            f'<text x="{160 + width + 6:g}" y="{top + 12}">{ours} to {theirs}</text>',
+            f'<text x="{NAMES}" y="{top + 12}" text-anchor="end">{name}</text>',
+            f'<rect x="{NAMES + 8}" y="{top}" width="{width:g}" height="15" fill="#3b7dc4"/>',
+            f'<text x="{COLUMNS[0]}" y="{top + 12}" text-anchor="end">{ours}</text>',
+            f'<text x="{COLUMNS[1]}" y="{top + 12}" text-anchor="end">{theirs}</text>',
         ]
     return "\n".join(lines + ["</svg>", ""])
 

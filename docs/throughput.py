@@ -16,6 +16,11 @@ DRAWN = (
     ("the Rust crate", "rust", "#b8500f", "7 4", '<rect x="{x0:g}" y="{y0:g}" width="8" height="8"/>'),
     ("tokio 1.24", "tokio", "#3c7a3c", "2 4", '<path d="M{x:g} {y0:g}l5 9h-10z"/>'),
 )
+# What text and ground look like in a light and in a dark page.
+STYLE = (
+    "<style>text{fill:#1f2328}.ground{fill:#ffffff}"
+    "@media(prefers-color-scheme:dark){text{fill:#e6edf3}.ground{fill:#0d1117}}</style>"
+)
 WIDTH = 720
 LEFT = 70
 # Between two amounts of work, and for one processor.
@@ -181,7 +186,8 @@ def picture(found):
             'role="img" aria-labelledby="title description" font-family="sans-serif" font-size="14">',
             f'<title id="title">{title}</title>',
             f'<desc id="description">{description(works, all_worth)}</desc>',
-            f'<rect width="{WIDTH}" height="{height}" fill="white"/>',
+            STYLE,
+            f'<rect class="ground" width="{WIDTH}" height="{height}"/>',
             f'<text x="10" y="22" font-size="15">{title}</text>',
             '<text x="10" y="42" font-size="12">Each task wakes itself in each poll. The runs park while there is '
             "nothing to run. Medians.</text>",
