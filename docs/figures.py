@@ -26,6 +26,7 @@ HEADS = {
     "threads": ("row, on T threads", "one operation", "T", "nanoseconds", "the Rust crate"),
     "busy": ("work in a poll, nanoseconds", "runs that never park", "the Rust crate"),
     "parked_busy": ("work in a poll, nanoseconds", "runs that park", "the Rust crate", "tokio 1.24"),
+    "shards": ("row", "one operation", "T", "shards", "one executor", "the Rust crate", "tokio 1.24"),
     "exsim": ("lines", "milliseconds", "million instructions", "peak memory, MB"),
 }
 CODE = {"time", "bench"}

@@ -85,12 +85,12 @@ impl<W: Wake, R: Wait + Clone + Drop> Future<TaskWaker<W, R>> for Works<'_> {
     }
 }
 
-// Goes so many steps of a chain, in which each waits for the one before. Its end is never 0, which the
-// compiler does not know.
+// Goes so many steps of a chain, in which each waits for the one before. Each step takes no other number
+// than 0 to 0, so its end is never 0, which the compiler does not know.
 fn has_worked(seed: u64, steps: u32) -> bool {
     let mut word = seed | 1;
     for _ in 0..steps {
-        word = (word ^ (word >> 29)).wrapping_mul(0x9E37_79B9_7F4A_7C15) | 1;
+        word = (word ^ (word >> 29)).wrapping_mul(0x9E37_79B9_7F4A_7C15);
     }
     word != 0
 }
