@@ -11,9 +11,13 @@
 # Each edit of checks/wrong_bodies with a line 'replay: CHECK PROGRAM LINE' has to be refused by this check in
 # this program at this line of its log. All of them are built together with the right bodies, unproved.
 #
+# Each execution of the right bodies that differs is drawn around its first difference.
+#
 # Runs beside the gate.
 # Usage: checks/replay.sh [STORMS [SEED]], anywhere: so many programs on four threads, from this seed on. LOG
-# names a file that gets the logs. RT names the command rt. Its last line counts the executions and the edits.
+# names a file that gets the logs. PICTURES names a folder that gets the pictures, also one of the first
+# execution of each wrong body that is refused; without it, a new folder has those of the right bodies. RT names
+# the command rt. Its last line counts the executions and the edits.
 set -eu
 . "$(dirname "$0")/lib/edits"
 . "$top/checks/lib/builds"
@@ -66,6 +70,12 @@ replay() {
     python3 -B "$top/checks/lib/replay.py" compare "$copy/executions" "$copy/log" > "$copy/said"
 }
 
+# Draws the executions that differ, whose names begin so, into a folder, and prints the names of the files.
+draw() {
+    mkdir -p "$2"
+    python3 -B "$top/checks/lib/portray.py" differences "$copy/recorded" "$copy/said" "$2" "$1"
+}
+
 # Says whether both checks pass each execution of the right bodies, as they must.
 judge_right() {
     executions=$((fixed + 2 * alone + storms))
@@ -74,6 +84,7 @@ judge_right() {
     [ "$right" = $executions ] || {
         fail "$((executions - right)) of $executions executions are refused:"
         awk '/^[0-9]+\./ { is_right = /^0\./ && !/: [0-9]+ steps$/ } is_right' "$copy/said"
+        draw 0. "${PICTURES:-$(mktemp -d)}"
         grep -A 5 '^== none$' "$copy/programs" || cat "$copy/programs"
     }
     grep -E '^ *[0-9,]+ |^never: ' "$copy/said" || :
@@ -102,6 +113,7 @@ lay_out "$@"
 # The most that a run of all these programs may take, and one of exsim.
 seconds=$((300 + storms / 5))
 replay
+[ -z "${PICTURES:-}" ] || draw '' "$PICTURES"
 judge_right
 judge "$@"
 count

@@ -4,16 +4,25 @@ A bar is a poll of a task, or the drop of its future, in the colour of the task.
 shared, with its reply. A thin arrow goes from the step that queued a task to its take by another thread, and
 a thick one from the notification of a sleeper to its next step. Below stand how many tasks are in the queues
 together, and how many sleepers have numbers. The text that a screen reader reads has each step.
-Usage: portray.py LOG NAME [FROM TO], for the execution NAME of a log of checks/replay.sh, as 0.fixed_3, from
-one of its lines to another. It prints the picture.
+Usage: portray.py window LOG NAME [FROM TO], for the execution NAME of a log of checks/replay.sh, as 0.fixed_3,
+from one of its lines to another. It prints the picture.
+portray.py differences LOG SAID FOLDER PREFIX draws each execution of the log whose name begins with PREFIX
+and of which SAID, what checks/lib/replay.py compares, says at which line it differs: from 40 steps before
+that line, which is marked, to 15 behind it. Of each wrong body it draws the first. It prints the names of the
+files.
 """
+import re
 import sys
 from html import escape
 
-from recorded import executions, walk
+from recorded import Refused, executions, walk
 from world_steps import steps_of
 
 WIDTH, LEFT, LANE, BAR, BELOW = 1000, 76, 148, 18, 60
+# How many steps are drawn before the first difference, and behind it.
+BEFORE, BEHIND = 40, 15
+# So many characters of a text fit into a line.
+MOST_SAID = 165
 STYLE = """
   text { font: 11px system-ui, sans-serif; fill: #1f2328 }
   .small { font-size: 10px }
@@ -25,6 +34,8 @@ STYLE = """
   .sleepers { fill: none; stroke: #b35900; stroke-width: 2 }
   .asleep { fill: #b35900 }
   .back { fill: #ffffff }
+  .fault { stroke: #cf222e; stroke-width: 2; stroke-dasharray: 5 3 }
+  .why { fill: #cf222e }
   @media (prefers-color-scheme: dark) {
     text { fill: #e6edf3 }
     .step { stroke: #e6edf3 }
@@ -32,6 +43,8 @@ STYLE = """
     .wakes, .sleepers { stroke: #f0883e }
     .length { fill: #274a78 }
     .back { fill: #0d1117 }
+    .fault { stroke: #ff7b72 }
+    .why { fill: #ff7b72 }
     .asleep { fill: #f0883e }
     .bar { filter: brightness(0.62) }
   }
@@ -43,7 +56,8 @@ class Picture:
 
     def __init__(self, lines, first, last):
         self.lines = {line.at: line for line in lines}
-        self.steps = [(at, step, reply) for at, step, reply in steps_of(lines) if first <= at <= last]
+        self.all_steps = steps_in(lines)
+        self.steps = [step for step in self.all_steps if first <= step[0] <= last]
         self.lanes = sorted({self.lines[at].thread for at, _, _ in self.steps})
         self.by = (WIDTH - LEFT - 12) / max(1, len(self.steps))
         self.drawn, self.said = [], []
@@ -124,12 +138,20 @@ class Picture:
     def thread(self, place):
         return self.lines[self.steps[place][0]].thread
 
-    def draw_lengths(self, before):
+    def draw_fault(self, at, why):
+        """Marks the line that differs, and says why."""
+        x = self.x_of_line(at)
+        self.draw(f'<line class="fault" x1="{x:.1f}" y1="18" x2="{x:.1f}" y2="{self.height - 16}"/>')
+        said = why if len(why) <= MOST_SAID else f"{why[:MOST_SAID]}.."
+        self.draw(f'<text class="why" x="8" y="13">{escape(said)}</text>')
+        self.said.append(f"It differs: {why}")
+
+    def draw_lengths(self):
         """How many tasks are queued and how many sleepers there are, after each step of these."""
         base, queued, sleepers, path = self.height - 16, 0, 0, []
         shown = {at for at, _, _ in self.steps}
         lengths = []
-        for at, step, reply in before:
+        for at, step, reply in self.all_steps:
             queued += change_of_queues(step, reply)
             sleepers += (reply.startswith("number ")) - (reply in ("notified", "unnotified"))
             if at in shown:
@@ -170,20 +192,61 @@ def change_of_queues(step, reply):
     return -1 if said in ("poll", "drop") and word in ("search", "trytick", "tryany", "drain") else 0
 
 
-def main(log, name, first=0, last=10**9):
+def steps_in(lines):
+    """The steps of these lines, or of those before the first that is no step of a world."""
+    try:
+        return steps_of(lines)
+    except Refused as why:
+        return steps_in(lines[: why.at])
+
+
+def picture_of(execution, first, last, fault=None):
+    """The picture of a window of an execution, with its fault: the line, and why."""
+    picture = Picture(execution.lines, first, last)
+    picture.draw_lanes()
+    picture.draw_polls(execution.lines, first, last)
+    picture.draw_passing()
+    picture.draw_steps()
+    picture.draw_lengths()
+    if fault:
+        picture.draw_fault(*fault)
+    return picture.text(execution.name)
+
+
+def draw_window(log, name, first=0, last=10**9):
     for execution in executions(log):
         if execution.name == name:
-            lines, first, last = execution.lines, int(first), int(last)
-            picture = Picture(lines, first, last)
-            picture.draw_lanes()
-            picture.draw_polls(lines, first, last)
-            picture.draw_steps()
-            picture.draw_passing()
-            picture.draw_lengths(steps_of(lines))
-            print(picture.text(name))
+            print(picture_of(execution, int(first), int(last)))
             return
     sys.exit(f"no execution {name}")
 
 
+def faults_in(said, prefix):
+    """For each execution that is drawn, what is said of its first difference."""
+    faults, drawn = {}, set()
+    with open(said) as file:
+        for text in file:
+            found = re.match(r"((\d+)\.\w+): (?:steps|calls), (line (\d+|end): .*)", text)
+            if found and found[1].startswith(prefix) and found[2] not in drawn:
+                faults.setdefault(found[1], (found[4], f"{found[1]}, {found[3]}"))
+                drawn |= {found[2]} - {"0"}
+    return faults
+
+
+def draw_differences(log, said, folder, prefix):
+    faults = faults_in(said, prefix)
+    for execution in executions(log):
+        if execution.name in faults:
+            line, why = faults[execution.name]
+            at = len(execution.lines) if line == "end" else int(line)
+            steps = [step for step, _, _ in steps_in(execution.lines)] or [0]
+            before = sum(1 for step in steps if step < at)
+            first, last = steps[max(0, before - BEFORE)], steps[min(len(steps), before + BEHIND) - 1]
+            path = f"{folder}/{execution.name}.svg"
+            with open(path, "w") as file:
+                file.write(f"{picture_of(execution, first, max(at, last), (at, why))}\n")
+            print(path)
+
+
 if __name__ == "__main__":
-    main(*sys.argv[1:])
+    {"window": draw_window, "differences": draw_differences}[sys.argv[1]](*sys.argv[2:])
