@@ -22,7 +22,7 @@ set -eu
 . "$(dirname "$0")/lib/edits"
 . "$top/checks/lib/builds"
 recorder=$top/checks/recorder
-fixed=6
+fixed=7
 alone=10
 storms=${1:-150}
 seed=${2:-1}

@@ -25,7 +25,7 @@ fn main(rt: HostRuntime) -> Result<(), Fail> {
     let (alone, locally, storms) = if chosen() == 0 { (alone, alone, storms) } else { (1, 0, 0) };
     for (number, program) in Fixed::ALL.into_iter().enumerate() {
         fixed::take(&rt, program)?;
-        end(Kind::Fixed, number as u64, Ending::Closed)?;
+        end(Kind::Fixed, number as u64, program.ending())?;
     }
     for number in 0..alone {
         let program = Program::new(number, rt.alloc())?.alone(rt.alloc())?;
