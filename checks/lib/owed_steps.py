@@ -57,7 +57,7 @@ OWED = {
     "Wake": f"w|W{NEWS}",
     "TryTick": f"t|T{NEWS}{OVER}",
     "TryAny": f"0|1{NEWS}{OVER}",
-    "PollHandle": "h|H",
+    "PollHandle": "h|H|K",
     "Cancel": f"c|C{NEWS}",
     "Detach": "H",
     "DropHandle": f"g|G{NEWS}|H",
@@ -170,6 +170,8 @@ def check_calls(lines, end):
             owed.lent.add(line.of)
         elif line.word == "CallFuture":
             owed.lent.discard(line.of)
+        elif line.word == "Limits":
+            continue
         elif line.word == "End":
             owed.end(frame, outer, line.at)
             if frame.word in GOES.values():

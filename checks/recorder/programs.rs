@@ -3,7 +3,8 @@
 //!
 //! Its arguments are how many random programs one thread takes, on an executor that threads share and on a
 //! local one, how many four threads take, and the seed of the first of these. With a wrong body it takes the
-//! first one of one thread, and none of four.
+//! first one of one thread, and none of four. Of four random programs, one has queues with room for few tasks,
+//! and another one has copies of wakers refused.
 #![tactic(auto)]
 
 mod fixed;
@@ -28,21 +29,33 @@ fn main(rt: HostRuntime) -> Result<(), Fail> {
         end(Kind::Fixed, number as u64, program.ending())?;
     }
     for number in 0..alone {
+        restrict(number);
         let program = Program::new(number, rt.alloc())?.alone(rt.alloc())?;
         let wrong = tried(&rt, &program)?;
         end(Kind::Alone, number, ending_of(&program, wrong))?;
     }
     for number in 0..locally {
+        restrict(number);
         let program = Program::new(number, rt.alloc())?.alone(rt.alloc())?;
         let wrong = tried_locally(&rt, &program)?;
         end(Kind::Local, number, ending_of(&program, wrong))?;
     }
     for number in seed..seed.saturating_add(storms) {
+        restrict(number);
         let program = Program::new(number, rt.alloc())?;
         let wrong = tried(&rt, &program)?;
         end(Kind::Storm, number, ending_of(&program, wrong))?;
     }
     Ok(())
+}
+
+// Restricts the random program of this number, if it is one that is.
+fn restrict(number: u64) {
+    match number % 4 {
+        2 => recorder::restrict(0, 3),
+        3 => recorder::restrict(5, 0),
+        _ => recorder::restrict(0, 0),
+    }
 }
 
 // How a random program ended.

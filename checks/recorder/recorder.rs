@@ -7,6 +7,7 @@ mod cells;
 mod flag;
 mod list;
 
+use crate::limits::Limits;
 use crate::sleepers::Sleepers;
 use crate::task::Cells;
 
@@ -22,6 +23,12 @@ unsafe extern "C" {
     safe fn is_halted() -> u32;
 
     safe fn let_go_on();
+
+    safe fn restrict_programs(each: u64, places: u64);
+
+    safe fn is_copy_refused() -> u32;
+
+    safe fn room_of_queues() -> u64;
 
     safe fn print_log(kind: u32, number: u64, ending: u32) -> u32;
 }
@@ -87,6 +94,7 @@ pub enum Word {
     Notify,
     ShowQueued,
     Show,
+    Limits,
     Made,
     LetGo,
 }
@@ -191,6 +199,31 @@ pub fn has_halted() -> bool {
 /// Lets those go on that halt.
 pub fn go_on() {
     let_go_on();
+}
+
+/// From now on each copy of a waker is refused whose number this one divides, or none if it is 0, and
+/// executors have queues for so many tasks, with short turns, or the usual limits if that is 0.
+pub fn restrict(each: u64, places: u64) {
+    restrict_programs(each, places);
+}
+
+/// Whether this copy of a waker is to be refused.
+pub fn refuses_copy() -> bool {
+    is_copy_refused() != 0
+}
+
+/// The limits of the next executor, which are written down if they are not the usual ones.
+pub fn limits() -> Limits {
+    let places = room_of_queues();
+    if places == 0 {
+        return Limits::default();
+    }
+    say(Word::Limits, places);
+    Limits {
+        local: places as usize,
+        turn: 7,
+        fair: 3,
+    }
 }
 
 /// What kind of program was taken.
