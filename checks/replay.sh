@@ -16,8 +16,8 @@
 # Runs beside the gate.
 # Usage: checks/replay.sh [STORMS [SEED]], anywhere: so many programs on four threads, from this seed on. LOG
 # names a file that gets the logs. PICTURES names a folder that gets the pictures, also one of the first
-# execution of each wrong body that is refused; without it, a new folder has those of the right bodies. RT names
-# the command rt. Its last line counts the executions and the edits.
+# execution of each wrong body that is refused; without it, a new folder has those of the right bodies. RT
+# names the command rt. Its last line counts the executions and the edits.
 set -eu
 . "$(dirname "$0")/lib/edits"
 . "$top/checks/lib/builds"

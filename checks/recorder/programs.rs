@@ -3,8 +3,8 @@
 //!
 //! Its arguments are how many random programs one thread takes, on an executor that threads share and on a
 //! local one, how many four threads take, and the seed of the first of these. With a wrong body it takes the
-//! first one of one thread, and none of four. Of four random programs, one has queues with room for few tasks,
-//! and another one has copies of wakers refused.
+//! first one of one thread, and none of four. Of four random programs, one has queues with room for few
+//! tasks, and another one has copies of wakers refused.
 #![tactic(auto)]
 
 mod fixed;

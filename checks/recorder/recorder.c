@@ -48,8 +48,8 @@ unsigned is_halted(void) { return load(&halts) > load(&released); }
 // Lets those go on that halt.
 void let_go_on(void) { __atomic_store_n(&released, load(&halts), __ATOMIC_SEQ_CST); }
 
-// From now on each copy of a waker is refused whose number this one divides, or none if it is 0, and executors
-// have queues for so many tasks, or for the usual number if that is 0.
+// From now on each copy of a waker is refused whose number this one divides, or none if it is 0, and
+// executors have queues for so many tasks, or for the usual number if that is 0.
 void restrict_programs(number each, number places) {
     refused_each = each;
     asked = 0;
