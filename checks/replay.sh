@@ -24,6 +24,7 @@ set -eu
 recorder=$top/checks/recorder
 fixed=7
 alone=10
+at_once=4
 storms=${1:-150}
 seed=${2:-1}
 
@@ -59,7 +60,7 @@ lay_out() {
 replay() {
     exec 9> "$copy/recorded"
     try recorded src/main.rt --link "$copy/recorder.o" --cases "$copy/cases" \
-        --arg $alone --arg "$storms" --arg "$seed"
+        --arg $alone --arg $at_once --arg "$storms" --arg "$seed"
     exec 9>&-
     mv "$copy/log" "$copy/programs"
     [ -z "${LOG:-}" ] || cp "$copy/recorded" "$LOG"
@@ -78,7 +79,7 @@ draw() {
 
 # Says whether both checks pass each execution of the right bodies, as they must.
 judge_right() {
-    executions=$((fixed + 2 * alone + storms))
+    executions=$((fixed + 2 * alone + 4 * at_once + storms))
     right=$(grep -cE '^0\.[a-z]+_[0-9]+: [0-9]+ steps$' "$copy/said" || :)
     passed=$((passed + right))
     [ "$right" = $executions ] || {

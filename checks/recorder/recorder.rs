@@ -97,6 +97,7 @@ pub enum Word {
     Limits,
     Made,
     LetGo,
+    Ending,
 }
 
 /// What a step answered.
@@ -226,13 +227,15 @@ pub fn limits() -> Limits {
     }
 }
 
-/// What kind of program was taken.
+/// What kind of program was taken. Of the last kind, each thread takes one of its own at the same time, and
+/// says behind it which it was and how it ended.
 #[derive(Clone, Copy)]
 pub enum Kind {
     Fixed,
     Alone,
     Local,
     Storm,
+    Locals,
 }
 
 /// How a program ended: its executor was closed or leaked, or what it found at its end is wrong.
@@ -241,6 +244,11 @@ pub enum Ending {
     Closed,
     Leaked,
     Wrong,
+}
+
+/// Says that this thread's program of this number ended so.
+pub fn say_ending(number: u64, ending: Ending) {
+    step(Word::Ending, number, Answer::Done, ending as u64);
 }
 
 /// Prints the log of the program of this kind and number, and begins a new one. It says whether there was
