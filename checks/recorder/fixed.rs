@@ -43,6 +43,11 @@ impl Fixed {
         Fixed::Leak,
     ];
 
+    /// Whether it has as many steps as all others together.
+    pub fn is_long(self) -> bool {
+        matches!(self, Fixed::Turn)
+    }
+
     /// How it ends, if nothing is wrong.
     pub fn ending(self) -> Ending {
         match self {
