@@ -11,15 +11,20 @@
 # Each edit of checks/wrong_bodies with a line 'replay: CHECK PROGRAM LINE' has to be refused by this check in
 # this program at this line of its log. All of them are built together with the right bodies, unproved.
 #
+# Each execution of the right bodies that differs is drawn around its first difference.
+#
 # Runs beside the gate.
 # Usage: checks/replay.sh [STORMS [SEED]], anywhere: so many programs on four threads, from this seed on. LOG
-# names a file that gets the logs. RT names the command rt. Its last line counts the executions and the edits.
+# names a file that gets the logs. PICTURES names a folder that gets the pictures, also one of the first
+# execution of each wrong body that is refused; without it, a new folder has those of the right bodies. RT
+# names the command rt. Its last line counts the executions and the edits.
 set -eu
 . "$(dirname "$0")/lib/edits"
 . "$top/checks/lib/builds"
 recorder=$top/checks/recorder
-fixed=6
+fixed=7
 alone=10
+at_once=4
 storms=${1:-150}
 seed=${2:-1}
 
@@ -55,7 +60,7 @@ lay_out() {
 replay() {
     exec 9> "$copy/recorded"
     try recorded src/main.rt --link "$copy/recorder.o" --cases "$copy/cases" \
-        --arg $alone --arg "$storms" --arg "$seed"
+        --arg $alone --arg $at_once --arg "$storms" --arg "$seed"
     exec 9>&-
     mv "$copy/log" "$copy/programs"
     [ -z "${LOG:-}" ] || cp "$copy/recorded" "$LOG"
@@ -66,14 +71,21 @@ replay() {
     python3 -B "$top/checks/lib/replay.py" compare "$copy/executions" "$copy/log" > "$copy/said"
 }
 
+# Draws the executions that differ, whose names begin so, into a folder, and prints the names of the files.
+draw() {
+    mkdir -p "$2"
+    python3 -B "$top/checks/lib/portray.py" differences "$copy/recorded" "$copy/said" "$2" "$1"
+}
+
 # Says whether both checks pass each execution of the right bodies, as they must.
 judge_right() {
-    executions=$((fixed + 2 * alone + storms))
+    executions=$((fixed + 2 * alone + 4 * at_once + storms))
     right=$(grep -cE '^0\.[a-z]+_[0-9]+: [0-9]+ steps$' "$copy/said" || :)
     passed=$((passed + right))
     [ "$right" = $executions ] || {
         fail "$((executions - right)) of $executions executions are refused:"
         awk '/^[0-9]+\./ { is_right = /^0\./ && !/: [0-9]+ steps$/ } is_right' "$copy/said"
+        draw 0. "${PICTURES:-$(mktemp -d)}"
         grep -A 5 '^== none$' "$copy/programs" || cat "$copy/programs"
     }
     grep -E '^ *[0-9,]+ |^never: ' "$copy/said" || :
@@ -102,6 +114,7 @@ lay_out "$@"
 # The most that a run of all these programs may take, and one of exsim.
 seconds=$((300 + storms / 5))
 replay
+[ -z "${PICTURES:-}" ] || draw '' "$PICTURES"
 judge_right
 judge "$@"
 count

@@ -57,7 +57,7 @@ OWED = {
     "Wake": f"w|W{NEWS}",
     "TryTick": f"t|T{NEWS}{OVER}",
     "TryAny": f"0|1{NEWS}{OVER}",
-    "PollHandle": "h|H",
+    "PollHandle": "h|H|K",
     "Cancel": f"c|C{NEWS}",
     "Detach": "H",
     "DropHandle": f"g|G{NEWS}|H",
@@ -77,6 +77,8 @@ OWED = {word: re.compile(owed) for word, owed in OWED.items()}
 # The signs of a poll, of a drop and of a poll of the own future, which stand for calls within a call.
 INNER = {"Future": "B", "Disposal": "D", "Own": "Q"}
 OF_TASK = ("Pend", "Ready", "Dropped")
+# By the end of a program, the call that lets its executor go.
+GOES = {"Closed": "Close", "Leaked": "Leak"}
 
 
 class Words:
@@ -109,6 +111,7 @@ class Owed:
 
     def __init__(self):
         self.lent, self.words, self.over, self.live = set(), {}, set(), set()
+        self.gone = []
 
     def take(self, line, frame):
         """Adds the sign of a step to its call."""
@@ -144,23 +147,37 @@ class Owed:
             self.over.add(frame.of)
             self.live.discard(frame.of)
 
-    def finish(self, at):
+    def let_go(self, call, line, end):
+        """The executor is closed or leaked, once, as its program does it."""
+        self.gone.append(call)
+        if end != "Wrong" and self.gone != [GOES[end]]:
+            raise Refused(line.at, f"the executor is {end.lower()}, by {', '.join(self.gone)}")
+
+    def finish(self, at, end):
+        if end != "Wrong" and not self.gone:
+            raise Refused(at, f"the executor is not {end.lower()}")
         if self.live:
             raise Refused(at, f"{len(self.live)} tickers have not given their places back")
 
 
-def check_calls(lines):
-    """Whether each call made the steps that it owes, and no step stands outside of one."""
+def check_calls(lines, end):
+    """Whether each call made the steps that it owes, and no step stands outside of one, in a program that
+    ends so.
+    """
     owed = Owed()
     for line, frame, outer in walk(lines):
         if line.word == "CallLent":
             owed.lent.add(line.of)
         elif line.word == "CallFuture":
             owed.lent.discard(line.of)
+        elif line.word == "Limits":
+            continue
         elif line.word == "End":
             owed.end(frame, outer, line.at)
+            if frame.word in GOES.values():
+                owed.let_go(frame.word, line, end)
         elif line.is_step and frame is None:
             raise Refused(line.at, f"a step {line.word} of no call")
         elif line.is_step:
             owed.take(line, frame)
-    owed.finish(len(lines))
+    owed.finish(len(lines), end)

@@ -5,10 +5,11 @@ A log has executions, each a head of four numbers and its lines in the order of 
 """
 import os
 import re
+from copy import copy
 
 RECORDER = f"{os.path.dirname(os.path.abspath(__file__))}/../recorder/recorder.rs"
 # The words of a line that is neither a call's beginning nor a step.
-APART = ("End", "ExchangeBegins", "Made", "LetGo")
+APART = ("End", "ExchangeBegins", "Made", "LetGo", "Ending")
 # The calls of a ticker.
 TICKERS = ("Tick", "Run", "PollTick", "PollRun", "DropTick", "DropRun")
 
@@ -51,12 +52,39 @@ class Execution:
 
     def __init__(self, text):
         body, kind, number, ending = map(int, text.split())
-        self.name = f"{body}.{KINDS[kind].lower()}_{number}"
+        self.name, self.of_threads = f"{body}.{KINDS[kind].lower()}_{number}", f"{body}.locals"
         self.end, self.lines = ENDINGS[ending], []
+
+
+    def parts(self):
+        """The executions of each thread, if each has an executor of its own, or this one."""
+        if not self.name.startswith(self.of_threads):
+            return [self]
+        threads = {}
+        for line in self.lines:
+            threads.setdefault(line.thread, []).append(line)
+        return [self.part(lines) for lines in threads.values()]
+
+    def part(self, lines):
+        """The execution of the thread that wrote these lines, the last of which says which it was."""
+        last, found = lines[-1], copy(self)
+        if last.word != "Ending":
+            raise Refused(last.at, f"thread {last.thread} does not say how its program ended")
+        found.name, found.end = f"{self.of_threads}_{last.of}", ENDINGS[last.value]
+        found.lines = lines
+        for at, line in enumerate(lines):
+            line.at = at
+        return found
 
 
 def executions(path):
     """The executions of a log, one after another."""
+    for execution in whole_executions(path):
+        yield from execution.parts()
+
+
+def whole_executions(path):
+    """The executions of a log, with those of threads that have an executor each as one."""
     found = None
     with open(path) as file:
         for text in file:

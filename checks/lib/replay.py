@@ -18,10 +18,10 @@ from world_steps import all_kinds, kind_of, steps_of
 BEFORE = 10
 
 
-def refused_by(check, lines):
+def refused_by(check, lines, *more):
     """What a check gives, and why it refuses these lines, with those before."""
     try:
-        return check(lines), None
+        return check(lines, *more), None
     except Refused as why:
         before = "".join(f"\n    {line}" for line in lines[max(0, why.at - BEFORE) : why.at + 1])
         return None, f"{why}{before}"
@@ -32,7 +32,7 @@ def write_lines(log, folder):
     said = {}
     for execution in executions(log):
         steps, unordered = refused_by(steps_of, execution.lines)
-        _, calls = refused_by(check_calls, execution.lines)
+        _, calls = refused_by(check_calls, execution.lines, execution.end)
         steps = steps or []
         with open(f"{folder}/{execution.name}", "w") as file:
             # What each program of the checks reads first (checks/lib/chosen.c).

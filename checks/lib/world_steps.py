@@ -15,6 +15,7 @@ READY = {
 # By word, the line of the world, and its reply by answer. {0} is the line's own number, {1} the output, {2}
 # what it is said of, {3} the ticker of the call, {4} the word of a search.
 PLAIN = {
+    "Limits": ("local {2}", {"Nothing": "done"}),
     "Spawn": ("spawn", {"Task": "task {0}"}),
     "Wake": ("wake {2}", NOTICED),
     "TakeAny": ("tryany", TAKES),

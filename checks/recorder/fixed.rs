@@ -1,10 +1,10 @@
-//! Programs that are the same each time: one thread halts at a named step while another one goes on, or a
-//! run has more tasks than a turn.
+//! Programs that are the same each time: one thread halts at a named step while another one goes on, or one
+//! thread does what random programs do seldom.
 use crate::support::record::Record;
 use crate::support::waker::TestWaker;
 use async_executor::{Executor, TaskWaker};
 use executor_core::halts::{is_thread_waiting, watch_thread};
-use executor_core::recorder::{self, Word, say};
+use executor_core::recorder::{self, Ending, Word, say};
 use executor_core::task::{Future, Poll, Wake};
 use std::alloc::{AllocError, Global};
 use std::sync::atomic::{AtomicBool, Ordering};
@@ -27,18 +27,34 @@ pub enum Fixed {
     NotifyBesideSleep,
     /// A run whose turn ends before its tasks do, and which is dropped then, on one thread.
     Turn,
+    /// An executor is leaked with an idle task, which is woken by that, on one thread.
+    Leak,
 }
 
 impl Fixed {
     /// All of them.
-    pub const ALL: [Fixed; 6] = [
+    pub const ALL: [Fixed; 7] = [
         Fixed::WakeBesideSpawn,
         Fixed::CancelBesideSpawn,
         Fixed::TwoExchanges,
         Fixed::Steal,
         Fixed::NotifyBesideSleep,
         Fixed::Turn,
+        Fixed::Leak,
     ];
+
+    /// Whether it has as many steps as all others together.
+    pub fn is_long(self) -> bool {
+        matches!(self, Fixed::Turn)
+    }
+
+    /// How it ends, if nothing is wrong.
+    pub fn ending(self) -> Ending {
+        match self {
+            Fixed::Leak => Ending::Leaked,
+            _ => Ending::Closed,
+        }
+    }
 }
 
 type Place<R> = Arc<Mutex<Option<TaskWaker<TestWaker, R>>>>;
@@ -52,6 +68,16 @@ impl Drop for Output {
     fn drop(self) {
         let Output { number } = self;
         say(Word::LetGo, number);
+    }
+}
+
+// Takes the waker that a future left, which keeps what the executor's tasks share.
+fn left_waker<R: Wait + Clone + Drop + Send + Sync>(
+    place: &Place<R>,
+) -> Option<TaskWaker<TestWaker, R>> {
+    match place.try_lock() {
+        Some(mut place) => place.take(),
+        None => None,
     }
 }
 
@@ -198,7 +224,7 @@ macro_rules! spawn {
     };
 }
 
-/// Takes this program, and drops its executor.
+/// Takes this program, and drops its executor, or what a leak of it gave.
 pub fn take<R: AllocGlobal + Wait + Threads + Clone + Drop + Send + Sync>(
     rt: &R,
     program: Fixed,
@@ -210,6 +236,7 @@ pub fn take<R: AllocGlobal + Wait + Threads + Clone + Drop + Send + Sync>(
         Fixed::Steal => steal(rt),
         Fixed::NotifyBesideSleep => notify_beside_sleep(rt),
         Fixed::Turn => turn(rt),
+        Fixed::Leak => leak(rt),
     }
 }
 
@@ -219,11 +246,7 @@ fn wake_beside_spawn<R: AllocGlobal + Wait + Threads + Clone + Drop + Send + Syn
     let (ex, place, _) = parts!(rt);
     spawn!(ex, 7, &place);
     ex.try_tick();
-    let left = match place.try_lock() {
-        Some(mut place) => place.take(),
-        None => None,
-    };
-    let Some(waker) = left else {
+    let Some(waker) = left_waker(&place) else {
         return Err("no waker was left".into());
     };
     beside(
@@ -324,5 +347,16 @@ fn turn<R: AllocGlobal + Wait + Threads + Clone + Drop + Send + Sync>(rt: &R) ->
     }
     drop(run.poll(&waker));
     drop(run);
+    Ok(())
+}
+
+fn leak<R: AllocGlobal + Wait + Threads + Clone + Drop + Send + Sync>(rt: &R) -> Result<(), Fail> {
+    let (ex, place, _) = parts!(rt);
+    spawn!(ex, 7, &place);
+    ex.try_tick();
+    let ex = ex.leak();
+    while ex.try_tick() {}
+    drop(ex);
+    drop(left_waker(&place));
     Ok(())
 }

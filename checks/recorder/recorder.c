@@ -18,6 +18,7 @@ struct line {
 
 static struct line lines[MOST];
 static number count, made;
+static number refused_each, asked, room;
 static unsigned threads, halts, released;
 static _Thread_local unsigned thread, halting_word;
 
@@ -46,6 +47,22 @@ unsigned is_halted(void) { return load(&halts) > load(&released); }
 
 // Lets those go on that halt.
 void let_go_on(void) { __atomic_store_n(&released, load(&halts), __ATOMIC_SEQ_CST); }
+
+// From now on each copy of a waker is refused whose number this one divides, or none if it is 0, and
+// executors have queues for so many tasks, or for the usual number if that is 0.
+void restrict_programs(number each, number places) {
+    refused_each = each;
+    asked = 0;
+    room = places;
+}
+
+// Whether this copy of a waker is to be refused.
+unsigned is_copy_refused(void) {
+    return refused_each != 0 && __atomic_add_fetch(&asked, 1, __ATOMIC_SEQ_CST) % refused_each == 0;
+}
+
+// For how many tasks the queues of an executor have room, or 0.
+number room_of_queues(void) { return room; }
 
 static char text[ROOM];
 static number length;

@@ -7,6 +7,7 @@ mod cells;
 mod flag;
 mod list;
 
+use crate::limits::Limits;
 use crate::sleepers::Sleepers;
 use crate::task::Cells;
 
@@ -22,6 +23,12 @@ unsafe extern "C" {
     safe fn is_halted() -> u32;
 
     safe fn let_go_on();
+
+    safe fn restrict_programs(each: u64, places: u64);
+
+    safe fn is_copy_refused() -> u32;
+
+    safe fn room_of_queues() -> u64;
 
     safe fn print_log(kind: u32, number: u64, ending: u32) -> u32;
 }
@@ -87,8 +94,10 @@ pub enum Word {
     Notify,
     ShowQueued,
     Show,
+    Limits,
     Made,
     LetGo,
+    Ending,
 }
 
 /// What a step answered.
@@ -193,13 +202,40 @@ pub fn go_on() {
     let_go_on();
 }
 
-/// What kind of program was taken.
+/// From now on each copy of a waker is refused whose number this one divides, or none if it is 0, and
+/// executors have queues for so many tasks, with short turns, or the usual limits if that is 0.
+pub fn restrict(each: u64, places: u64) {
+    restrict_programs(each, places);
+}
+
+/// Whether this copy of a waker is to be refused.
+pub fn refuses_copy() -> bool {
+    is_copy_refused() != 0
+}
+
+/// The limits of the next executor, which are written down if they are not the usual ones.
+pub fn limits() -> Limits {
+    let places = room_of_queues();
+    if places == 0 {
+        return Limits::default();
+    }
+    say(Word::Limits, places);
+    Limits {
+        local: places as usize,
+        turn: 7,
+        fair: 3,
+    }
+}
+
+/// What kind of program was taken. Of the last kind, each thread takes one of its own at the same time, and
+/// says behind it which it was and how it ended.
 #[derive(Clone, Copy)]
 pub enum Kind {
     Fixed,
     Alone,
     Local,
     Storm,
+    Locals,
 }
 
 /// How a program ended: its executor was closed or leaked, or what it found at its end is wrong.
@@ -208,6 +244,11 @@ pub enum Ending {
     Closed,
     Leaked,
     Wrong,
+}
+
+/// Says that this thread's program of this number ended so.
+pub fn say_ending(number: u64, ending: Ending) {
+    step(Word::Ending, number, Answer::Done, ending as u64);
 }
 
 /// Prints the log of the program of this kind and number, and begins a new one. It says whether there was
