@@ -1,4 +1,6 @@
 //! Futures made of others: one after another, and the first of several.
+ghost use Rattle.std.specs.Prelude.{Some};
+
 use async_executor::{Future, Poll};
 use async_utilities::{
     AnyOf, Change, Race, Ready, Then, ThreadWaker, YieldNow, block_on, poll_until_ready,

@@ -34,7 +34,11 @@ fn simulate<R: Wait + Clone + Drop + Send + Sync>(
     nanos: &AtomicU64,
 ) -> Option<()> {
     for _ in rt.forever() {
-        while executor.try_tick() {}
+        for _ in rt.forever() {
+            if !executor.try_tick() {
+                break;
+            }
+        }
         let firing = driver.fire().ok()?;
         if firing.has_woken {
             continue;
