@@ -34,12 +34,12 @@ pub use workers::{Sleeper, Worker};
 /// An executor of futures of the type F, whose handles are awaited by wakers of the type W, and
 /// which waits for its locks by the right R.
 ///
-/// It may be shared and sent: one is made only if F, its output and W may be sent, and R may be
-/// both. It stands for the `Executor` of the Rust crate.
+/// It is `Send` and `Sync`: making one requires F, its output and W to be `Send`, and R to be both. It
+/// stands for the `Executor` of the Rust crate.
 ///
 /// Its drop cancels every task and drops every future that is left, one after another, with no lock
-/// held. None is out to be polled then, since ticks and runs borrow the executor. A handle gives an
-/// output that was there before, and else says that its task was cancelled.
+/// held. Nothing is being polled at that point: ticks and runs borrow the executor. A handle gives an
+/// output that was there before, and otherwise says that its task was cancelled.
 ///
 /// Example: `uses::runs`, on several threads `uses::pools`, and of the drop `uses::closes`.
 ///
@@ -57,6 +57,8 @@ where
     pub(crate) inner: ExecutorIn<SharedHome<F, W, R>>,
 }
 
+// `Send` and `Sync` are asked where an executor is made and where it spawns. Without an executor there is
+// no handle, tick or run, so their calls do not ask again.
 impl<F, W, R> Executor<F, W, R>
 where
     F: Future<TaskWaker<W, R>> + Send,
@@ -245,9 +247,10 @@ where
         Ok(Tick { inner })
     }
 
-    /// A future that runs tasks of the executor beside this one, and ends with its output. In each
-    /// poll this future is polled first, and then tasks are run until none is left or a turn, which
-    /// goes on over polls, is over.
+    /// A future that runs tasks of the executor beside this one, and ends with its output. Each poll
+    /// first polls this future, and then runs tasks until none is left or the turn ends; a turn can
+    /// span several polls.
+    ///
     /// Its places among the sleepers and the runners and its queue are reserved here, and given back
     /// once it has ended or was dropped.
     ///

@@ -16,6 +16,7 @@ impl From<Cancelled> for Error {
     ghost from_gives = { λ _ e. error_kind e ≡ ErrorKind.Other };
 
     fn from(_error: Cancelled) -> Error {
+        // Not `Interrupted`, which code that reads takes as a reason to try again.
         Error::new(ErrorKind::Other, "the task was cancelled")
     }
 }

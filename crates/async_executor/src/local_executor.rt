@@ -25,13 +25,13 @@ use std::alloc::Global;
 use std::sync::Wait;
 pub use tickers::{LocalRun, LocalTick};
 
-/// An executor that stays on its thread, as do its handles, its ticks and its runs: none of them can
-/// be sent or shared. So F, its output and W may be what cannot be sent, and no lock is taken for what
-/// it keeps of its tasks.
+/// An executor that stays on its thread, as do its handles, its ticks and its runs: none of them is
+/// `Send` or `Sync`. So F, its output and W need not be `Send`, and no lock is taken for what it keeps
+/// of its tasks.
 ///
-/// The wakers of its tasks may go to other threads if W may be sent and R be both sent and shared. A
-/// wake there schedules the task for this thread. It stands for the `LocalExecutor` of the Rust crate.
-/// Its drop is that of `Executor`.
+/// The wakers of its tasks may go to other threads if W is `Send`, and R both `Send` and `Sync`. A wake
+/// there schedules the task for this thread. It stands for the `LocalExecutor` of the Rust crate. Its
+/// drop is that of `Executor`.
 ///
 /// Example: `uses::stays`, and of the drop `uses::gathers`.
 ///

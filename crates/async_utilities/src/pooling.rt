@@ -266,6 +266,8 @@ where
         for _ in 0..count {
             pool.start(&beginning)?;
         }
+        // Each thread makes its own run, which borrows the executor it has a share of. One that was
+        // refused its memory would leave its tasks to nobody.
         beginning.wait(&pool.rt)?;
         Ok(pool)
     }

@@ -98,6 +98,7 @@ impl<W: Drop> State<W> {
             return None;
         }
         self.is_set = true;
+        // Taken out, so that all are woken in order without the lock.
         let waiters = replace(&mut self.waiters, WaitQueue::new(alloc));
         Some(AllDue { waiters })
     }

@@ -29,7 +29,7 @@ const UNUSED: usize = 512;
 /// there are shards, each of which drives a run of its own shard, share the work, and meet at a lock only
 /// if one of them has nothing of its own to do. A task stays in its shard.
 ///
-/// It may be shared and sent as an `Executor`. Its drop closes all shards. The Rust crate has no such type.
+/// It is `Send` and `Sync` as an `Executor` is. Its drop closes all shards. The Rust crate has no such type.
 ///
 /// Example: `uses::shards`.
 ///
@@ -44,6 +44,8 @@ where
     W: Wake,
     R: Wait + Clone + Drop,
 {
+    // With the caller's own waker: with one that refuses its copies, runs would need no sleepers, but its
+    // type would stand in each future and each handle.
     shards: Vec<Executor<F, W, R>>,
     unused: Vec<Vec<u64>>,
     before: Apart,
@@ -137,6 +139,7 @@ where
         ensures ok { IfOk result (λ task. task.inner.answered ≡ false) }
         ensures refused { IfErr result (λ e. refused_future e ≡ future) }
     {
+        // One count for all: one for each thread would need a place for it.
         let turn = self.next.fetch_add(1, Ordering::SeqCst);
         self.shards[turn % self.shards.len()].spawn(future)
     }

@@ -22,6 +22,7 @@ where
 {
     pub(crate) worker: Worker<'a, F, W, R>,
     pub(crate) sleepers: Vec<Sleeper<'a, F, W, R>>,
+    // The promise of the order speaks of this list. A look around after a turn is in no list.
     pub(crate) answers: Vec<(usize, bool)>,
     ghost some: { 0 < vec_len sleepers },
     ghost room: { vec_len sleepers ≤ vec_capacity answers },
@@ -64,6 +65,7 @@ where
         requires { number < vec_len shards.now }
     {
         let count = shards.len();
+        // One in every shard: a task of a shard that no sleeper chose would wait for a run that is busy.
         let mut sleepers = Vec::with_capacity(alloc, count)?;
         let answers = Vec::with_capacity(alloc, count)?;
         add_sleepers(&shards[number..], &mut sleepers)?;
@@ -140,6 +142,7 @@ where
         ensures answers { self.new.answers ≡ self.old.answers }
     {
         let sleeper = &mut self.sleepers[at];
+        // Each by itself: a queue of its own in another shard would take memory.
         if !sleeper.try_tick_any() {
             return false;
         }

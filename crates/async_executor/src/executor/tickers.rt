@@ -61,6 +61,8 @@ where
     }
 }
 
+// By hand, as that of a run: it borrows its executor, and the borrow checker does not cover a derived
+// drop of such a type in another crate.
 impl<F, W, R> Drop for Tick<'_, F, W, R>
 where
     F: Future<TaskWaker<W, R>>,

@@ -129,7 +129,7 @@ impl<'a, H: Home, G: Future<H::Waker>> RunIn<'a, H, G> {
 #[derive(Drop)]
 struct Driver<'x, 'y, H: Home, G: Drop> {
     executor: &'x ExecutorIn<H>,
-    // That of the executor, at hand.
+    // The executor's state, kept here to save an indirection.
     state: &'x ExecutorState<H::Waker, H::Runtime>,
     search: Search,
     own: &'y mut Own<G>,
@@ -142,6 +142,7 @@ impl<'x, 'y, H: Home, G: Drop> Driver<'x, 'y, H, G> {
     #[inline(always)]
     fn search(&mut self, again: Option<Again>) -> Option<NextTask> {
         let own = &mut *self.own;
+        // The table's lock alone: the store's is taken once there is a task.
         let word = own.words.next();
         let found = self.search.make(&mut *cells!(self.state), word, again);
         if let Some(next) = &found {
@@ -390,6 +391,7 @@ impl<H: Home, G: Future<H::Waker>> Future<H::Waker> for RunIn<'_, H, G> {
         ensures ended { has_ended self.old.rest ≡ false → has_ended self.new.rest ≡ is_ready result }
         ensures again { IsTrue (has_ended self.old.rest) → (self.new.rest ≡ self.old.rest) × (is_ready result ≡ false) }
     {
+        // One that has ended has no second output to give.
         if self.rest.is_ended() {
             w.wake();
             return Poll::Pending;

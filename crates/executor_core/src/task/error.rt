@@ -37,6 +37,7 @@ pub enum SpawnError<P> {
     #[error("out of memory")]
     OutOfMemory(P),
     /// Every task number was given.
+    // No error type of its own: this too gives the future back.
     #[error("no task number is left")]
     Exhausted(P),
 }

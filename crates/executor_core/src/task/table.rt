@@ -40,7 +40,10 @@ pub enum EndPending<P> {
 pub struct Cells<P, T, W> {
     pub(crate) queues: Queues<P, T, W>,
     pub(crate) next: u64,
+    // At most `next`, as the invariant says: so it never overflows, nor does the count of the queued
+    // ones.
     pub(crate) undropped: usize,
+    // `drain_next` alone acts by it, so it costs no other call anything: wakes and spawns queue as before.
     pub(crate) closed: bool,
 }
 
@@ -69,6 +72,7 @@ impl<P, T, W> Cells<P, T, W> {
     pub fn new(alloc: Global) -> Result<Self, OutOfMemory>
         ensures { IfOk result (λ cells. cells ≡ empty_table 0) }
     {
+        // Nothing is refused here. The `Result` is what callers have always had.
         Self::first_number(alloc, 0)
     }
 
@@ -287,6 +291,7 @@ impl<P, T, W> Cells<P, T, W> {
     pub fn law_holds(&self)
         ensures { LockLaw self.now }
     {
+        // For a caller that holds the table and makes no other call to learn the law from.
         let _ = &self.next;
     }
 }
