@@ -344,6 +344,7 @@ where
             rt,
         } = self;
         stop.set();
+        // A thread that is not joined may be cut off in the middle of a task when the program ends.
         drop(started.join(&rt));
         drop(executor);
     }

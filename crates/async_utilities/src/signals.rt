@@ -31,6 +31,7 @@ pub struct Signal<W: Wake, R: Wait + Drop> {
 struct Shared<W: Wake, R: Wait + Drop> {
     state: Mutex<State<W>>,
     alloc: Global,
+    // Kept, so that a poll can take the lock.
     rt: R,
 }
 

@@ -219,7 +219,8 @@ impl<'x, 'y, H: Home, G: Drop> Driver<'x, 'y, H, G> {
     ) -> Option<NextTask>
         requires { IsLeftRight left }
     {
-        // Its drop and its wake come before the search, which they may queue something for.
+        // Its drop and its wake come before the search: they may queue something for it, and while they run
+        // others can still steal what it would take.
         self.finish(id, left);
         self.search_anew()
     }
