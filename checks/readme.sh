@@ -159,45 +159,12 @@ else
     pass "each public call has an example"
 fi
 
-# The examples in comments: each has one to three lines, which stand in a file of the folder uses
-# that defines a caller which the line 'Example: ' above them names.
-for folder in uses crates/executor_core crates/async_executor crates/priority_executor crates/sharded_executor \
-    crates/async_utilities; do
-    printf '%s\n' "$sources" | grep "^$folder/src/"
-done | xargs awk '
-    function stands(line, word, file) {
-        for (word = 2; word <= words; word += 2)
-            for (file in callers)
-                if ((file, named[word]) in callers_of && (file, line) in lines_of) return 1
-        return 0
-    }
-    { text = $0; sub(/^ */, "", text) }
-    FILENAME ~ /^uses\// {
-        callers[FILENAME]
-        if (text !~ /^\/\//) lines_of[FILENAME, text]
-        if (sub(/^(pub(\([a-z]+\))? )?fn /, "uses::", text)) {
-            sub(/[(<].*/, "", text)
-            callers_of[FILENAME, text]
-        }
-        next
-    }
-    !sub(/^\/\/\/ ?/, "", text) {
-        if (words && (lines < 1 || lines > 3)) print FILENAME ": " lines " lines below: " example
-        words = inside = 0
-        next
-    }
-    /^ *\/\/\/ Example: / { examples++; example = text; words = split(text, named, "`"); lines = 0; next }
-    /^ *\/\/\/ ```/ { inside = !inside; next }
-    inside && words {
-        lines++
-        sub(/^ */, "", text)
-        if (!stands(text)) print FILENAME ": " text
-    }
-    END { if (!examples) print "there is no example" }' > "$copy/log"
-if [ -s "$copy/log" ]; then
-    fail "examples whose lines the folder uses lacks:" "$copy/log"
+python3 -B checks/lib/examples.py > "$copy/examples" 2>&1
+sed '$d' "$copy/examples" > "$copy/log"
+if [ -s "$copy/log" ] || ! [ "$(tail -n 1 "$copy/examples")" -gt 0 ]; then
+    fail "examples that the folder uses lacks, or that are no whole body where one is to be:" "$copy/log"
 else
-    pass "each line of an example is in the folder uses"
+    pass "each example is in the folder uses, and whole at the types of async_executor"
 fi
 
 for page in README.md docs/*.md $callings; do
