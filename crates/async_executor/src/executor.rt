@@ -124,7 +124,7 @@ where
     ///
     /// # Errors
     ///
-    /// If memory is refused, or no number is left for the task, the future is given back and all
+    /// If memory is refused, or task numbers are exhausted, the future is given back and all
     /// is as before.
     ///
     /// Example: `uses::spawns`, and with a refused future `uses::gives_back`.
@@ -156,7 +156,7 @@ where
     ///
     /// # Errors
     ///
-    /// If memory is refused, or no number is left for a task. Those that were spawned before
+    /// If memory is refused, or task numbers are exhausted. Those that were spawned before
     /// stay, with their handles in the Vec. The future that was refused is given back; there is none
     /// if the place of its handle was refused, since the Vec was full.
     ///
@@ -291,7 +291,7 @@ where
     ///
     /// # Errors
     ///
-    /// If memory is refused, or no number is left for the runner, the future is given back and
+    /// If memory is refused, or runner numbers are exhausted, the future is given back and
     /// all is as before.
     ///
     /// Example: `uses::runs_beside`, and on several threads `uses::pools`.
@@ -316,7 +316,7 @@ where
     }
 
     /// The same executor, for as long as the program lives: its drop cancels nothing. Every task is
-    /// woken, and the idle ones are scheduled by rising slot, behind all that are. Else all goes on as
+    /// woken, and the idle ones are scheduled by rising slot, behind all that are. Otherwise all goes on as
     /// it was: the queues and the numbers, and the handles and the wakers that were made before. It
     /// takes no memory.
     ///

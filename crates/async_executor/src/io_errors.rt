@@ -39,7 +39,7 @@ impl<F: Drop> From<SpawnMany<F>> for Error {
     fn from(error: SpawnMany<F>) -> Error {
         match error.cause {
             RunnerError::OutOfMemory => Error::from(ErrorKind::OutOfMemory),
-            RunnerError::Exhausted => Error::new(ErrorKind::Other, "no task number is left"),
+            RunnerError::Exhausted => Error::new(ErrorKind::Other, "task numbers are exhausted"),
         }
     }
 }

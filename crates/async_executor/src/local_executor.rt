@@ -114,7 +114,7 @@ where
     ///
     /// # Errors
     ///
-    /// If memory is refused, or no number is left for the task, the future is given back and all is as
+    /// If memory is refused, or task numbers are exhausted, the future is given back and all is as
     /// before.
     ///
     /// Example: `uses::runs_locally`, at `LocalExecutor`.
@@ -133,7 +133,7 @@ where
     ///
     /// # Errors
     ///
-    /// If memory is refused, or no number is left for a task. Those that were spawned before stay, with
+    /// If memory is refused, or task numbers are exhausted. Those that were spawned before stay, with
     /// their handles in the Vec. The future that was refused is given back; there is none if the place
     /// of its handle was refused, since the Vec was full.
     ///
@@ -215,7 +215,7 @@ where
     ///
     /// # Errors
     ///
-    /// If memory is refused, or no number is left for the runner, the future is given back and all is
+    /// If memory is refused, or runner numbers are exhausted, the future is given back and all is
     /// as before.
     ///
     /// Example: `uses::runs_locally`, at `LocalExecutor`.

@@ -134,7 +134,7 @@ impl<W: Wake, R: Wait + Clone + Drop> ExecutorState<W, R> {
     }
 
     /// Waits for the table of tasks, which is locked until the guard is dropped. It comes with its
-    /// law: a task stands once in the queues if it is scheduled, and else in none.
+    /// law: a task stands once in the queues if it is scheduled, and otherwise in none.
     #[inline(always)]
     pub(crate) fn cells(&self) -> MutexGuard<'_, Cells<(), (), W>>
         ensures { LockLaw (mutex_guard_value result) }

@@ -23,7 +23,7 @@ pub enum PoolError {
     #[error("out of memory")]
     OutOfMemory,
     /// Every runner number was given.
-    #[error("no runner number is left")]
+    #[error("runner numbers are exhausted")]
     Exhausted,
     /// A thread cannot be started.
     #[error("cannot start a thread")]

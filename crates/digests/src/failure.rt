@@ -35,8 +35,8 @@ pub enum Failure {
     /// The clock cannot be read.
     #[error("clock: {0}")]
     Clock(Cause),
-    /// A number of a task or of a run is not left.
-    #[error("no number is left")]
+    /// Task numbers or runner numbers are exhausted.
+    #[error("numbers are exhausted")]
     Exhausted,
     /// A task gave no answer.
     #[error("a task was cancelled")]

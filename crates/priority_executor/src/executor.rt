@@ -71,7 +71,7 @@ where
     ///
     /// # Errors
     ///
-    /// If memory is refused, or no number is left for the task, the future is given back and all is
+    /// If memory is refused, or task numbers are exhausted, the future is given back and all is
     /// as before.
     ///
     /// Example: `uses::overtakes`.

@@ -127,7 +127,7 @@ where
     ///
     /// # Errors
     ///
-    /// If memory is refused, or no number is left for the task, the future is given back and all is as
+    /// If memory is refused, or task numbers are exhausted, the future is given back and all is as
     /// before, but that it was the turn of that shard.
     ///
     /// Example: `uses::shards`.
@@ -249,7 +249,7 @@ where
     ///
     /// # Errors
     ///
-    /// If memory is refused, or no number is left for the runner, the future is given back and all is as
+    /// If memory is refused, or runner numbers are exhausted, the future is given back and all is as
     /// before.
     ///
     /// Example: `uses::shards`.

@@ -88,7 +88,7 @@ where
 {
     type Output = G::Output;
 
-    /// Polls the own future, and if that is ready, is ready with its output. Else runs tasks until
+    /// Polls the own future, and if that is ready, is ready with its output. Otherwise runs tasks until
     /// none is left, or a whole turn was run since it yielded last. If none is left, a copy of the
     /// waker is kept, in place of an earlier one, and is woken once there may be a task. After a
     /// turn, or if the copy is refused, the waker itself is woken. A run that was ready wakes it

@@ -25,7 +25,7 @@ where
     ///
     /// # Errors
     ///
-    /// `OutOfMemory` if memory is refused, `Exhausted` if no number is left for the runner. All is as
+    /// `OutOfMemory` if memory is refused, `Exhausted` if runner numbers are exhausted. All is as
     /// before.
     ///
     /// Example: `uses::works`.

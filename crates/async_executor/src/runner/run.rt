@@ -46,7 +46,7 @@ pub enum RunError<G> {
     #[error("out of memory")]
     OutOfMemory(G),
     /// Every runner number was given.
-    #[error("no runner number is left")]
+    #[error("runner numbers are exhausted")]
     Exhausted(G),
 }
 
@@ -382,7 +382,7 @@ impl<H: Home, G: Future<H::Waker>> RunIn<'_, H, G> {
 impl<H: Home, G: Future<H::Waker>> Future<H::Waker> for RunIn<'_, H, G> {
     type Output = G::Output;
 
-    /// Polls the own future, and if that is ready, is ready with its output. Else runs tasks until
+    /// Polls the own future, and if that is ready, is ready with its output. Otherwise runs tasks until
     /// none is left, or a whole turn was run since it yielded last. If none is left, a copy of the
     /// waker is kept, in place of an earlier one, and is woken once there may be a task. After a
     /// turn, or if the copy is refused, the waker itself is woken. A run that was ready wakes it

@@ -38,7 +38,7 @@ pub enum SpawnError<P> {
     OutOfMemory(P),
     /// Every task number was given.
     // No error type of its own: this too gives the future back.
-    #[error("no task number is left")]
+    #[error("task numbers are exhausted")]
     Exhausted(P),
 }
 

@@ -35,7 +35,7 @@ pub enum EndPending<P> {
 ///
 /// A contract sees it as a `Table`: a finite map from task numbers to cells, and lists of numbers.
 /// Its law, which every call keeps: a number stands once in the queues if its cell is scheduled,
-/// and else in none.
+/// and otherwise in none.
 #[derive(Drop)]
 pub struct Cells<P, T, W> {
     pub(crate) queues: Queues<P, T, W>,
@@ -287,7 +287,7 @@ impl<P, T, W> Cells<P, T, W> {
     }
 
     /// The law of the queues, which every call keeps: a number stands once in all of them together
-    /// if its cell is scheduled, and else in none. It does nothing.
+    /// if its cell is scheduled, and otherwise in none. It does nothing.
     pub fn law_holds(&self)
         ensures { LockLaw self.now }
     {
