@@ -2,6 +2,9 @@
 //!
 //! Each of them has what is written once for every home, at the shared one. It is a type of its own,
 //! so that a caller meets the bounds of its future, its waker and its right to wait, and no home.
+//!
+//! An example at a type or a call is the whole body of a caller in `uses/src/executor_calls.rs` or
+//! `handle_calls.rs`. There rt is the right to wait and alloc the allocator, as `main` hands them on.
 ghost use Rattle.std.specs.Prelude.{◌≡◌, ◌↔◌, false, IfOk, IfErr, IsErr, IfNone, vec_len, vec_capacity};
 ghost use Rattle.std.specs.Iterator.{IsFinite};
 ghost use Rattle.executor_core.specs.Limits.{is_lawful, default_limits};

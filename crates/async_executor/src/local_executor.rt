@@ -1,7 +1,7 @@
 //! The executor that stays on the thread that made it, with its handles, ticks and runs.
 //!
 //! Each of them has what is written once for every home, at the local one. It is a type of its own,
-//! for the reason that the shared ones are.
+//! for the reason that the shared ones are. The examples stand in `uses/src/local_calls.rs`.
 ghost use Rattle.std.specs.Prelude.{◌≡◌, ◌↔◌, false, IfOk, IfErr, IsErr, IfNone, vec_len, vec_capacity};
 ghost use Rattle.std.specs.Iterator.{IsFinite};
 ghost use Rattle.executor_core.specs.Limits.{is_lawful, default_limits};
