@@ -266,8 +266,6 @@ where
         for _ in 0..count {
             pool.start(&beginning)?;
         }
-        // Each thread makes its own run, which borrows the executor it has a share of. One that was
-        // refused its memory would leave its tasks to nobody.
         beginning.wait(&pool.rt)?;
         Ok(pool)
     }
@@ -344,7 +342,6 @@ where
             rt,
         } = self;
         stop.set();
-        // A thread that is not joined may be cut off in the middle of a task when the program ends.
         drop(started.join(&rt));
         drop(executor);
     }

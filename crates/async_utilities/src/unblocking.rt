@@ -38,6 +38,7 @@ pub trait Job: Drop {
 #[derive(Drop)]
 pub struct Work<J: Job, V: Wake, R: Wait + Drop> {
     job: Option<J>,
+    // A channel, so that wakers of any type V await it: those who await a handle are the threads' wakers.
     answers: Sender<J::Output, NoopWaker, V, R>,
 }
 
@@ -123,8 +124,6 @@ where
         let Ok(rt) = self.rt.clone() else {
             return Err(AllocFailed { value: job });
         };
-        // A channel, so that wakers of any type await it: those who await a handle are the threads'
-        // wakers.
         let Ok((sender, answers)) = bounded(rt, self.alloc, 1) else {
             return Err(AllocFailed { value: job });
         };

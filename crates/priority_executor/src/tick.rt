@@ -103,11 +103,10 @@ where
     // Leaves the sleepers of the levels that it looks at and of those above, and runs a task of the first
     // that has one. It says whether it ran one.
     fn run_first(&mut self) -> bool {
-        // A look before the take: only now it is known which levels are above, whose notices are passed
-        // on before the task is run.
         let Some(level) = self.first_with_task() else {
             return false;
         };
+        // Before the task is run. Only after a look it is known which levels are above.
         for above in level + 1..N {
             self.levels[above].pass_on();
         }
