@@ -129,7 +129,8 @@ for page in README.md docs/PROVED.md docs/ARCHITECTURE.md docs/BUGS.md docs/MEAS
     fi
 done
 
-for crate in executor_core async_executor priority_executor sharded_executor async_utilities simulation digests mandelbrot starter; do
+for crate in executor_core async_executor priority_executor sharded_executor async_utilities pools simulation digests mandelbrot \
+    starter bank; do
     (cd crates/$crate/src && find . -name '*.rt') | sed 's/^\.\///; s/\.rt$//' |
         grep -vxE 'lib|main|tests(/.*)?' | sort > "$copy/wanted"
     quoted docs/ARCHITECTURE.md | grep -Fxf "$copy/wanted" | sort > "$copy/said"
