@@ -130,7 +130,7 @@ for page in README.md docs/PROVED.md docs/ARCHITECTURE.md docs/BUGS.md docs/MEAS
 done
 
 for crate in executor_core async_executor priority_executor sharded_executor async_utilities pools simulation digests mandelbrot \
-    starter; do
+    starter bank; do
     (cd crates/$crate/src && find . -name '*.rt') | sed 's/^\.\///; s/\.rt$//' |
         grep -vxE 'lib|main|tests(/.*)?' | sort > "$copy/wanted"
     quoted docs/ARCHITECTURE.md | grep -Fxf "$copy/wanted" | sort > "$copy/said"
