@@ -9,7 +9,9 @@
 #![tactic(auto)]
 
 mod fixed;
+mod played;
 mod support;
+mod tables;
 
 use executor_core::choice::chosen;
 use executor_core::recorder::{self, Ending, Kind};
@@ -57,6 +59,10 @@ fn main(rt: HostRuntime) -> Result<(), Fail> {
         restrict(number);
         take_four_at_once(&rt, 4 * number);
         end(Kind::Locals, number, Ending::Closed)?;
+    }
+    if chosen() == 0 {
+        recorder::restrict(0, 0);
+        tables::take_all(&rt)?;
     }
     for number in seed..seed.saturating_add(storms) {
         restrict(number);

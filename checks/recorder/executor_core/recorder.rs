@@ -18,6 +18,8 @@ unsafe extern "C" {
 
     safe fn number_of_ticker() -> u64;
 
+    safe fn last_number_of_ticker() -> u64;
+
     safe fn halt_behind(word: u32);
 
     safe fn is_halted() -> u32;
@@ -30,6 +32,10 @@ unsafe extern "C" {
 
     safe fn room_of_queues() -> u64;
 
+    safe fn number_tables_from(number: u64);
+
+    safe fn number_of_play() -> u64;
+
     safe fn print_log(kind: u32, number: u64, ending: u32) -> u32;
 }
 
@@ -38,6 +44,7 @@ unsafe extern "C" {
 #[derive(Clone, Copy)]
 pub enum Word {
     CallSpawn,
+    CallSpawnMany,
     CallWake,
     CallLent,
     CallTryTick,
@@ -58,6 +65,7 @@ pub enum Word {
     CallDisposal,
     CallOwn,
     End,
+    Given,
     Spawn,
     Wake,
     Take,
@@ -92,11 +100,14 @@ pub enum Word {
     ExchangeBegins,
     Exchange,
     Notify,
-    ShowQueued,
+    ShowGlobal,
+    ShowRunner,
+    ShowLocal,
     Show,
     Limits,
     Made,
     LetGo,
+    Forgotten,
     Ending,
 }
 
@@ -158,11 +169,24 @@ pub fn new_ticker() -> u64 {
     number_of_ticker()
 }
 
-/// The state of an executor that is at rest, and has no runner: its global queue, how many sleepers have
+/// That of the ticker that this thread makes.
+pub fn last_ticker() -> u64 {
+    last_number_of_ticker()
+}
+
+/// The state of an executor that is at rest: its global queue, those of its runners, how many sleepers have
 /// numbers, which is notified, the flag, and how many futures are not dropped.
 pub fn show<W>(cells: &Cells<(), (), W>, sleepers: &Sleepers<W>, flag: bool) {
     for number in cells.global_numbers() {
-        say(Word::ShowQueued, number);
+        say(Word::ShowGlobal, number);
+    }
+    for runner in 0..cells.runners() {
+        say(Word::ShowRunner, runner as u64);
+        let mut place = 0;
+        while let Some(number) = cells.local_at(runner, place) {
+            say(Word::ShowLocal, number);
+            place += 1;
+        }
     }
     let (numbers, notified) = (sleepers.numbers() as u64, sleepers.notified() as u64);
     let answer = if flag { Answer::True } else { Answer::False };
@@ -236,19 +260,32 @@ pub enum Kind {
     Local,
     Storm,
     Locals,
+    Table,
 }
 
-/// How a program ended: its executor was closed or leaked, or what it found at its end is wrong.
+/// How a program ended: its executor was closed or leaked, or what it found at its end is wrong, or its
+/// executor is kept.
 #[derive(Clone, Copy)]
 pub enum Ending {
     Closed,
     Leaked,
     Wrong,
+    Kept,
 }
 
 /// Says that this thread's program of this number ended so.
 pub fn say_ending(number: u64, ending: Ending) {
     step(Word::Ending, number, Answer::Done, ending as u64);
+}
+
+/// The table of this number begins. What is played of it has ten numbers.
+pub fn begin_table(number: u64) {
+    number_tables_from(number * 10);
+}
+
+/// The number of what was played.
+pub fn next_of_table() -> u64 {
+    number_of_play()
 }
 
 /// Prints the log of the program of this kind and number, and begins a new one. It says whether there was
