@@ -3,13 +3,16 @@
 #
 # The edits of checks/recorder make a copy of the executor in which each step on what is shared is written
 # down, with its answer and its call, in the order of tickets that are drawn under the lock of the step. The
-# program checks/recorder/recorded takes random programs on one thread and on four, and some in which a
-# thread halts at a named step. checks/lib/replay.py checks each log twice: exsim, from the sources as they
-# stand, has to give each reply that the executor gave; and each call has to make the steps that it owes, in
-# its order. docs/REPLAY.md says what that shows.
+# program checks/recorder/recorded takes random programs on one thread and on four, some that are the same
+# each time, in which a thread halts at a named step or memory is refused, and each table of lines of the
+# folder tests (checks/lib/tables.py). checks/lib/replay.py checks each log twice: exsim, from the sources as
+# they stand, has to give each reply that the executor gave; and each call has to make the steps that it owes,
+# in its order. A step of the world, or a reply of it, that occurs in no log fails the check. docs/REPLAY.md
+# says what all that shows.
 #
-# Each edit of checks/wrong_bodies or checks/guards with a line 'replay: CHECK PROGRAM LINE' has to be refused by
-# this check in this program at this line of its log. All are built together with the right bodies, unproved.
+# Each edit of checks/wrong_bodies or checks/guards with a line 'replay: CHECK PROGRAM LINE' has to be refused
+# by this check in this program at this line of its log. All are built together with the right bodies,
+# unproved.
 #
 # Each execution of the right bodies that differs is drawn around its first difference.
 #
@@ -92,7 +95,7 @@ judge_right() {
     right=$(grep -cE '^0\.[a-z]+_[0-9]+: [0-9]+ steps$' "$copy/said" || :)
     passed=$((passed + right))
     if [ "$right" != $executions ] || [ "$tables" != "$(wc -l < "$copy/tables")" ]; then
-        fail "$((executions - right)) of $executions executions are refused or missing, $tables tables are played:"
+        fail "$((executions - right)) of $executions executions, with $tables tables, are refused or missing:"
         awk '/^[0-9]+\./ { is_right = /^0\./ && !/: [0-9]+ steps$/ } is_right' "$copy/said"
         # Which tests the refused tables are of.
         awk 'NR == FNR { test[$1] = $2; next }

@@ -164,7 +164,8 @@ class Owed:
         if end != "Wrong" and self.gone != GOES[end]:
             raise Refused(at, f"the executor is not {end.lower()}")
         if len(self.live) != self.forgotten:
-            raise Refused(at, f"{len(self.live)} tickers keep their places, and {self.forgotten} are forgotten")
+            kept = f"{len(self.live)} tickers keep their places"
+            raise Refused(at, f"{kept}, and {self.forgotten} are forgotten")
 
 
 def check_calls(lines, end):

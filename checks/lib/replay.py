@@ -1,8 +1,8 @@
 """Checks each execution of a log twice: as steps of a world, and as what each call owes.
 
-Usage: replay.py lines LOG FOLDER [CHECK:NAME..], which writes for each execution of the log the lines that the
-world is to take, as FOLDER/NAME, and to FOLDER.said what the second check says and which replies are wanted. If
-executions of wrong bodies are named, it leaves all others of them out, and the lines if CHECK is calls.
+Usage: replay.py lines LOG FOLDER [CHECK:NAME..], which writes for each execution of the log the lines that
+the world is to take, as FOLDER/NAME, and to FOLDER.said what the second check says and which replies are
+wanted. If executions of wrong bodies are named, it leaves their others out, and the lines if CHECK is calls.
 replay.py compare FOLDER OUTPUT compares these with the replies of exsim. It prints a line for each execution,
 'NAME: N steps' or which check refuses it, and then how often each step had each reply with the right bodies,
 and which have none.
@@ -55,7 +55,7 @@ def write_lines(log, folder, *named):
 
 
 def write_case(path, lines):
-    """Writes the lines that exsim takes, behind what each program of the checks reads first, as chosen.c says."""
+    """Writes the lines that exsim takes, behind what each program of the checks reads first (chosen.c)."""
     with open(path, "w") as file:
         file.write(f"0 0\n{lines}show\n")
 

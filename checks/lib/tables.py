@@ -1,9 +1,9 @@
 """Makes the tables of lines that the player takes a part of the program that checks/replay.sh records.
 
-Usage: tables.py TESTS SOURCE, where TESTS is the folder of the tests and SOURCE that of the program's sources.
-Of each module of TESTS/executors it writes the tests that call the player, with the functions that these call,
-as SOURCE/tables/MODULE.rt, and SOURCE/tables.rt, which takes all of them. It prints the number and the path of
-each: what is recorded of test N has the numbers from 10 N on, one for each kind of executor that plays it.
+Usage: tables.py TESTS SOURCE, the folders of the tests and of the program's sources. Of each module of
+TESTS/executors it writes the tests that call the player, with the functions that these call, as
+SOURCE/tables/MODULE.rt, and SOURCE/tables.rt, which takes all of them. It prints the number and the path of
+each: what is recorded of test N has the numbers from 10 N on, one for each executor that plays it.
 """
 import os
 import re
@@ -65,7 +65,8 @@ def main(tests, source):
         for it in tables:
             print(len(calls), f"executors::{module}::{it.name}")
             calls.append(f"    begin_table({len(calls)});\n    {module}::{it.name}(rt)?;")
-    write(f"{source}/tables.rt", TABLES.format(takes=TAKES, modules="\n".join(modules), calls="\n".join(calls)))
+    modules, calls = "\n".join(modules), "\n".join(calls)
+    write(f"{source}/tables.rt", TABLES.format(takes=TAKES, modules=modules, calls=calls))
 
 
 if __name__ == "__main__":
