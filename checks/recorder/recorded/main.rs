@@ -1,11 +1,11 @@
-//! Programs whose steps are written down: some that are the same each time, and random ones on one thread and
-//! on four.
+//! Programs whose steps are written down: some that are the same each time, random ones on one thread and on
+//! four, and the tables of lines of the tests.
 //!
 //! Its arguments are how many random programs one thread takes, on an executor that threads share and on a
 //! local one, how many times four threads take one each at once, on local executors, how many four threads
 //! take together, and the seed of the first of these. With a wrong body it leaves out the longest of those
-//! that are the same each time, and takes the first random one of one thread, and none of four. Of four
-//! random programs, one has queues with room for few tasks, and another one has copies of wakers refused.
+//! that are the same each time, and takes the first random one of one thread, none of four, and no table. Of
+//! four random programs, one has queues with room for few tasks, and another one has copies of wakers refused.
 #![tactic(auto)]
 
 mod fixed;
