@@ -68,7 +68,7 @@ impl<'a, H: Home> SleeperIn<'a, H> {
     /// One that is awake. It has a reserved place among the sleepers.
     pub(crate) fn new(executor: &'a ExecutorIn<H>) -> SleeperIn<'a, H>
         ensures awake { result.number ≡ None }
-        ensures own { result.executor ≡ executor }
+        ensures own { result.executor.now ≡ executor.now }
     {
         SleeperIn {
             executor,
