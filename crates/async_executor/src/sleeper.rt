@@ -67,7 +67,8 @@ fn insert<W: Wake, R: Wait + Clone + Drop>(
 impl<'a, H: Home> SleeperIn<'a, H> {
     /// One that is awake. It has a reserved place among the sleepers.
     pub(crate) fn new(executor: &'a ExecutorIn<H>) -> SleeperIn<'a, H>
-        ensures { result.number ≡ None }
+        ensures awake { result.number ≡ None }
+        ensures own { result.executor.now ≡ executor.now }
     {
         SleeperIn {
             executor,

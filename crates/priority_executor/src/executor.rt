@@ -1,5 +1,5 @@
 //! An executor for each level of urgency.
-ghost use Rattle.std.specs.Prelude.{◌≡◌, ◌<◌, ◌-◌, ◌^◌, None, false, IfOk, IfErr, IsSomeAnd, All, length, vec_len};
+ghost use Rattle.std.specs.Prelude.{◌≡◌, ◌<◌, ◌-◌, ◌^◌, None, false, IfOk, IfErr, IsSomeAnd, All, length, map, vec_len};
 ghost use Rattle.executor_core.specs.SpawnError.{refused_future};
 
 use crate::answers::Answers;
@@ -142,7 +142,9 @@ where
     /// }
     /// ```
     pub fn tick(&self) -> Result<PriorityTick<'_, F, W, R, N>, OutOfMemory>
-        ensures { IfOk result (λ tick. IsSomeAnd tick.sleepers (λ sleepers. All (λ s. s.inner.number ≡ None) sleepers.levels.items)) }
+        ensures awake { IfOk result (λ tick. IsSomeAnd tick.sleepers (λ own. All (λ s. s.inner.number ≡ None) own.levels.items)) }
+        ensures own { IfOk result (λ tick. IsSomeAnd tick.sleepers (λ own.
+            map (λ s. s.inner.executor.now) own.levels.items ≡ map (λ level. level.inner) self.now.levels.items)) }
     {
         let mut levels = Vec::with_capacity(*self.levels.allocator(), N)?;
         for level in &self.levels {

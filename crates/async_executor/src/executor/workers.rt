@@ -55,7 +55,8 @@ where
     /// let (mut first, mut second) = one.sleeper().ok().zip(two.sleeper().ok())?;
     /// ```
     pub fn sleeper(&self) -> Result<Sleeper<'_, F, W, R>, OutOfMemory>
-        ensures { IfOk result (λ sleeper. sleeper.inner.number ≡ None) }
+        ensures awake { IfOk result (λ sleeper. sleeper.inner.number ≡ None) }
+        ensures own { IfOk result (λ sleeper. sleeper.inner.executor.now ≡ self.now.inner) }
     {
         let inner = self.inner.sleeper()?;
         Ok(Sleeper { inner })

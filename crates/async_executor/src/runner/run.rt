@@ -24,8 +24,8 @@ use crate::machine::{
 };
 use crate::runner::words::Words;
 use crate::scheduler::{ExecutorIn, poll_taken};
+use crate::sleeping::{Slept, announce_found, leave, sleep};
 use crate::state::{ExecutorState, announce, cells};
-use crate::ticker::{Slept, announce_found, leave, sleep};
 use executor_core::limits::Limits;
 use executor_core::queue::{Ring, RunnerError, RunnerKey};
 use executor_core::task::{Again, Cells, Future, Poll, Ran, TaskId, Wake};
