@@ -1,13 +1,12 @@
 #!/bin/sh
-# Compares what the pages say with what the repository has: programs, callers and printed runs word
-# for word, quoted contracts, the calls and clauses that carry a promise, the modules of the map,
-# the worked interleaving of exsim, examples and their lines, links, and figures.
+# Compares what the pages say with what the repository has: programs, examples and printed runs word
+# for word, the calls and clauses that carry a promise, callers and their files, the modules of the
+# map, the worked interleaving of exsim, examples and their lines, links, and figures.
 # Usage: checks/readme.sh, anywhere. RT names the command rt. Its last line counts the comparisons.
 set -u
 . "$(dirname "$0")/lib/edits"
 cd "$top" || exit 1
-calling=crates/async_executor/CALLING.md
-utilities=crates/async_utilities/CALLING.md
+callings=$(echo crates/*/CALLING.md)
 sources=$(find crates uses -path '*/out' -prune -o \( -name '*.rt' -o -name '*.antt' -o -name '*.rs' \) -print)
 
 printf '%s\n' "$sources" | xargs cat > "$copy/sources"
@@ -45,11 +44,12 @@ run_exsim() {
 # A word that names a call, a clause, a type, a definition, a crate or a path has to be there.
 is_there() {
     case $1 in
-        *[!A-Za-z0-9_:./]* | F | R | S | W | self | break | unsafe | specs/ | proofs/ | src/ | out/) return 0 ;;
+        *[!A-Za-z0-9_:./]* | F | R | S | W | self | break | unsafe | specs/ | proofs/ | src/ | out/ | io::*) return 0 ;;
         uses::*) grep -qE "fn ${1#uses::}\b" uses/src/*.rs ;;
         */* | *.md | *.txt | *.svg) [ -e "$1" ] || [ -e "docs/$1" ] || [ -e "crates/executor_core/src/$1.rt" ] ||
             [ -e "crates/async_executor/src/$1.rt" ] || [ -e "crates/async_utilities/src/$1.rt" ] ;;
         [A-Z]*::[a-z]*) stands "fn ${1#*::}\b" ;;
+        [A-Z]*::[A-Z]*) stands "^ +${1#*::}(\(|,| \{|$)" ;;
         [A-Z]*) stands "(struct|enum|trait|type|const) $1\b" || stands "^ +$1(\(|,| \{|$)" ;;
         *) [ -d "$1" ] || stands "(fn|mod|ensures|pub|ghost) $1\b" || stands "codes \"$1\"" || grep -qw "$1" crates.txt ||
             grep -q "^$1 " bench/stdout || [ -n "$(find checks -name "$1.edit")" ] ;;
@@ -83,30 +83,43 @@ else
     fail "README.md, the logic of the toolchain: another" "$copy/log"
 fi
 
-block "$calling" rust "## A caller" > "$copy/said"
-cp uses/src/calling.rs "$copy/wanted"
-same "CALLING.md, the caller and the folder uses"
+# The example of a page is a whole piece of the file that the page names above it.
+for page in $callings; do
+    block "$page" rust "## Example" > "$copy/said"
+    file=$(sed -n '/^## Example/,/^```/s/.*(\([^()]*\.rs\)).*/\1/p' "$page" | head -n 1)
+    if [ -s "$copy/said" ] && python3 -c 'import sys; sys.exit(open(sys.argv[1]).read() not in open(sys.argv[2]).read())' \
+        "$copy/said" "$(dirname "$page")/$file"; then
+        pass "$page, the example: in $file"
+    else
+        fail "$page, the example: not in $file" "$copy/said"
+    fi
+done
 
-block "$utilities" rust "## A caller" > "$copy/said"
-cp uses/src/timing.rs "$copy/wanted"
-same "CALLING.md of async_utilities, the caller and the folder uses"
+# A caller stands in the file whose link is before it.
+for page in $callings; do
+    file=
+    awk '/^```/ { inside = !inside } !inside' "$page" | grep -oE '\(\.\./\.\./uses/src/[a-z]*\.rs\)|`uses::[a-z_]+`' | tr -d '()`' |
+        while read -r word; do
+            case $word in
+                uses::*) [ -z "$file" ] || grep -qE "fn ${word#uses::}\b" "$(dirname "$page")/$file" || echo "$word: not in $file" ;;
+                *) file=$word ;;
+            esac
+        done > "$copy/log"
+    if [ -s "$copy/log" ]; then fail "$page, callers in other files:" "$copy/log"; else pass "$page: each caller is in its file"; fi
+done
 
 block docs/OWN_REPOSITORY.md rust "## From an" > "$copy/said"
 sed -n '/^    fn poll/,/^    }/s/^    //p' uses/src/translating.rs > "$copy/wanted"
 same "OWN_REPOSITORY.md, the poll and the folder uses"
 
-# A clause is quoted with S for what self points to.
-cat crates/async_executor/src/*.rt crates/async_executor/src/*executor/*.rt \
-    crates/async_executor/src/scheduler/*.rt crates/async_executor/src/runner/*.rt \
-    crates/executor_core/src/task/*.rt |
-    sed "s/self\.new/S'/g; s/self\.\(old\|now\)/S/g" > "$copy/clauses"
-block "$calling" text "## Contracts" | sed -n 's/^  \(ensures\|requires\)\( [a-z_]*\)\?: \(.*\)$/\1\2 { \3 }/p' |
-    sort -u > "$copy/said"
-sed 's/^ *//; s/[;,]$//' "$copy/clauses" | grep -Fxf "$copy/said" | sort -u > "$copy/wanted"
-same "CALLING.md, the clauses and the sources"
-
-for page in README.md docs/PROVED.md docs/ARCHITECTURE.md docs/BUGS.md docs/MEASURED.md "$calling"; do
+for page in README.md docs/PROVED.md docs/ARCHITECTURE.md docs/BUGS.md docs/MEASURED.md $callings; do
     quoted "$page" | while read -r word; do
+        # Of a call with its arguments the name has to be there.
+        call=${word%%(*}
+        case $call in
+            *' '* | "$word") ;;
+            *) [ "${page%CALLING.md}" = "$page" ] || word=${call##*.} ;;
+        esac
         is_there "$word" || echo "$word"
     done > "$copy/log"
     if [ -s "$copy/log" ]; then
@@ -123,7 +136,7 @@ for crate in executor_core async_executor priority_executor sharded_executor asy
     same "ARCHITECTURE.md, the modules of $crate"
 done
 
-grep -rhoE '`uses::[a-z_]+`' docs crates/*/src "$calling" "$utilities" | tr -d '`' | sort -u |
+grep -rhoE '`uses::[a-z_]+`' docs crates/*/src $callings | tr -d '`' | sort -u |
     while read -r word; do is_there "$word" || echo "$word"; done > "$copy/log"
 if [ -s "$copy/log" ]; then
     fail "examples that the folder uses lacks:" "$copy/log"
@@ -146,48 +159,15 @@ else
     pass "each public call has an example"
 fi
 
-# The examples in comments: each has one to three lines, which stand in a file of the folder uses
-# that defines a caller which the line 'Example: ' above them names.
-for folder in uses crates/executor_core crates/async_executor crates/priority_executor crates/sharded_executor \
-    crates/async_utilities; do
-    printf '%s\n' "$sources" | grep "^$folder/src/"
-done | xargs awk '
-    function stands(line, word, file) {
-        for (word = 2; word <= words; word += 2)
-            for (file in callers)
-                if ((file, named[word]) in callers_of && (file, line) in lines_of) return 1
-        return 0
-    }
-    { text = $0; sub(/^ */, "", text) }
-    FILENAME ~ /^uses\// {
-        callers[FILENAME]
-        if (text !~ /^\/\//) lines_of[FILENAME, text]
-        if (sub(/^(pub(\([a-z]+\))? )?fn /, "uses::", text)) {
-            sub(/[(<].*/, "", text)
-            callers_of[FILENAME, text]
-        }
-        next
-    }
-    !sub(/^\/\/\/ ?/, "", text) {
-        if (words && (lines < 1 || lines > 3)) print FILENAME ": " lines " lines below: " example
-        words = inside = 0
-        next
-    }
-    /^ *\/\/\/ Example: / { examples++; example = text; words = split(text, named, "`"); lines = 0; next }
-    /^ *\/\/\/ ```/ { inside = !inside; next }
-    inside && words {
-        lines++
-        sub(/^ */, "", text)
-        if (!stands(text)) print FILENAME ": " text
-    }
-    END { if (!examples) print "there is no example" }' > "$copy/log"
-if [ -s "$copy/log" ]; then
-    fail "examples whose lines the folder uses lacks:" "$copy/log"
+python3 -B checks/lib/examples.py > "$copy/examples" 2>&1
+sed '$d' "$copy/examples" > "$copy/log"
+if [ -s "$copy/log" ] || ! [ "$(tail -n 1 "$copy/examples")" -gt 0 ]; then
+    fail "examples that the folder uses lacks, or that are no whole body where one is to be:" "$copy/log"
 else
-    pass "each line of an example is in the folder uses"
+    pass "each example is in the folder uses, and whole at the types of async_executor"
 fi
 
-for page in README.md docs/*.md "$calling"; do
+for page in README.md docs/*.md $callings; do
     grep -oE '\]\([^)#]*' "$page" | sed 's/^](//' | grep -v '^http' | while read -r link; do
         [ -e "$(dirname "$page")/$link" ] || echo "$page: $link"
     done

@@ -1,5 +1,6 @@
 //! Runs each caller of the crate `uses`, and compares what it gives. Each line of a table has the name of a caller, and
 //! whether its answer is the one that is wanted.
+mod calls;
 mod executors;
 mod handles;
 mod local;

@@ -55,7 +55,7 @@ fn what_has_no_text_of_its_own_is_given_one(rt: HostRuntime) -> Result<(), Fail>
         refused: Some(1u8),
         cause: RunnerError::Exhausted,
     };
-    assert_eq!(rt; text_of(&rt, many)?.as_str(), "no task number is left");
+    assert_eq!(rt; text_of(&rt, many)?.as_str(), "task numbers are exhausted");
     assert_eq!(rt;
         text_of(&rt, Unsent::Full(1u8))?.as_str(),
         "the channel is full"

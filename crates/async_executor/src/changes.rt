@@ -1,8 +1,8 @@
-//! The calls of a home. Each is one change of its store, which no other change overlaps, with one of
-//! the table inside it if that has to change with it.
+//! Transactions on a home: each changes the store under its lock and, where needed, the table under
+//! its own lock inside. A call on the table alone takes that lock alone.
 //!
-//! A change polls nothing of a task, drops nothing and wakes nobody: what is to be dropped or woken is
-//! part of its answer.
+//! A transaction polls nothing, drops nothing of a task's and wakes nobody: what is to be dropped or
+//! woken is part of its answer. No guard outlives it.
 ghost use Rattle.std.specs.Prelude.{◌≡◌, false, IfErr};
 ghost use Rattle.executor_core.specs.SpawnError.{refused_future};
 ghost use Rattle.async_executor.specs.LeftOver.{IsHeldRight, IsLeftRight, IsEndRight};
@@ -177,7 +177,7 @@ pub(crate) fn await_handle<H: Home>(
 /// The future of a task while it is out, with the waker that it is polled with.
 pub type Out<F, W, R> = Option<(F, TaskWaker<W, R>)>;
 
-// It waits for nothing, so it asks for no right to wait, and costs its caller no test.
+// Never blocks, so it needs no `Wait` bound, and its callers pay no check.
 impl<F: Drop, W: Drop, R: Drop, T: Drop> Store<F, Arc<ExecutorState<W, R>>, T> {
     #[inline(always)]
     pub(crate) fn take(&mut self, id: TaskId) -> Out<F, W, R> {

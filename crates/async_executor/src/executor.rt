@@ -2,6 +2,9 @@
 //!
 //! Each of them has what is written once for every home, at the shared one. It is a type of its own,
 //! so that a caller meets the bounds of its future, its waker and its right to wait, and no home.
+//!
+//! An example at a type or a call is the whole body of a caller in `uses/src/executor_calls.rs` or
+//! `handle_calls.rs`. There rt is the right to wait and alloc the allocator, as `main` hands them on.
 ghost use Rattle.std.specs.Prelude.{◌≡◌, ◌↔◌, false, IfOk, IfErr, IsErr, IfNone, vec_len, vec_capacity};
 ghost use Rattle.std.specs.Iterator.{IsFinite};
 ghost use Rattle.executor_core.specs.Limits.{is_lawful, default_limits};
@@ -34,19 +37,20 @@ pub use workers::{Sleeper, Worker};
 /// An executor of futures of the type F, whose handles are awaited by wakers of the type W, and
 /// which waits for its locks by the right R.
 ///
-/// It may be shared and sent: one is made only if F, its output and W may be sent, and R may be
-/// both. It stands for the `Executor` of the Rust crate.
+/// It is `Send` and `Sync`: making one requires F, its output and W to be `Send`, and R to be both. It
+/// stands for the `Executor` of the Rust crate.
 ///
 /// Its drop cancels every task and drops every future that is left, one after another, with no lock
-/// held. None is out to be polled then, since ticks and runs borrow the executor. A handle gives an
-/// output that was there before, and else says that its task was cancelled.
+/// held. Nothing is being polled at that point: ticks and runs borrow the executor. A handle gives an
+/// output that was there before, and otherwise says that its task was cancelled.
 ///
-/// Example: `uses::runs`, on several threads `uses::pools`, and of the drop `uses::closes`.
+/// Example: `uses::awaits_seven`, on several threads `uses::pools`, and of the drop `uses::closes`.
 ///
 /// ```text
-/// let mut task = executor.spawn(future).ok()?;
-/// run_all(rt, &executor);
-/// output_of(task.poll(&Nobody))
+/// let executor = Executor::new(rt.clone()?, alloc)?;
+/// let task = executor.spawn(Ready::new(7))?;
+/// // 7
+/// Ok(run_until(rt, alloc, &executor, task)??)
 /// ```
 pub struct Executor<F, W, R>
 where
@@ -57,6 +61,8 @@ where
     pub(crate) inner: ExecutorIn<SharedHome<F, W, R>>,
 }
 
+// `Send` and `Sync` are asked where an executor is made and where it spawns. Without an executor there is
+// no handle, tick or run, so their calls do not ask again.
 impl<F, W, R> Executor<F, W, R>
 where
     F: Future<TaskWaker<W, R>> + Send,
@@ -70,11 +76,7 @@ where
     ///
     /// `OutOfMemory` if memory for what the executor shares is refused.
     ///
-    /// Example: `uses::executor`, which `uses::runs` calls.
-    ///
-    /// ```text
-    /// Executor::new(rt.clone().ok()?, alloc).ok()
-    /// ```
+    /// Example: `uses::awaits_seven`, at `Executor`.
     pub fn new(rt: R, alloc: Global) -> Result<Self, OutOfMemory>
         ensures { IfOk result (λ executor. executor.inner.limits ≡ default_limits) }
     {
@@ -93,11 +95,22 @@ where
     /// `BadLimits` exactly if a limit is not in its range, before memory is asked for. Else
     /// `OutOfMemory`, if memory for what the executor shares is refused.
     ///
-    /// Example: `uses::keeps_turns`.
+    /// Example: `uses::limits_turns`.
     ///
     /// ```text
-    /// let executor = Executor::new_with(rt.clone().ok()?, alloc, limits).ok()?;
-    /// polled(&executor, &ran)
+    /// let limits = Limits {
+    ///     turn: 1,
+    ///     ..Limits::default()
+    /// };
+    /// let executor = Executor::new_with(rt.clone()?, alloc, limits)?;
+    /// executor.spawn(Ready::new(1))?.detach();
+    /// executor.spawn(Ready::new(2))?.detach();
+    /// let mut run = executor.run(Never::<()>::new())?;
+    /// run.poll(&NoopWaker);
+    /// let after_one = executor.is_empty();
+    /// run.poll(&NoopWaker);
+    /// // [true, false]: a turn for each task
+    /// Ok([!after_one, !executor.is_empty()])
     /// ```
     pub fn new_with(rt: R, alloc: Global, limits: Limits) -> Result<Self, NewError>
         ensures ok { IfOk result (λ executor. executor.inner.limits ≡ limits) }
@@ -114,15 +127,18 @@ where
     ///
     /// # Errors
     ///
-    /// If memory is refused, or no number is left for the task, the future is given back and all
+    /// If memory is refused, or task numbers are exhausted, the future is given back and all
     /// is as before.
     ///
-    /// Example: `uses::gives_back`.
+    /// Example: `uses::spawns`, and with a refused future `uses::gives_back`.
     ///
     /// ```text
-    /// match executor.spawn(future) {
-    ///     Ok(task) => Ok(task),
-    ///     Err(refused) => Err(refused.into_inner()),
+    /// let executor = Executor::new(rt.clone()?, alloc)?;
+    /// let mut task = executor.spawn(Ready::new(7))?;
+    /// let before = task.poll(&NoopWaker);
+    /// executor.try_tick();
+    /// // [Pending, Ready(Ok(7))]
+    /// Ok([before, task.poll(&NoopWaker)])
     /// ```
     #[inline(always)]
     pub fn spawn(&self, future: F) -> Result<Task<F, W, R>, SpawnError<F>>
@@ -143,16 +159,19 @@ where
     ///
     /// # Errors
     ///
-    /// If memory is refused, or no number is left for a task. Those that were spawned before
+    /// If memory is refused, or task numbers are exhausted. Those that were spawned before
     /// stay, with their handles in the Vec. The future that was refused is given back; there is none
     /// if the place of its handle was refused, since the Vec was full.
     ///
-    /// Example: `uses::spawns_many`.
+    /// Example: `uses::spawns_three`.
     ///
     /// ```text
-    /// let mut tasks: Vec<Task<Sum, Nobody, R>> = Vec::new(alloc);
-    /// let sums = (1..4).map(|number| Sum::of(number, number));
-    /// executor.spawn_many(sums, &mut tasks).ok()?;
+    /// let executor: Executor<Ready<u64>, NoopWaker, R> = Executor::new(rt.clone()?, alloc)?;
+    /// let mut tasks = Vec::new(alloc);
+    /// let futures = (0..3).map(|number| Ready::new(number));
+    /// let spawned = executor.spawn_many(futures, &mut tasks)?;
+    /// // (3, 3)
+    /// Ok((spawned, tasks.len()))
     /// ```
     pub fn spawn_many<I: Iterator<Item = F>>(
         &self,
@@ -178,11 +197,16 @@ where
 {
     /// Whether the future of every task was dropped. A task that was cancelled counts until then.
     ///
-    /// Example: `uses::detaches`.
+    /// Example: `uses::empties_again`.
     ///
     /// ```text
-    /// let was_empty = executor.is_empty();
-    /// executor.try_tick() && executor.try_tick() && executor.is_empty() && !was_empty
+    /// let executor: Executor<Ready<u64>, NoopWaker, R> = Executor::new(rt.clone()?, alloc)?;
+    /// let before = executor.is_empty();
+    /// executor.spawn(Ready::new(7))?.detach();
+    /// let spawned = executor.is_empty();
+    /// executor.try_tick();
+    /// // [true, false, true]
+    /// Ok([before, spawned, executor.is_empty()])
     /// ```
     #[inline(always)]
     pub fn is_empty(&self) -> bool {
@@ -193,12 +217,14 @@ where
     /// once, or dropped if the task was cancelled. It looks at the queue that all share alone:
     /// what a run has in a queue of its own is left to it, or to `try_tick_any`.
     ///
-    /// Example: `uses::run_all`, which `uses::runs` calls.
+    /// Example: `uses::tries_ticks`.
     ///
     /// ```text
-    /// if !executor.try_tick() {
-    ///     break;
-    /// }
+    /// let executor: Executor<Ready<u64>, NoopWaker, R> = Executor::new(rt.clone()?, alloc)?;
+    /// let before = executor.try_tick();
+    /// executor.spawn(Ready::new(7))?.detach();
+    /// // [false, true, false]
+    /// Ok([before, executor.try_tick(), executor.try_tick()])
     /// ```
     #[inline(always)]
     pub fn try_tick(&self) -> bool {
@@ -212,12 +238,22 @@ where
     ///
     /// The Rust crate has no such call.
     ///
-    /// Example: `uses::empties`.
+    /// Example: `uses::tries_any_tick`.
     ///
     /// ```text
-    /// if !executor.try_tick_any() {
-    ///     break;
+    /// let turn_of_one = Limits {
+    ///     turn: 1,
+    ///     ..Limits::default()
+    /// };
+    /// let executor = Executor::new_with(rt.clone()?, alloc, turn_of_one)?;
+    /// for number in 0..3 {
+    ///     executor.spawn(Ready::new(number))?.detach();
     /// }
+    /// let mut run = executor.run(Never::<()>::new())?;
+    /// run.poll(&NoopWaker);
+    /// let global = executor.try_tick();
+    /// // [true, false, true]: the third task stood in the queue of the run
+    /// Ok([global, executor.try_tick(), executor.try_tick_any()])
     /// ```
     #[inline(always)]
     pub fn try_tick_any(&self) -> bool {
@@ -231,11 +267,15 @@ where
     ///
     /// `OutOfMemory` if memory for that place is refused. All is as before.
     ///
-    /// Example: `uses::sleeps`.
+    /// Example: `uses::ticks`.
     ///
     /// ```text
-    /// let mut tick = executor.tick().ok()?;
-    /// let asleep = tick.poll(&Nobody);
+    /// let executor = Executor::new(rt.clone()?, alloc)?;
+    /// let mut tick = executor.tick()?;
+    /// let asleep = tick.poll(&NoopWaker);
+    /// executor.spawn(Ready::new(7))?.detach();
+    /// // [Pending, Ready(())]
+    /// Ok([asleep, tick.poll(&NoopWaker)])
     /// ```
     #[inline(always)]
     pub fn tick(&self) -> Result<Tick<'_, F, W, R>, OutOfMemory>
@@ -245,23 +285,27 @@ where
         Ok(Tick { inner })
     }
 
-    /// A future that runs tasks of the executor beside this one, and ends with its output. In each
-    /// poll this future is polled first, and then tasks are run until none is left or a turn, which
-    /// goes on over polls, is over.
+    /// A future that runs tasks of the executor beside this one, and ends with its output. Each poll
+    /// first polls this future, and then runs tasks until none is left or the turn ends; a turn can
+    /// span several polls.
+    ///
     /// Its places among the sleepers and the runners and its queue are reserved here, and given back
     /// once it has ended or was dropped.
     ///
     /// # Errors
     ///
-    /// If memory is refused, or no number is left for the runner, the future is given back and
+    /// If memory is refused, or runner numbers are exhausted, the future is given back and
     /// all is as before.
     ///
-    /// Example: `uses::pools`.
+    /// Example: `uses::runs_beside`, and on several threads `uses::pools`.
     ///
     /// ```text
-    /// executor.run(stop.waiting().ok()?).ok()
-    /// let (one, two) = worker(&executor, &stop).zip(worker(&executor, &stop))?;
-    /// let is_first = scope.spawn(move || block_on(rt, alloc, one)).is_ok();
+    /// let executor = Executor::new(rt.clone()?, alloc)?;
+    /// let task = executor.spawn(Ready::new(7))?;
+    /// let mut run = executor.run(task)?;
+    /// let first = run.poll(&NoopWaker);
+    /// // [Pending, Ready(Ok(7))]
+    /// Ok([first, run.poll(&NoopWaker)])
     /// ```
     pub fn run<G: Future<W>>(&self, future: G) -> Result<Run<'_, F, W, R, G>, RunError<G>>
         ensures ok { IfOk result (λ run. has_ended run.inner.rest ≡ false) }
@@ -275,16 +319,19 @@ where
     }
 
     /// The same executor, for as long as the program lives: its drop cancels nothing. Every task is
-    /// woken, and the idle ones are scheduled by rising slot, behind all that are. Else all goes on as
+    /// woken, and the idle ones are scheduled by rising slot, behind all that are. Otherwise all goes on as
     /// it was: the queues and the numbers, and the handles and the wakers that were made before. It
     /// takes no memory.
     ///
-    /// Example: `uses::serves`.
+    /// Example: `uses::leaks`, and on several threads `uses::serves`.
     ///
     /// ```text
-    /// let before = executor.spawn(Sum::of(1, 2)).ok()?;
+    /// let executor: Executor<Ready<u64>, NoopWaker, R> = Executor::new(rt.clone()?, alloc)?;
+    /// executor.spawn(Ready::new(1))?.detach();
     /// let server = executor.leak();
-    /// let after = server.spawn(Sum::of(3, 4)).ok()?;
+    /// server.spawn(Ready::new(2))?.detach();
+    /// // [true, true]
+    /// Ok([server.try_tick(), server.try_tick()])
     /// ```
     pub fn leak(self) -> StaticExecutor<F, W, R>
         ensures { result.executor ≡ self }

@@ -46,8 +46,8 @@ pub trait Shareable: Home {
     fn share_state(&self) -> Result<StateIn<Self>, OutOfMemory>;
 }
 
-/// Waits for the store of a home, which nobody else has until the guard is dropped. It is no function
-/// for the reason that `lock` is none.
+/// Waits for the store of a home, which nobody else has until the guard is dropped. A macro, for the
+/// same reason as `lock!`.
 macro_rules! store {
     ($home:expr) => {
         match $home.try_store() {
@@ -67,6 +67,8 @@ pub type StoreIn<H> = Store<<H as Home>::Future, StateIn<H>, OutputIn<H>>;
 
 /// A store that nobody else has until this is dropped.
 #[derive(Drop)]
+// Two kinds, since an associated type can have no lifetime for a parameter. A home makes one kind alone,
+// so in the code of its calls the choice is gone.
 pub enum StoreGuard<'a, S: Drop> {
     Locked(MutexGuard<'a, S>),
     Lent(Lent<'a, S>),

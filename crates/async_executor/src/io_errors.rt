@@ -16,6 +16,7 @@ impl From<Cancelled> for Error {
     ghost from_gives = { λ _ e. error_kind e ≡ ErrorKind.Other };
 
     fn from(_error: Cancelled) -> Error {
+        // Not `Interrupted`, which code that reads takes as a reason to try again.
         Error::new(ErrorKind::Other, "the task was cancelled")
     }
 }
@@ -38,7 +39,7 @@ impl<F: Drop> From<SpawnMany<F>> for Error {
     fn from(error: SpawnMany<F>) -> Error {
         match error.cause {
             RunnerError::OutOfMemory => Error::from(ErrorKind::OutOfMemory),
-            RunnerError::Exhausted => Error::new(ErrorKind::Other, "no task number is left"),
+            RunnerError::Exhausted => Error::new(ErrorKind::Other, "task numbers are exhausted"),
         }
     }
 }

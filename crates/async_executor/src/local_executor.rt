@@ -1,7 +1,7 @@
 //! The executor that stays on the thread that made it, with its handles, ticks and runs.
 //!
 //! Each of them has what is written once for every home, at the local one. It is a type of its own,
-//! for the reason that the shared ones are.
+//! for the reason that the shared ones are. The examples stand in `uses/src/local_calls.rs`.
 ghost use Rattle.std.specs.Prelude.{◌≡◌, ◌↔◌, false, IfOk, IfErr, IsErr, IfNone, vec_len, vec_capacity};
 ghost use Rattle.std.specs.Iterator.{IsFinite};
 ghost use Rattle.executor_core.specs.Limits.{is_lawful, default_limits};
@@ -25,20 +25,24 @@ use std::alloc::Global;
 use std::sync::Wait;
 pub use tickers::{LocalRun, LocalTick};
 
-/// An executor that stays on its thread, as do its handles, its ticks and its runs: none of them can
-/// be sent or shared. So F, its output and W may be what cannot be sent, and no lock is taken for what
-/// it keeps of its tasks.
+/// An executor that stays on its thread, as do its handles, its ticks and its runs: none of them is
+/// `Send` or `Sync`. So F, its output and W need not be `Send`, and no lock is taken for what it keeps
+/// of its tasks.
 ///
-/// The wakers of its tasks may go to other threads if W may be sent and R be both sent and shared. A
-/// wake there schedules the task for this thread. It stands for the `LocalExecutor` of the Rust crate.
-/// Its drop is that of `Executor`.
+/// The wakers of its tasks may go to other threads if W is `Send`, and R both `Send` and `Sync`. A wake
+/// there schedules the task for this thread. It stands for the `LocalExecutor` of the Rust crate. Its
+/// drop is that of `Executor`.
 ///
-/// Example: `uses::stays`, and of the drop `uses::gathers`.
+/// Example: `uses::runs_locally`, with tasks that share an `Rc` `uses::stays`, and of the drop
+/// `uses::gathers`.
 ///
 /// ```text
-/// let executor = LocalExecutor::new(rt.clone().ok()?, alloc).ok()?;
-/// spawned(&executor, &total, 2)?.detach();
-/// let mut run = executor.run(spawned(&executor, &total, 3)?).ok()?;
+/// let executor = LocalExecutor::new(rt.clone()?, alloc)?;
+/// let task = executor.spawn(Ready::new(7))?;
+/// let mut run = executor.run(task)?;
+/// let first = run.poll(&NoopWaker);
+/// // [Pending, Ready(Ok(7))]
+/// Ok([first, run.poll(&NoopWaker)])
 /// ```
 pub struct LocalExecutor<F, W, R>
 where
@@ -61,12 +65,7 @@ where
     ///
     /// `OutOfMemory` if memory for what the executor shares is refused.
     ///
-    /// Example: `uses::stays`.
-    ///
-    /// ```text
-    /// let executor = LocalExecutor::new(rt.clone().ok()?, alloc).ok()?;
-    /// spawned(&executor, &total, 2)?.detach();
-    /// ```
+    /// Example: `uses::runs_locally`, at `LocalExecutor`.
     pub fn new(rt: R, alloc: Global) -> Result<Self, OutOfMemory>
         ensures { IfOk result (λ executor. executor.inner.limits ≡ default_limits) }
     {
@@ -84,10 +83,21 @@ where
     /// `BadLimits` exactly if a limit is not in its range, before memory is asked for. Else
     /// `OutOfMemory`, if memory for what the executor shares is refused.
     ///
-    /// Example: `uses::keeps_turns`, of an `Executor`.
+    /// Example: `uses::limits_locally`.
     ///
     /// ```text
-    /// let executor = Executor::new_with(rt.clone().ok()?, alloc, limits).ok()?;
+    /// let limits = Limits {
+    ///     turn: 1,
+    ///     ..Limits::default()
+    /// };
+    /// let executor = LocalExecutor::new_with(rt.clone()?, alloc, limits)?;
+    /// executor.spawn(Ready::new(1))?.detach();
+    /// executor.spawn(Ready::new(2))?.detach();
+    /// let mut run = executor.run(Never::<()>::new())?;
+    /// run.poll(&NoopWaker);
+    /// let after_one = executor.is_empty();
+    /// // [true, true, true]: a turn leaves the second task
+    /// Ok([!after_one, executor.try_tick_any(), executor.is_empty()])
     /// ```
     pub fn new_with(rt: R, alloc: Global, limits: Limits) -> Result<Self, NewError>
         ensures ok { IfOk result (λ executor. executor.inner.limits ≡ limits) }
@@ -104,15 +114,10 @@ where
     ///
     /// # Errors
     ///
-    /// If memory is refused, or no number is left for the task, the future is given back and all is as
+    /// If memory is refused, or task numbers are exhausted, the future is given back and all is as
     /// before.
     ///
-    /// Example: `uses::stays`.
-    ///
-    /// ```text
-    /// let total = total.clone().ok()?;
-    /// executor.spawn(Add { total, number }).ok()
-    /// ```
+    /// Example: `uses::runs_locally`, at `LocalExecutor`.
     #[inline(always)]
     pub fn spawn(&self, future: F) -> Result<LocalTask<F, W, R>, SpawnError<F>>
         ensures ok { IfOk result (λ task. task.inner.answered ≡ false) }
@@ -128,16 +133,20 @@ where
     ///
     /// # Errors
     ///
-    /// If memory is refused, or no number is left for a task. Those that were spawned before stay, with
+    /// If memory is refused, or task numbers are exhausted. Those that were spawned before stay, with
     /// their handles in the Vec. The future that was refused is given back; there is none if the place
     /// of its handle was refused, since the Vec was full.
     ///
-    /// Example: `uses::gathers`.
+    /// Example: `uses::spawns_locally`.
     ///
     /// ```text
-    /// let mut tasks: Vec<LocalTask<Sum, Nobody, R>> = Vec::new(alloc);
-    /// let sums = (1..3).map(|number| Sum::of(number, number));
-    /// executor.spawn_many(sums, &mut tasks).ok()?;
+    /// let executor: LocalExecutor<Ready<u64>, NoopWaker, R> = LocalExecutor::new(rt.clone()?, alloc)?;
+    /// let mut tasks = Vec::new(alloc);
+    /// let futures = (0..2).map(|number| Ready::new(number));
+    /// let spawned = executor.spawn_many(futures, &mut tasks)?;
+    /// let both = executor.try_tick() && executor.try_tick();
+    /// // (2, true)
+    /// Ok((spawned, both && executor.is_empty()))
     /// ```
     pub fn spawn_many<I: Iterator<Item = F>>(
         &self,
@@ -156,12 +165,7 @@ where
 
     /// As `Executor::is_empty`.
     ///
-    /// Example: `uses::stays`.
-    ///
-    /// ```text
-    /// let has_ended = run.poll(&Nobody) == Poll::Ready(Ok(()));
-    /// Some((total.get(), has_ended && executor.is_empty()))
-    /// ```
+    /// Example: `uses::spawns_locally`, at `LocalExecutor::spawn_many`.
     #[inline(always)]
     pub fn is_empty(&self) -> bool {
         self.inner.is_empty()
@@ -169,13 +173,7 @@ where
 
     /// As `Executor::try_tick`.
     ///
-    /// Example: `uses::gathers`.
-    ///
-    /// ```text
-    /// for _ in 0..3 {
-    ///     executor.try_tick();
-    /// }
-    /// ```
+    /// Example: `uses::spawns_locally`, at `LocalExecutor::spawn_many`.
     #[inline(always)]
     pub fn try_tick(&self) -> bool {
         self.inner.try_tick()
@@ -183,13 +181,7 @@ where
 
     /// As `Executor::try_tick_any`.
     ///
-    /// Example: `uses::clears`.
-    ///
-    /// ```text
-    /// if !executor.try_tick_any() {
-    ///     break;
-    /// }
-    /// ```
+    /// Example: `uses::limits_locally`, at `LocalExecutor::new_with`.
     #[inline(always)]
     pub fn try_tick_any(&self) -> bool {
         self.inner.try_tick_any()
@@ -201,11 +193,15 @@ where
     ///
     /// `OutOfMemory` if memory for the place in which it sleeps is refused. All is as before.
     ///
-    /// Example: `uses::naps`.
+    /// Example: `uses::ticks_locally`.
     ///
     /// ```text
-    /// let mut tick = executor.tick().ok()?;
-    /// let asleep = tick.poll(&Nobody);
+    /// let executor = LocalExecutor::new(rt.clone()?, alloc)?;
+    /// let mut tick = executor.tick()?;
+    /// let asleep = tick.poll(&NoopWaker);
+    /// executor.spawn(Ready::new(7))?.detach();
+    /// // [Pending, Ready(())]
+    /// Ok([asleep, tick.poll(&NoopWaker)])
     /// ```
     #[inline(always)]
     pub fn tick(&self) -> Result<LocalTick<'_, F, W, R>, OutOfMemory>
@@ -219,16 +215,10 @@ where
     ///
     /// # Errors
     ///
-    /// If memory is refused, or no number is left for the runner, the future is given back and all is
+    /// If memory is refused, or runner numbers are exhausted, the future is given back and all is
     /// as before.
     ///
-    /// Example: `uses::stays`.
-    ///
-    /// ```text
-    /// let mut run = executor.run(spawned(&executor, &total, 3)?).ok()?;
-    /// run.poll(&Nobody);
-    /// let has_ended = run.poll(&Nobody) == Poll::Ready(Ok(()));
-    /// ```
+    /// Example: `uses::runs_locally`, at `LocalExecutor`.
     pub fn run<G: Future<W>>(&self, future: G) -> Result<LocalRun<'_, F, W, R, G>, RunError<G>>
         ensures ok { IfOk result (λ run. has_ended run.inner.rest ≡ false) }
         ensures limits { IfOk result (λ run. IsNewRun self.now.inner.limits run.inner.rest run.inner.own.ring) }
@@ -242,11 +232,15 @@ where
 
     /// As `Executor::leak`.
     ///
-    /// Example: `uses::lasts`.
+    /// Example: `uses::leaks_locally`.
     ///
     /// ```text
-    /// executor.spawn(Sum::of(1, 2)).ok()?.detach();
-    /// Some(executor.leak())
+    /// let executor: LocalExecutor<Ready<u64>, NoopWaker, R> = LocalExecutor::new(rt.clone()?, alloc)?;
+    /// executor.spawn(Ready::new(1))?.detach();
+    /// let server = executor.leak();
+    /// server.spawn(Ready::new(2))?.detach();
+    /// // [true, true]
+    /// Ok([server.try_tick(), server.try_tick()])
     /// ```
     pub fn leak(self) -> StaticLocalExecutor<F, W, R>
         ensures { result.executor ≡ self }

@@ -8,7 +8,8 @@
 //!
 //! A `TickMachine` or a `RunMachine` is the step that waits for the reply to its last action, for
 //! callers who drive a core of their own: it is told what came of that, goes on by the same calls,
-//! and answers with the next action.
+//! and answers with the next action. Running ticks and runs hold steps: a reply is a large value, which
+//! would be built only to be taken apart.
 
 mod count;
 mod run;

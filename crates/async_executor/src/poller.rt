@@ -45,6 +45,8 @@ impl<F: Future<TaskWaker<W, R>>, W: Drop, R: Drop> Poller<(), F::Output>
     #[inline(always)]
     fn poll(&mut self, id: TaskId, _future: ()) -> Polled<(), F::Output> {
         self.polls += 1;
+        // The future stays where it is until it is put back: a large one is not moved through the
+        // answers.
         let Some((future, waker)) = &mut *self.out else {
             return Polled::Pending(());
         };

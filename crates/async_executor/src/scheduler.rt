@@ -34,8 +34,8 @@ pub(crate) use many::Handle;
 pub use many::SpawnMany;
 use std::alloc::Global;
 
-// Runs the task that this take finds, and says whether there was one. No lock may be held. It is no
-// function for the reason that `lock` is none.
+// Runs the task that this take finds, and says whether there was one. No lock may be held. A macro, for
+// the same reason as `lock!`.
 macro_rules! take_and_run {
     ($executor:expr, $take:ident) => {{
         let state = $executor.home.state();
@@ -196,6 +196,7 @@ impl<H: Home> ExecutorIn<H> {
     {
         match left {
             LeftOver::Finished(unwanted, awaiter) => {
+                // Before the awaiter is woken.
                 drop(unwanted);
                 if let Some(awaiter) = awaiter {
                     awaiter.wake();

@@ -147,6 +147,7 @@ impl<H: Home> SleeperIn<'_, H> {
         let Some(number) = self.number.take() else {
             return self.notice.is_some();
         };
+        // Not passed on at once: each would wake the next, since each leaves as soon as it is woken.
         if let Some(notice) = remove(self.executor.state(), number) {
             self.keep(notice);
         }

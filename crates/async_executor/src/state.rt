@@ -13,7 +13,7 @@ use std::sync::{MutexGuard, Wait};
 
 /// Spends the notice of a task that was queued or taken: if somebody sleeps and nobody was
 /// notified since, a sleeper is woken. No lock may be held. It stands for `State::notify` of the
-/// Rust crate. It is no function for the reason that `lock` is none.
+/// Rust crate. A macro, for the same reason as `lock!`.
 macro_rules! announce {
     ($state:expr, $notice:expr) => {
         if let Some(pick) = $state.exchange($notice) {
@@ -24,8 +24,8 @@ macro_rules! announce {
 
 pub(crate) use announce;
 
-/// Waits for the table of tasks of a state, which is locked until the guard is dropped. It is no
-/// function for the reason that `lock` is none.
+/// Waits for the table of tasks of a state, which is locked until the guard is dropped. A macro, for the
+/// same reason as `lock!`.
 macro_rules! cells {
     ($state:expr) => {{
         let state = $state;
@@ -36,7 +36,7 @@ macro_rules! cells {
 pub(crate) use cells;
 
 /// Waits for the sleepers of a state, which are locked until the guard is dropped. They come with
-/// their law. It is no function for the reason that `lock` is none.
+/// their law. A macro, for the same reason as `lock!`.
 macro_rules! sleepers {
     ($state:expr) => {{
         let state = $state;
@@ -77,7 +77,7 @@ pub(crate) struct Parts<W, R> {
     after_all: Border,
 }
 
-// What waits for no lock. It asks for no right to wait, so that it costs its caller no test.
+// Never blocks, so it needs no `Wait` bound, and its callers pay no check.
 impl<W, R> ExecutorState<W, R> {
     /// The right to wait.
     pub(crate) fn rt(&self) -> &R {
@@ -134,7 +134,7 @@ impl<W: Wake, R: Wait + Clone + Drop> ExecutorState<W, R> {
     }
 
     /// Waits for the table of tasks, which is locked until the guard is dropped. It comes with its
-    /// law: a task stands once in the queues if it is scheduled, and else in none.
+    /// law: a task stands once in the queues if it is scheduled, and otherwise in none.
     #[inline(always)]
     pub(crate) fn cells(&self) -> MutexGuard<'_, Cells<(), (), W>>
         ensures { LockLaw (mutex_guard_value result) }

@@ -19,11 +19,14 @@ use std::sync::Wait;
 /// If it is dropped, no task runs any more, and those that are left are not cancelled: their handles
 /// stay pending. What is left of them is let go with the last handle.
 ///
-/// Example: `uses::serves`.
+/// Example: `uses::outlasts`.
 ///
 /// ```text
-/// let server = executor.leak();
-/// let after = server.spawn(Sum::of(3, 4)).ok()?;
+/// let server = StaticExecutor::new(rt.clone()?, alloc)?;
+/// let mut task = server.spawn(Ready::new(7))?;
+/// drop(server);
+/// // Pending
+/// Ok(task.poll(&NoopWaker))
 /// ```
 pub struct StaticExecutor<F, W, R>
 where
@@ -47,12 +50,7 @@ where
     ///
     /// `OutOfMemory` if memory for what the executor shares is refused.
     ///
-    /// Example: `uses::prints`.
-    ///
-    /// ```text
-    /// let server = StaticExecutor::new(rt.clone().ok()?, alloc).ok()?;
-    /// server.spawn(Sum::of(1, 2)).ok()?.detach();
-    /// ```
+    /// Example: `uses::outlasts`, at `StaticExecutor`.
     pub fn new(rt: R, alloc: Global) -> Result<Self, OutOfMemory>
         ensures { IfOk result (λ server. server.executor.inner.limits ≡ default_limits) }
     {
@@ -67,10 +65,19 @@ where
     /// `BadLimits` exactly if a limit is not in its range, before memory is asked for. Else
     /// `OutOfMemory`, if memory for what the executor shares is refused.
     ///
-    /// Example: `uses::keeps_turns`, of an `Executor`.
+    /// Example: `uses::limits_for_good`.
     ///
     /// ```text
-    /// let executor = Executor::new_with(rt.clone().ok()?, alloc, limits).ok()?;
+    /// let limits = Limits {
+    ///     turn: 1,
+    ///     ..Limits::default()
+    /// };
+    /// let server = StaticExecutor::new_with(rt.clone()?, alloc, limits)?;
+    /// server.spawn(Ready::new(7))?.detach();
+    /// let mut run = server.run(Never::<()>::new())?;
+    /// run.poll(&NoopWaker);
+    /// // true
+    /// Ok(server.is_empty())
     /// ```
     pub fn new_with(rt: R, alloc: Global, limits: Limits) -> Result<Self, NewError>
         ensures ok { IfOk result (λ server. server.executor.inner.limits ≡ limits) }
@@ -116,12 +123,14 @@ where
 /// A `LocalExecutor` for as long as the program lives. It stays on its thread, and its drop is that of
 /// `StaticExecutor`. It stands for the `StaticLocalExecutor` of the Rust crate.
 ///
-/// Example: `uses::keeps`.
+/// Example: `uses::outlasts_locally`.
 ///
 /// ```text
-/// let server = StaticLocalExecutor::new(rt.clone().ok()?, alloc).ok()?;
-/// server.spawn(Sum::of(1, 2)).ok()?.detach();
-/// server.tick().ok()?.poll(&Nobody);
+/// let server = StaticLocalExecutor::new(rt.clone()?, alloc)?;
+/// let mut task = server.spawn(Ready::new(7))?;
+/// drop(server);
+/// // Pending
+/// Ok(task.poll(&NoopWaker))
 /// ```
 pub struct StaticLocalExecutor<F, W, R>
 where
@@ -144,12 +153,7 @@ where
     ///
     /// `OutOfMemory` if memory for what the executor shares is refused.
     ///
-    /// Example: `uses::keeps`.
-    ///
-    /// ```text
-    /// let server = StaticLocalExecutor::new(rt.clone().ok()?, alloc).ok()?;
-    /// server.spawn(Sum::of(1, 2)).ok()?.detach();
-    /// ```
+    /// Example: `uses::outlasts_locally`, at `StaticLocalExecutor`.
     pub fn new(rt: R, alloc: Global) -> Result<Self, OutOfMemory>
         ensures { IfOk result (λ server. server.executor.inner.limits ≡ default_limits) }
     {
@@ -164,10 +168,19 @@ where
     /// `BadLimits` exactly if a limit is not in its range, before memory is asked for. Else
     /// `OutOfMemory`, if memory for what the executor shares is refused.
     ///
-    /// Example: `uses::keeps_turns`, of an `Executor`.
+    /// Example: `uses::limits_locally_for_good`.
     ///
     /// ```text
-    /// let executor = Executor::new_with(rt.clone().ok()?, alloc, limits).ok()?;
+    /// let limits = Limits {
+    ///     turn: 1,
+    ///     ..Limits::default()
+    /// };
+    /// let server = StaticLocalExecutor::new_with(rt.clone()?, alloc, limits)?;
+    /// server.spawn(Ready::new(7))?.detach();
+    /// let mut run = server.run(Never::<()>::new())?;
+    /// run.poll(&NoopWaker);
+    /// // true
+    /// Ok(server.is_empty())
     /// ```
     pub fn new_with(rt: R, alloc: Global, limits: Limits) -> Result<Self, NewError>
         ensures ok { IfOk result (λ server. server.executor.inner.limits ≡ limits) }

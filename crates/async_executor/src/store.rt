@@ -13,6 +13,7 @@ use std::alloc::Global;
 #[derive(Drop)]
 pub enum Kept<F, S, T> {
     Nothing,
+    // The task's waker is made of the share as the future is taken, so no place has an id twice.
     Future(F, S),
     Output(T),
 }
@@ -67,6 +68,8 @@ impl<F: Drop, S: Drop, T: Drop> Store<F, S, T> {
             number: id.number(),
             kept: Kept::Future(future, share),
         };
+        // The table gives slots as they come. A place elsewhere would be found by no other task: it bears
+        // a number.
         if slot < self.places.len() {
             self.places[slot] = place;
         } else {

@@ -114,6 +114,7 @@ impl<H: Home> Future<H::Waker> for TaskIn<H> {
             self.answered = true;
             return Poll::Ready(output.ok_or(Cancelled));
         }
+        // Only now: an answer needs no copy, which may be refused. No lock is held.
         let Ok(waker) = w.copy() else {
             w.wake();
             return Poll::Pending;
@@ -155,7 +156,7 @@ fn drop_unanswered<H: Home>(home: &H, id: TaskId) {
     drop(awaiter);
 }
 
-/// The answer without the error's name.
+/// `Ok(x)` becomes `Some(x)`, and `Cancelled` becomes `None`.
 pub(crate) fn some_if_ok<T: Drop>(answer: Poll<Result<T, Cancelled>>) -> Poll<Option<T>>
     ensures ready { is_ready result ≡ is_ready answer }
     ensures none { IsReadyErr answer → IsReadyNone result }

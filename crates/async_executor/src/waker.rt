@@ -100,6 +100,8 @@ impl<W: Wake, R: Wait + Clone + Drop> Wake for TaskWaker<W, R> {
     #[inline(always)]
     fn wake(&self) {
         if let Some(mark) = &self.mark {
+            // No caller can tell: until its poll has ended the task is held, and only that end looks at a
+            // wake of it. A copy may be kept beyond the poll, so it has no mark.
             mark.store(true, Ordering::SeqCst);
             return;
         }

@@ -169,8 +169,8 @@ pub fn block_on<G: Future<ThreadWaker>>(
 ///
 /// # Errors
 ///
-/// `RunError` with the future, if memory for the run or for the thread's waker is refused, or no number
-/// is left for the run.
+/// `RunError` with the future, if memory for the run or for the thread's waker is refused, or runner
+/// numbers are exhausted.
 ///
 /// Example: `uses::runs_here`.
 ///

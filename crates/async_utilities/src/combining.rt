@@ -342,6 +342,7 @@ fn poll_first_of<W, A: Future<W>, B: Future<W, Output = A::Output>>(
 #[derive(Drop)]
 pub struct Race<A, B> {
     both: Option<(A, B)>,
+    // Turns and no random number: a program runs the same way each time.
     is_right_first: bool,
 }
 

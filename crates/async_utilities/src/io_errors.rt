@@ -17,7 +17,7 @@ impl From<PoolError> for Error {
     fn from(error: PoolError) -> Error {
         match error {
             PoolError::OutOfMemory => Error::from(ErrorKind::OutOfMemory),
-            PoolError::Exhausted => Error::new(ErrorKind::Other, "no runner number is left"),
+            PoolError::Exhausted => Error::new(ErrorKind::Other, "runner numbers are exhausted"),
             PoolError::NoThread => Error::new(ErrorKind::WouldBlock, "cannot start a thread"),
         }
     }

@@ -72,6 +72,7 @@ impl<G, T> Joining<G, T> {
         ensures order { Awaits self.old.left.items self.new.left.items }
     {
         while let Some(future) = self.left.last_mut() {
+            // One after another: if each poll polled all, n futures would take n² polls.
             let Poll::Ready(output) = future.poll(w) else {
                 return false;
             };

@@ -23,7 +23,7 @@ pub enum PoolError {
     #[error("out of memory")]
     OutOfMemory,
     /// Every runner number was given.
-    #[error("no runner number is left")]
+    #[error("runner numbers are exhausted")]
     Exhausted,
     /// A thread cannot be started.
     #[error("cannot start a thread")]
@@ -266,6 +266,8 @@ where
         for _ in 0..count {
             pool.start(&beginning)?;
         }
+        // Each thread makes its own run, which borrows the executor it has a share of. One that was
+        // refused its memory would leave its tasks to nobody.
         beginning.wait(&pool.rt)?;
         Ok(pool)
     }
@@ -342,6 +344,7 @@ where
             rt,
         } = self;
         stop.set();
+        // A thread that is not joined may be cut off in the middle of a task when the program ends.
         drop(started.join(&rt));
         drop(executor);
     }

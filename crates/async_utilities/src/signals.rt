@@ -31,6 +31,7 @@ pub struct Signal<W: Wake, R: Wait + Drop> {
 struct Shared<W: Wake, R: Wait + Drop> {
     state: Mutex<State<W>>,
     alloc: Global,
+    // Kept, so that a poll can take the lock.
     rt: R,
 }
 
@@ -98,6 +99,7 @@ impl<W: Drop> State<W> {
             return None;
         }
         self.is_set = true;
+        // Taken out, so that all are woken in order without the lock.
         let waiters = replace(&mut self.waiters, WaitQueue::new(alloc));
         Some(AllDue { waiters })
     }

@@ -53,6 +53,8 @@ pub trait MakeTask<J: Drop, R: Wait + Clone + Drop>: Drop {
 #[derive(Drop)]
 struct Desk<J: Drop, R: Wait + Clone + Drop> {
     jobs: Sender<J, NoopWaker, PoolWaker<R>, R>,
+    // The owner and each job whose task has not ended. To count what waits and what runs would need both
+    // under one lock.
     open: AtomicUsize,
 }
 
@@ -112,6 +114,7 @@ impl<J: Drop, R: Wait + Clone + Drop> Spawner<J, R> {
     {
         let desk = &*self.desk;
         desk.open.fetch_add(1, Ordering::SeqCst);
+        // Never waits for room: if all tasks that run did, none would end.
         let sent = desk.jobs.try_send(job);
         if sent.is_err() {
             desk.end_one();
@@ -141,6 +144,7 @@ where
     spawner: Spawner<J, R>,
     maker: Arc<M>,
     unmade: Option<J>,
+    // Polled here: its job takes no place in the table of tasks, and no memory but that of the channel.
     task: Option<M::Task>,
     done: u64,
 }
@@ -205,6 +209,7 @@ where
                 Begun::Task
             }
             Err(job) => {
+                // Taken before all that wait, so jobs go in order.
                 self.unmade = Some(job);
                 w.wake();
                 Begun::Nothing
@@ -326,6 +331,8 @@ pub fn servers<J, M, R>(
     rt: R,
     alloc: Global,
     limits: JobLimits,
+    // Made by the caller, and no pool is made here: the borrow checker does not know that a bound on a
+    // type parameter holds on another thread.
     maker: M,
 ) -> Result<(Jobs<J, R>, Vec<Server<J, M, R>>), OutOfMemory>
 where

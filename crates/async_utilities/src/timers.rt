@@ -57,7 +57,7 @@ impl<W: Wake, C: Clock + Drop, R: Wait + Drop> Timer<W, C, R> {
     ///
     /// # Errors
     ///
-    /// `TimerError`, if memory for it is refused or the clock is not to be read.
+    /// `TimerError`, if memory for it is refused or the clock cannot be read.
     ///
     /// Example: `uses::times_out`.
     ///
@@ -120,7 +120,7 @@ impl<W: Wake, C: Clock + Drop, R: Wait + Drop> Timer<W, C, R> {
     ///
     /// # Errors
     ///
-    /// `TimerError`, if another holder of the timer cannot be counted or the clock is not to be read.
+    /// `TimerError`, if another holder of the timer cannot be counted or the clock cannot be read.
     ///
     /// Example: `uses::rest`, which `uses::rests` calls.
     ///
@@ -142,7 +142,7 @@ impl<W: Wake, C: Clock + Drop, R: Wait + Drop> Timer<W, C, R> {
     ///
     /// # Errors
     ///
-    /// `TimerError`, if another holder of the timer cannot be counted or the clock is not to be read.
+    /// `TimerError`, if another holder of the timer cannot be counted or the clock cannot be read.
     ///
     /// Example: `uses::repeats`.
     ///
@@ -183,8 +183,8 @@ impl<W: Wake, C: Clock + Drop, R: Wait + Drop> Timer<W, C, R> {
     ///
     /// # Errors
     ///
-    /// `TimerFailed` with the future, if another holder of the timer cannot be counted or the clock is
-    /// not to be read.
+    /// `TimerFailed` with the future, if another holder of the timer cannot be counted or the clock
+    /// cannot be read.
     ///
     /// Example: `uses::times_out`.
     ///

@@ -123,6 +123,8 @@ where
         let Ok(rt) = self.rt.clone() else {
             return Err(AllocFailed { value: job });
         };
+        // A channel, so that wakers of any type await it: those who await a handle are the threads'
+        // wakers.
         let Ok((sender, answers)) = bounded(rt, self.alloc, 1) else {
             return Err(AllocFailed { value: job });
         };

@@ -150,7 +150,7 @@ impl<W: Drop> WaitQueue<W> {
     }
 
     /// Has one wait at its place with this waker, and gives what is not kept. If it waited already, its
-    /// turn stays, and the earlier waker comes out. Else it stands behind all others. If the place is
+    /// turn stays, and the earlier waker comes out. Otherwise it stands behind all others. If the place is
     /// not taken, nothing changes, and the waker comes back.
     pub(crate) fn wait(&mut self, place: usize, waker: W) -> Option<W>
         ensures { WaitsAt self.old place waker result self.new }

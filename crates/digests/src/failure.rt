@@ -32,11 +32,11 @@ pub enum Failure {
     /// The system starts no more threads.
     #[error("cannot start a thread")]
     NoThread,
-    /// The clock is not to be read.
+    /// The clock cannot be read.
     #[error("clock: {0}")]
     Clock(Cause),
-    /// A number of a task or of a run is not left.
-    #[error("no number is left")]
+    /// Task numbers or runner numbers are exhausted.
+    #[error("numbers are exhausted")]
     Exhausted,
     /// A task gave no answer.
     #[error("a task was cancelled")]

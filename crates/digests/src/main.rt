@@ -20,7 +20,7 @@
 //! | 3 | standard output takes no more | `write error: CAUSE` |
 //! | 4 | memory was refused | `memory exhausted` |
 //! | 5 | the system starts no more threads | `cannot start a thread` |
-//! | 6 | the clock is not to be read, or no number of a task is left | `clock: CAUSE`, `no number is left` |
+//! | 6 | the clock cannot be read, or numbers are exhausted | `clock: CAUSE`, `numbers are exhausted` |
 //!
 //! `sha256sum` has the status 1 for those from 2 to 4. It differs in this too:
 //!

@@ -63,7 +63,7 @@ impl<'a, R: System + Send + Sync + 'static> Printer<'a, R> {
     ///
     /// # Errors
     ///
-    /// `Failure` if memory is refused or the clock is not to be read.
+    /// `Failure` if memory is refused or the clock cannot be read.
     pub fn show_progress(&mut self, files: usize, is_terminal: bool) -> Result<(), Failure>
         ensures shown { OnOk result (IsSome self.new.progress) }
         ensures all_read { self.new.all_read ≡ self.old.all_read }

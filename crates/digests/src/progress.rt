@@ -31,7 +31,7 @@ impl<R: System + Send + Sync + 'static> Progress<R> {
     ///
     /// # Errors
     ///
-    /// `Failure` if memory is refused or the clock is not to be read.
+    /// `Failure` if memory is refused or the clock cannot be read.
     pub fn new(
         rt: &R,
         alloc: Global,
@@ -53,7 +53,7 @@ impl<R: System + Send + Sync + 'static> Progress<R> {
     ///
     /// # Errors
     ///
-    /// `Failure` if memory is refused or the clock is not to be read.
+    /// `Failure` if memory is refused or the clock cannot be read.
     pub fn wait(
         &mut self,
         executor: &Files<R>,

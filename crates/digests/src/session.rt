@@ -87,10 +87,12 @@ fn start<R: System + Send + Sync + 'static>(
     Ok(printer.all_read)
 }
 
-// Standard input, if it is read: else it is left alone, since a terminal stops who reads it in the
-// background.
+// Standard input, if it is read. Otherwise it is not touched: a terminal stops a background process that
+// reads from it.
 fn input_for(options: &Options, input: Stdin) -> io::Result<Stdin> {
     if options.reads_input() {
+        // Whether it is open is asked before a file is opened: that would get the descriptor of a closed
+        // one, and its bytes would be taken for those of standard input.
         open_input(input)
     } else {
         Ok(input)

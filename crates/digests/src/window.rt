@@ -75,6 +75,7 @@ impl<'a, R: System + Send + Sync + 'static> Window<'a, R> {
     ///
     /// `Failure` if memory is refused.
     pub fn spawn(&mut self, name: Vec<u8>) -> Result<(), Failure> {
+        // By the thread of `main`, so at most 64 are open. A poll has nothing to ask for but its block.
         let source = Source::open(&self.shared.rt, self.input, &name);
         let digest = FileDigest::new(name, source, Arc::try_clone(&self.shared)?);
         let task = self.executor.spawn(digest)?;

@@ -75,9 +75,13 @@ pub struct World<P, T> {
     alloc: Global,
     limit: u32,
     // For how many tasks a run's own queue has room.
+    // Of the limits this one alone: turns and fair parts are steps, which may come anywhere. At least 1:
+    // a run whose queue takes nothing would search in vain beside the tasks of another.
     local: usize,
     accepted: u32,
     core: Core<P, T, ()>,
+    // With room for three events a step. A step logs two at most; a close or a leak, of which there is
+    // one, logs one for each task, and there are no more tasks than steps.
     log: Vec<Event<T>>,
     entries: Vec<TaskEntry<P>>,
     notices: u32,
@@ -124,8 +128,8 @@ impl<P: Drop, T: Copy> World<P, T> {
         }
     }
 
-    /// The same with these limits: the queue of each run has room for so many tasks. Turns, and how
-    /// often a fair part is taken, are none of its business, since its steps may come in any order.
+    /// The same with these limits: the queue of each run has room for so many tasks. Turns and shares of
+    /// the global queue are ignored here, since the steps may come in any order.
     ///
     /// # Errors
     ///
@@ -269,6 +273,8 @@ impl<P: Drop, T: Copy> World<P, T> {
     pub fn is_out(&self, n: u64) -> bool
         ensures { result ≡ held n self.now.log }
     {
+        // What the world really keeps, which shows that a held task has one holder. The model has it from
+        // the log.
         has_future(&self.entries, n)
     }
 

@@ -24,7 +24,7 @@ impl<P: Drop> From<SpawnError<P>> for Error {
     fn from(error: SpawnError<P>) -> Error {
         match error {
             SpawnError::OutOfMemory(_) => Error::from(ErrorKind::OutOfMemory),
-            SpawnError::Exhausted(_) => Error::new(ErrorKind::Other, "no task number is left"),
+            SpawnError::Exhausted(_) => Error::new(ErrorKind::Other, "task numbers are exhausted"),
         }
     }
 }
@@ -35,7 +35,7 @@ impl From<RunnerError> for Error {
     fn from(error: RunnerError) -> Error {
         match error {
             RunnerError::OutOfMemory => Error::from(ErrorKind::OutOfMemory),
-            RunnerError::Exhausted => Error::new(ErrorKind::Other, "no runner number is left"),
+            RunnerError::Exhausted => Error::new(ErrorKind::Other, "runner numbers are exhausted"),
         }
     }
 }

@@ -17,7 +17,8 @@ const FAIR: u32 = 64;
 // For how many tasks the queue of a run may have room at most.
 const MOST_LOCAL: usize = 65_536;
 
-/// The limits of an executor. Its runs keep them.
+/// The limits of an executor. Its runs keep them. The fields are public, so that a caller writes down those
+/// that differ from `Limits::default()`; whether they are lawful is asked when an executor is made.
 ///
 /// Example: `uses::keeps_turns`.
 ///
@@ -33,7 +34,7 @@ pub struct Limits {
     /// How many tasks a run runs in a turn, after which it lets others of its thread go on: at
     /// least 1.
     pub turn: u32,
-    /// How many tasks a run finds from one fair part of the global queue to the next: at least 1.
+    /// A run takes its share of the global queue with every `fair`-th task that it finds: at least 1.
     pub fair: u32,
 }
 

@@ -6,6 +6,7 @@ use std::marker::Model;
 /// Which levels were asked, and what each answered, in order: at most N. It takes no memory.
 #[derive(Drop)]
 pub(crate) struct Answers<const N: usize> {
+    // An array, so that a choice takes no memory. N is below 2^32, so that its size is known to fit.
     list: [(usize, bool); N],
     asked: usize,
 }

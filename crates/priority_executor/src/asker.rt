@@ -1,4 +1,5 @@
-//! The choice of a level: each is asked in order, until one says yes.
+//! The choice of a level: each is asked in order, until one says yes. The order is proved once for whatever
+//! is asked: `try_tick` asks executors, and the poll of a tick asks sleepers.
 ghost use Rattle.std.specs.Prelude.{◌≡◌, ℕ, Bool, List, [], ◌∷◌, ◌++◌, ◌+◌, ◌≤◌, ◌<◌, length, IfSome};
 ghost use Rattle.priority_executor.specs.Answers.{answers_until};
 

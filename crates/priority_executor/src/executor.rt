@@ -71,7 +71,7 @@ where
     ///
     /// # Errors
     ///
-    /// If memory is refused, or no number is left for the task, the future is given back and all is
+    /// If memory is refused, or task numbers are exhausted, the future is given back and all is
     /// as before.
     ///
     /// Example: `uses::overtakes`.
@@ -106,6 +106,7 @@ where
     /// }
     /// ```
     pub fn is_empty(&self) -> bool {
+        // No choice: it asks for no task, and stops by itself.
         self.levels.iter().all(|level| level.is_empty())
     }
 
@@ -180,6 +181,7 @@ where
     ghost places = { λ s. N - length s.answers };
 
     fn ask(&mut self, level: usize) -> bool {
+        // A level that is not there says no: the condition of `ask` speaks of the room in the list alone.
         let has_run = match self.levels.get(level) {
             Some(executor) => executor.try_tick(),
             None => false,

@@ -30,6 +30,8 @@ where
     W: Wake,
     R: Wait + Clone + Drop,
 {
+    // Sleepers and no ticks: one that ran a task of a level would stand among the sleepers of the levels
+    // below meanwhile, and an urgent task would wait for that poll.
     pub(crate) sleepers: Option<LevelSleepers<Sleeper<'a, F, W, R>, N>>,
 }
 
@@ -101,6 +103,8 @@ where
     // Leaves the sleepers of the levels that it looks at and of those above, and runs a task of the first
     // that has one. It says whether it ran one.
     fn run_first(&mut self) -> bool {
+        // A look before the take: only now it is known which levels are above, whose notices are passed
+        // on before the task is run.
         let Some(level) = self.first_with_task() else {
             return false;
         };

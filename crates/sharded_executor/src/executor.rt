@@ -24,7 +24,7 @@ const UNUSED: usize = 512;
 /// there are shards, each of which drives a run of its own shard, share the work, and meet at a lock only
 /// if one of them has nothing of its own to do. A task stays in its shard.
 ///
-/// It may be shared and sent as an `Executor`. Its drop closes all shards. The Rust crate has no such type.
+/// It is `Send` and `Sync` as an `Executor` is. Its drop closes all shards. The Rust crate has no such type.
 ///
 /// Example: `uses::shards`.
 ///
@@ -39,6 +39,8 @@ where
     W: Wake,
     R: Wait + Clone + Drop,
 {
+    // With the caller's own waker: with one that refuses its copies, runs would need no sleepers, but its
+    // type would stand in each future and each handle.
     shards: Vec<Executor<F, W, R>>,
     unused: Vec<Vec<u64>>,
     // How many turns the runs of each shard had.
@@ -121,7 +123,7 @@ where
     ///
     /// # Errors
     ///
-    /// If memory is refused, or no number is left for the task, the future is given back and all is as
+    /// If memory is refused, or task numbers are exhausted, the future is given back and all is as
     /// before, but that it was the turn of that shard.
     ///
     /// Example: `uses::shards`.
@@ -133,6 +135,7 @@ where
         ensures ok { IfOk result (λ task. task.inner.answered ≡ false) }
         ensures refused { IfErr result (λ e. refused_future e ≡ future) }
     {
+        // One count for all: one for each thread would need a place for it.
         let shard = self.next.one_more() % self.shards.len() as u64;
         self.shards[shard as usize].spawn(future)
     }
@@ -253,7 +256,7 @@ where
     ///
     /// # Errors
     ///
-    /// If memory is refused, or no number is left for the runner, the future is given back and all is as
+    /// If memory is refused, or runner numbers are exhausted, the future is given back and all is as
     /// before.
     ///
     /// Example: `uses::shards`.

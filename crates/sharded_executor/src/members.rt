@@ -23,6 +23,7 @@ where
 {
     pub(crate) worker: Worker<'a, F, W, R>,
     pub(crate) sleepers: Vec<Sleeper<'a, F, W, R>>,
+    // The promise of the order speaks of this list. A look around after a turn is in no list.
     pub(crate) answers: Vec<(usize, bool)>,
     // How many turns the runs of each shard had: of those from the own one on, and of those before it.
     turns: (&'a [Count], &'a [Count]),
@@ -71,6 +72,7 @@ where
         requires counted { length turns.now ≡ vec_len shards.now }
     {
         let count = shards.len();
+        // One in every shard: a task of a shard that no sleeper chose would wait for a run that is busy.
         let mut sleepers = Vec::with_capacity(alloc, count)?;
         let answers = Vec::with_capacity(alloc, count)?;
         add_sleepers(&shards[number..], &mut sleepers)?;
@@ -149,6 +151,7 @@ where
         ensures answers { self.new.answers ≡ self.old.answers }
     {
         let sleeper = &mut self.sleepers[at];
+        // Each by itself: a queue of its own in another shard would take memory.
         if !sleeper.try_tick_any() {
             return false;
         }

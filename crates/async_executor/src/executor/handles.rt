@@ -15,12 +15,14 @@ use std::sync::Wait;
 /// place of its next poll, and an output that is there is dropped with the handle. It stands for
 /// the `Task` of the Rust crate.
 ///
-/// Example: `uses::runs`, `uses::drops`.
+/// Example: `uses::drops_handle`.
 ///
 /// ```text
-/// let mut task = executor.spawn(future).ok()?;
-/// run_all(rt, &executor);
-/// output_of(task.poll(&Nobody))
+/// let executor: Executor<Ready<u64>, NoopWaker, R> = Executor::new(rt.clone()?, alloc)?;
+/// let task = executor.spawn(Ready::new(7))?;
+/// drop(task);
+/// // [true, true]
+/// Ok([executor.try_tick(), executor.is_empty()])
 /// ```
 #[derive(Drop)]
 pub struct Task<F, W, R>
@@ -40,12 +42,14 @@ where
 {
     /// Lets the task run on without a handle. Its output is dropped once it is there.
     ///
-    /// Example: `uses::detaches`.
+    /// Example: `uses::lets_run_on`.
     ///
     /// ```text
+    /// let executor: Executor<Ready<u64>, NoopWaker, R> = Executor::new(rt.clone()?, alloc)?;
+    /// let task = executor.spawn(Ready::new(7))?;
     /// task.detach();
-    /// let was_empty = executor.is_empty();
-    /// executor.try_tick() && executor.try_tick() && executor.is_empty() && !was_empty
+    /// // [true, true]
+    /// Ok([executor.try_tick(), executor.is_empty()])
     /// ```
     #[inline(always)]
     pub fn detach(self) {
@@ -56,12 +60,15 @@ where
     /// Cancels the task at once: it is scheduled, and its future is dropped in place of its next
     /// poll. What is given is a future that ends once the future of the task was dropped.
     ///
-    /// Example: `uses::cancels`.
+    /// Example: `uses::cancels_and_awaits`.
     ///
     /// ```text
-    /// let mut cancel = executor.spawn(Sum::of(1, 2)).ok()?.cancel();
+    /// let executor = Executor::new(rt.clone()?, alloc)?;
+    /// let mut cancel = executor.spawn(Ready::new(7))?.cancel();
+    /// let before = cancel.poll(&NoopWaker);
     /// executor.try_tick();
-    /// Some(cancel.poll(&Nobody))
+    /// // [Pending, Ready(None)]
+    /// Ok([before, cancel.poll(&NoopWaker)])
     /// ```
     #[inline(always)]
     pub fn cancel(self) -> Cancel<F, W, R>
@@ -73,12 +80,14 @@ where
 
     /// The same task, with `None` in place of `Cancelled`.
     ///
-    /// Example: `uses::falls_back`.
+    /// Example: `uses::has_no_output`.
     ///
     /// ```text
-    /// let mut task = executor.spawn(Sum::of(1, 2)).ok()?.fallible();
-    /// run_all(rt, executor);
-    /// Some(task.poll(&Nobody))
+    /// let executor = Executor::new(rt.clone()?, alloc)?;
+    /// let mut task = executor.spawn(Ready::new(7))?.fallible();
+    /// drop(executor);
+    /// // Ready(None)
+    /// Ok(task.poll(&NoopWaker))
     /// ```
     pub fn fallible(self) -> FallibleTask<F, W, R>
         ensures { result.task.inner.answered ≡ self.inner.answered }
@@ -88,12 +97,15 @@ where
 
     /// Whether the task has ended or was cancelled, or this handle has answered.
     ///
-    /// Example: `uses::receives`.
+    /// Example: `uses::finishes`.
     ///
     /// ```text
-    /// let is_early = task.is_finished();
-    /// send(rt, sender, 5);
-    /// run_all(rt, executor);
+    /// let executor: Executor<Ready<u64>, NoopWaker, R> = Executor::new(rt.clone()?, alloc)?;
+    /// let task = executor.spawn(Ready::new(7))?;
+    /// let before = task.is_finished();
+    /// executor.try_tick();
+    /// // [false, true]
+    /// Ok([before, task.is_finished()])
     /// ```
     pub fn is_finished(&self) -> bool
         ensures { IsTrue self.now.inner.answered → IsTrue result }
@@ -130,12 +142,15 @@ where
     /// and is woken once there is one. If the copy is refused, the waker itself is woken and
     /// nothing is kept.
     ///
-    /// Example: `uses::asks_again`.
+    /// Example: `uses::asks_twice`.
     ///
     /// ```text
-    /// let first = task.poll(w);
-    /// let second = task.poll(w);
-    /// (first, second)
+    /// let executor = Executor::new(rt.clone()?, alloc)?;
+    /// let mut task = executor.spawn(Ready::new(7))?;
+    /// executor.try_tick();
+    /// let first = task.poll(&NoopWaker);
+    /// // [Ready(Ok(7)), Ready(Err(Cancelled))]
+    /// Ok([first, task.poll(&NoopWaker)])
     /// ```
     #[inline(always)]
     fn poll(&mut self, w: &W) -> Poll<Result<F::Output, Cancelled>>
@@ -152,13 +167,7 @@ where
 /// It gives the output if the task had ended before it was cancelled. When it is dropped, the
 /// task is let go. It stands for the future that `Task::cancel` of the Rust crate gives.
 ///
-/// Example: `uses::cancels`.
-///
-/// ```text
-/// let mut cancel = executor.spawn(Sum::of(1, 2)).ok()?.cancel();
-/// executor.try_tick();
-/// Some(cancel.poll(&Nobody))
-/// ```
+/// Example: `uses::cancels_and_awaits`, at `Task::cancel`.
 #[derive(Drop)]
 pub struct Cancel<F, W, R>
 where
@@ -178,13 +187,6 @@ where
     type Output = Option<F::Output>;
 
     /// As the poll of `Task`, with `None` in place of `Cancelled`.
-    ///
-    /// Example: `uses::cancels`.
-    ///
-    /// ```text
-    /// executor.try_tick();
-    /// Some(cancel.poll(&Nobody))
-    /// ```
     #[inline(always)]
     fn poll(&mut self, w: &W) -> Poll<Option<F::Output>>
         ensures answered { self.new.task.inner.answered ≡ is_ready result }
@@ -198,13 +200,7 @@ where
 ///
 /// Its drop is that of `Task`. It stands for the `FallibleTask` of the Rust crate.
 ///
-/// Example: `uses::falls_back`, `uses::lets_go`.
-///
-/// ```text
-/// let mut task = executor.spawn(Sum::of(1, 2)).ok()?.fallible();
-/// run_all(rt, executor);
-/// Some(task.poll(&Nobody))
-/// ```
+/// Example: `uses::has_no_output`, at `Task::fallible`.
 #[derive(Drop)]
 pub struct FallibleTask<F, W, R>
 where
@@ -223,10 +219,16 @@ where
 {
     /// As `Task::detach`.
     ///
-    /// Example: `uses::lets_go`.
+    /// Example: `uses::ends_fallibly`.
     ///
     /// ```text
-    /// executor.spawn(Sum::of(1, 2)).ok()?.fallible().detach();
+    /// let executor = Executor::new(rt.clone()?, alloc)?;
+    /// executor.spawn(Ready::new(1))?.fallible().detach();
+    /// let mut cancel = executor.spawn(Ready::new(2))?.fallible().cancel();
+    /// executor.try_tick();
+    /// executor.try_tick();
+    /// // (true, Ready(None))
+    /// Ok((executor.is_empty(), cancel.poll(&NoopWaker)))
     /// ```
     pub fn detach(self) {
         let FallibleTask { task } = self;
@@ -235,13 +237,7 @@ where
 
     /// As `Task::cancel`.
     ///
-    /// Example: `uses::lets_go`.
-    ///
-    /// ```text
-    /// let mut cancel = executor.spawn(Sum::of(3, 4)).ok()?.fallible().cancel();
-    /// run_all(rt, executor);
-    /// Some(cancel.poll(&Nobody))
-    /// ```
+    /// Example: `uses::ends_fallibly`, at `FallibleTask::detach`.
     pub fn cancel(self) -> Cancel<F, W, R>
         ensures { result.task.inner.answered ≡ self.task.inner.answered }
     {
@@ -251,11 +247,15 @@ where
 
     /// As `Task::is_finished`.
     ///
-    /// Example: `uses::falls_back`.
+    /// Example: `uses::finishes_fallibly`.
     ///
     /// ```text
-    /// if task.is_finished() {
-    ///     Some(task.poll(&Nobody))
+    /// let executor: Executor<Ready<u64>, NoopWaker, R> = Executor::new(rt.clone()?, alloc)?;
+    /// let task = executor.spawn(Ready::new(7))?.fallible();
+    /// let before = task.is_finished();
+    /// executor.try_tick();
+    /// // [false, true]
+    /// Ok([before, task.is_finished()])
     /// ```
     pub fn is_finished(&self) -> bool
         ensures { IsTrue self.now.task.inner.answered → IsTrue result }
@@ -273,13 +273,6 @@ where
     type Output = Option<F::Output>;
 
     /// As the poll of `Task`, with `None` in place of `Cancelled`.
-    ///
-    /// Example: `uses::falls_back`.
-    ///
-    /// ```text
-    /// if task.is_finished() {
-    ///     Some(task.poll(&Nobody))
-    /// ```
     fn poll(&mut self, w: &W) -> Poll<Option<F::Output>>
         ensures answered { self.new.task.inner.answered ≡ is_ready result }
         ensures again { IsTrue self.old.task.inner.answered → IsReadyNone result }

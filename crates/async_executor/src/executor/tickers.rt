@@ -16,13 +16,7 @@ use std::sync::Wait;
 /// If it is dropped asleep, it leaves the sleepers, and if it was notified, another sleeper is
 /// woken in its place. It stands for the future that `Executor::tick` of the Rust crate gives.
 ///
-/// Example: `uses::sleeps`, and on threads that park `uses::parks`.
-///
-/// ```text
-/// let mut tick = executor.tick().ok()?;
-/// leaves(executor, Sum::of(1, 2))?;
-/// let woken = tick.poll(&Nobody);
-/// ```
+/// Example: `uses::ticks`, at `Executor::tick`, and on threads that park `uses::parks`.
 pub struct Tick<'a, F, W, R>
 where
     F: Future<TaskWaker<W, R>>,
@@ -44,14 +38,6 @@ where
     /// of the waker is kept, in place of an earlier one, and is woken once there may be one. If
     /// the copy is refused, the waker itself is woken and nothing is kept. A tick that was ready
     /// stays so, and does nothing more.
-    ///
-    /// Example: `uses::sleeps`.
-    ///
-    /// ```text
-    /// let asleep = tick.poll(&Nobody);
-    /// leaves(executor, Sum::of(1, 2))?;
-    /// let woken = tick.poll(&Nobody);
-    /// ```
     #[inline(always)]
     fn poll(&mut self, w: &W) -> Poll<()>
         ensures ended { self.new.inner.rest.ended ≡ is_ready result }
@@ -61,6 +47,8 @@ where
     }
 }
 
+// By hand, as that of a run: it borrows its executor, and the borrow checker does not cover a derived
+// drop of such a type in another crate.
 impl<F, W, R> Drop for Tick<'_, F, W, R>
 where
     F: Future<TaskWaker<W, R>>,
@@ -80,13 +68,7 @@ where
 /// notified, another sleeper is woken in its place. It stands for the future that `Executor::run` of
 /// the Rust crate gives.
 ///
-/// Example: `uses::pools`.
-///
-/// ```text
-/// executor.run(stop.waiting().ok()?).ok()
-/// let (one, two) = worker(&executor, &stop).zip(worker(&executor, &stop))?;
-/// let is_first = scope.spawn(move || block_on(rt, alloc, one)).is_ok();
-/// ```
+/// Example: `uses::runs_beside`, at `Executor::run`, and on several threads `uses::pools`.
 pub struct Run<'a, F, W, R, G>
 where
     F: Future<TaskWaker<W, R>>,
@@ -106,19 +88,11 @@ where
 {
     type Output = G::Output;
 
-    /// Polls the own future, and if that is ready, is ready with its output. Else runs tasks until
+    /// Polls the own future, and if that is ready, is ready with its output. Otherwise runs tasks until
     /// none is left, or a whole turn was run since it yielded last. If none is left, a copy of the
     /// waker is kept, in place of an earlier one, and is woken once there may be a task. After a
     /// turn, or if the copy is refused, the waker itself is woken. A run that was ready wakes it
     /// and is pending, and does nothing more.
-    ///
-    /// Example: `uses::keeps_turns`.
-    ///
-    /// ```text
-    /// if let Poll::Ready(polls) = run.poll(&Nobody) {
-    ///     return Some(polls);
-    /// }
-    /// ```
     #[inline(always)]
     fn poll(&mut self, w: &W) -> Poll<G::Output>
         ensures fixed { fixed self.new.inner.rest.runner ≡ fixed self.old.inner.rest.runner }

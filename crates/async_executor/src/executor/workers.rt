@@ -25,13 +25,18 @@ where
     ///
     /// # Errors
     ///
-    /// `OutOfMemory` if memory is refused, `Exhausted` if no number is left for the runner. All is as
+    /// `OutOfMemory` if memory is refused, `Exhausted` if runner numbers are exhausted. All is as
     /// before.
     ///
-    /// Example: `uses::serves_two`.
+    /// Example: `uses::works`.
     ///
     /// ```text
-    /// let mut worker = one.worker().ok()?;
+    /// let executor: Executor<Ready<u64>, NoopWaker, R> = Executor::new(rt.clone()?, alloc)?;
+    /// executor.spawn(Ready::new(7))?.detach();
+    /// let mut worker = executor.worker()?;
+    /// let is_over = worker.turn();
+    /// // [false, false]
+    /// Ok([is_over, !executor.is_empty()])
     /// ```
     pub fn worker(&self) -> Result<Worker<'_, F, W, R>, RunnerError> {
         match self.inner.worker() {
@@ -49,10 +54,16 @@ where
     ///
     /// `OutOfMemory` if memory for that place is refused. All is as before.
     ///
-    /// Example: `uses::serves_two`.
+    /// Example: `uses::sleeps_and_leaves`.
     ///
     /// ```text
-    /// let (mut first, mut second) = one.sleeper().ok().zip(two.sleeper().ok())?;
+    /// let executor = Executor::new(rt.clone()?, alloc)?;
+    /// let mut sleeper = executor.sleeper()?;
+    /// let is_asleep = sleeper.sleep(&NoopWaker)?;
+    /// executor.spawn(Ready::new(7))?.detach();
+    /// let was_notified = sleeper.leave();
+    /// // [true, true, true]
+    /// Ok([is_asleep, was_notified, sleeper.try_tick_any()])
     /// ```
     pub fn sleeper(&self) -> Result<Sleeper<'_, F, W, R>, OutOfMemory>
         ensures awake { IfOk result (λ sleeper. sleeper.inner.number ≡ None) }
@@ -68,12 +79,7 @@ where
 ///
 /// When it is dropped, its tasks go to the queue that all share.
 ///
-/// Example: `uses::serves_two`.
-///
-/// ```text
-/// let mut worker = one.worker().ok()?;
-/// worker.turn();
-/// ```
+/// Example: `uses::works`, at `Executor::worker`.
 pub struct Worker<'a, F, W, R>
 where
     F: Future<TaskWaker<W, R>>,
@@ -94,11 +100,7 @@ where
     /// True says that the turn is over, so that there may be more tasks. False says that none was found,
     /// or that the last one had no successor when it ended.
     ///
-    /// Example: `uses::serves_two`.
-    ///
-    /// ```text
-    /// worker.turn();
-    /// ```
+    /// Example: `uses::works`, at `Executor::worker`.
     #[inline(always)]
     pub fn turn(&mut self) -> bool
         ensures { fixed self.new.inner.rest.runner ≡ fixed self.old.inner.rest.runner }
@@ -128,13 +130,8 @@ where
 /// Whatever a sleeper was notified of is spent by its next search, or passed on to another sleeper when it
 /// is dropped.
 ///
-/// Example: `uses::serves_two`.
-///
-/// ```text
-/// let (mut first, mut second) = one.sleeper().ok().zip(two.sleeper().ok())?;
-/// let is_asleep = first.sleep(&Nobody).ok()? && second.sleep(&Nobody).ok()?;
-/// let was_notified = second.leave();
-/// ```
+/// Example: `uses::sleeps_and_leaves`, at `Executor::sleeper`, and of two executors
+/// `uses::serves_two`.
 pub struct Sleeper<'a, F, W, R>
 where
     F: Future<TaskWaker<W, R>>,
@@ -159,11 +156,7 @@ where
     ///
     /// `OutOfMemory` if the copy of the waker is refused. It is awake then, and no number is in use.
     ///
-    /// Example: `uses::serves_two`.
-    ///
-    /// ```text
-    /// let is_asleep = first.sleep(&Nobody).ok()? && second.sleep(&Nobody).ok()?;
-    /// ```
+    /// Example: `uses::sleeps_and_leaves`, at `Executor::sleeper`.
     pub fn sleep(&mut self, w: &W) -> Result<bool, OutOfMemory>
         ensures { MatchResult result (λ asleep. is_some self.new.inner.number ≡ asleep) (λ _. self.new.inner.number ≡ None) }
     {
@@ -173,11 +166,7 @@ where
     /// Leaves the sleepers, and says whether a search is owed: it was notified, or saw a task, and has
     /// not searched since. One that is awake already stays so.
     ///
-    /// Example: `uses::serves_two`.
-    ///
-    /// ```text
-    /// let was_notified = second.leave();
-    /// ```
+    /// Example: `uses::sleeps_and_leaves`, at `Executor::sleeper`.
     pub fn leave(&mut self) -> bool
         ensures awake { self.new.inner.number ≡ None }
         ensures told { result ≡ is_some self.new.inner.notice }
@@ -188,10 +177,16 @@ where
     /// Leaves the sleepers, and says whether a task stands in any queue, which it leaves there: then a search
     /// is owed. If none does, this was the search that was owed.
     ///
-    /// Example: `uses::serves_two`.
+    /// Example: `uses::looks`.
     ///
     /// ```text
-    /// if first.look() {
+    /// let executor: Executor<Ready<u64>, NoopWaker, R> = Executor::new(rt.clone()?, alloc)?;
+    /// executor.spawn(Ready::new(7))?.detach();
+    /// let mut sleeper = executor.sleeper()?;
+    /// let has_seen = sleeper.look();
+    /// sleeper.pass_on();
+    /// // [true, true]
+    /// Ok([has_seen, executor.try_tick()])
     /// ```
     pub fn look(&mut self) -> bool
         ensures awake { self.new.inner.number ≡ None }
@@ -203,11 +198,7 @@ where
     /// Leaves the sleepers, and passes on what it was notified of, or the task that it saw: another sleeper
     /// may be woken in its place. Then it owes no search.
     ///
-    /// Example: `uses::serves_two`.
-    ///
-    /// ```text
-    /// second.pass_on();
-    /// ```
+    /// Example: `uses::looks`, at `Sleeper::look`.
     pub fn pass_on(&mut self)
         ensures awake { self.new.inner.number ≡ None }
         ensures spent { self.new.inner.notice ≡ None }
@@ -218,11 +209,7 @@ where
     /// Leaves the sleepers, and runs a task as `try_tick_any` of the executor does: it answers false
     /// exactly if no task stood in any queue. That is the search which it owed.
     ///
-    /// Example: `uses::serves_two`.
-    ///
-    /// ```text
-    /// Some([is_asleep, was_notified, second.try_tick_any()])
-    /// ```
+    /// Example: `uses::sleeps_and_leaves`, at `Executor::sleeper`.
     pub fn try_tick_any(&mut self) -> bool
         ensures awake { self.new.inner.number ≡ None }
         ensures spent { self.new.inner.notice ≡ None }

@@ -41,6 +41,9 @@ impl<F: Future<TaskWaker<W, R>>, W: Wake, R: Wait + Clone + Drop> Home for Local
     // Nobody else has it.
     #[inline(always)]
     fn wait_for_store(&self) -> StoreGuard<'_, Store<F, Arc<ExecutorState<W, R>>, F::Output>> {
+        // Taken out, where a `RefCell` could answer that it is in use, to which there is no answer but to
+        // wait. No change of a home makes another, so nobody meets the empty store; and no two executors
+        // share one, since there is no static that can be changed.
         let meanwhile = Store::new(self.local.state.alloc());
         StoreGuard::Lent(Lent::of(&self.local.store, meanwhile))
     }

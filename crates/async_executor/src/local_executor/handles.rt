@@ -11,12 +11,15 @@ use std::sync::Wait;
 
 /// As `Task`, of a task that stays on the thread of its executor, as its handle does.
 ///
-/// Example: `uses::stays`.
+/// Example: `uses::finishes_locally`.
 ///
 /// ```text
-/// spawned(&executor, &total, 2)?.detach();
-/// let mut run = executor.run(spawned(&executor, &total, 3)?).ok()?;
-/// run.poll(&Nobody);
+/// let executor = LocalExecutor::new(rt.clone()?, alloc)?;
+/// let mut task = executor.spawn(Ready::new(7))?;
+/// let before = task.is_finished();
+/// executor.try_tick();
+/// // (false, true, Ready(Ok(7)))
+/// Ok((before, task.is_finished(), task.poll(&NoopWaker)))
 /// ```
 #[derive(Drop)]
 pub struct LocalTask<F, W, R>
@@ -36,12 +39,7 @@ where
 {
     /// As `Task::detach`.
     ///
-    /// Example: `uses::keeps`.
-    ///
-    /// ```text
-    /// server.spawn(Sum::of(1, 2)).ok()?.detach();
-    /// server.tick().ok()?.poll(&Nobody);
-    /// ```
+    /// Example: `uses::limits_locally`, at `LocalExecutor::new_with`.
     #[inline(always)]
     pub fn detach(self) {
         let LocalTask { inner } = self;
@@ -50,11 +48,15 @@ where
 
     /// As `Task::cancel`.
     ///
-    /// Example: `uses::releases`.
+    /// Example: `uses::cancels_locally`.
     ///
     /// ```text
-    /// let mut cancel = executor.spawn(Sum::of(5, 6)).ok()?.cancel();
-    /// Some((cancel.poll(&Nobody), last.poll(&Nobody)))
+    /// let executor = LocalExecutor::new(rt.clone()?, alloc)?;
+    /// let mut cancel = executor.spawn(Ready::new(7))?.cancel();
+    /// let before = cancel.poll(&NoopWaker);
+    /// executor.try_tick();
+    /// // [Pending, Ready(None)]
+    /// Ok([before, cancel.poll(&NoopWaker)])
     /// ```
     #[inline(always)]
     pub fn cancel(self) -> LocalCancel<F, W, R>
@@ -66,11 +68,14 @@ where
 
     /// As `Task::fallible`.
     ///
-    /// Example: `uses::releases`.
+    /// Example: `uses::has_no_local_output`.
     ///
     /// ```text
-    /// let mut last = executor.spawn(Sum::of(7, 8)).ok()?.fallible();
-    /// Some((cancel.poll(&Nobody), last.poll(&Nobody)))
+    /// let executor = LocalExecutor::new(rt.clone()?, alloc)?;
+    /// let mut task = executor.spawn(Ready::new(7))?.fallible();
+    /// drop(executor);
+    /// // (true, Ready(None))
+    /// Ok((task.is_finished(), task.poll(&NoopWaker)))
     /// ```
     pub fn fallible(self) -> LocalFallibleTask<F, W, R>
         ensures { result.task.inner.answered ≡ self.inner.answered }
@@ -80,13 +85,7 @@ where
 
     /// As `Task::is_finished`.
     ///
-    /// Example: `uses::naps`.
-    ///
-    /// ```text
-    /// let task = executor.spawn(Sum::of(1, 2)).ok()?;
-    /// let woken = tick.poll(&Nobody);
-    /// Some((asleep, woken, task.is_finished()))
-    /// ```
+    /// Example: `uses::finishes_locally`, at `LocalTask`.
     pub fn is_finished(&self) -> bool
         ensures { IsTrue self.now.inner.answered → IsTrue result }
     {
@@ -118,14 +117,6 @@ where
     type Output = Result<F::Output, Cancelled>;
 
     /// As the poll of `Task`.
-    ///
-    /// Example: `uses::gathers`.
-    ///
-    /// ```text
-    /// let mut second = tasks.pop()?;
-    /// let mut first = tasks.pop()?;
-    /// Some((first.poll(&Nobody), second.poll(&Nobody)))
-    /// ```
     #[inline(always)]
     fn poll(&mut self, w: &W) -> Poll<Result<F::Output, Cancelled>>
         ensures answered { self.new.inner.answered ≡ is_ready result }
@@ -137,12 +128,7 @@ where
 
 /// As `Cancel`, of a task that stays on its thread.
 ///
-/// Example: `uses::releases`.
-///
-/// ```text
-/// let mut cancel = executor.spawn(Sum::of(5, 6)).ok()?.cancel();
-/// Some((cancel.poll(&Nobody), last.poll(&Nobody)))
-/// ```
+/// Example: `uses::cancels_locally`, at `LocalTask::cancel`.
 #[derive(Drop)]
 pub struct LocalCancel<F, W, R>
 where
@@ -162,13 +148,6 @@ where
     type Output = Option<F::Output>;
 
     /// As the poll of `Cancel`.
-    ///
-    /// Example: `uses::releases`.
-    ///
-    /// ```text
-    /// let mut cancel = executor.spawn(Sum::of(5, 6)).ok()?.cancel();
-    /// Some((cancel.poll(&Nobody), last.poll(&Nobody)))
-    /// ```
     #[inline(always)]
     fn poll(&mut self, w: &W) -> Poll<Option<F::Output>>
         ensures answered { self.new.task.inner.answered ≡ is_ready result }
@@ -180,12 +159,7 @@ where
 
 /// As `FallibleTask`, of a task that stays on its thread.
 ///
-/// Example: `uses::releases`.
-///
-/// ```text
-/// let mut last = executor.spawn(Sum::of(7, 8)).ok()?.fallible();
-/// Some((cancel.poll(&Nobody), last.poll(&Nobody)))
-/// ```
+/// Example: `uses::has_no_local_output`, at `LocalTask::fallible`.
 #[derive(Drop)]
 pub struct LocalFallibleTask<F, W, R>
 where
@@ -204,10 +178,16 @@ where
 {
     /// As `Task::detach`.
     ///
-    /// Example: `uses::releases`.
+    /// Example: `uses::ends_locally`.
     ///
     /// ```text
-    /// executor.spawn(Sum::of(1, 2)).ok()?.fallible().detach();
+    /// let executor = LocalExecutor::new(rt.clone()?, alloc)?;
+    /// executor.spawn(Ready::new(1))?.fallible().detach();
+    /// let mut cancel = executor.spawn(Ready::new(2))?.fallible().cancel();
+    /// executor.try_tick();
+    /// executor.try_tick();
+    /// // (true, Ready(None))
+    /// Ok((executor.is_empty(), cancel.poll(&NoopWaker)))
     /// ```
     pub fn detach(self) {
         let LocalFallibleTask { task } = self;
@@ -216,11 +196,7 @@ where
 
     /// As `Task::cancel`.
     ///
-    /// Example: `uses::releases`.
-    ///
-    /// ```text
-    /// executor.spawn(Sum::of(3, 4)).ok()?.fallible().cancel();
-    /// ```
+    /// Example: `uses::ends_locally`, at `LocalFallibleTask::detach`.
     pub fn cancel(self) -> LocalCancel<F, W, R>
         ensures { result.task.inner.answered ≡ self.task.inner.answered }
     {
@@ -230,13 +206,7 @@ where
 
     /// As `Task::is_finished`.
     ///
-    /// Example: `uses::releases`.
-    ///
-    /// ```text
-    /// if last.is_finished() || !executor.try_tick() {
-    ///     break;
-    /// }
-    /// ```
+    /// Example: `uses::has_no_local_output`, at `LocalTask::fallible`.
     pub fn is_finished(&self) -> bool
         ensures { IsTrue self.now.task.inner.answered → IsTrue result }
     {
@@ -253,13 +223,6 @@ where
     type Output = Option<F::Output>;
 
     /// As the poll of `FallibleTask`.
-    ///
-    /// Example: `uses::releases`.
-    ///
-    /// ```text
-    /// let mut last = executor.spawn(Sum::of(7, 8)).ok()?.fallible();
-    /// Some((cancel.poll(&Nobody), last.poll(&Nobody)))
-    /// ```
     fn poll(&mut self, w: &W) -> Poll<Option<F::Output>>
         ensures answered { self.new.task.inner.answered ≡ is_ready result }
         ensures again { IsTrue self.old.task.inner.answered → IsReadyNone result }

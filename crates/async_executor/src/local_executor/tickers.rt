@@ -13,13 +13,7 @@ use std::sync::Wait;
 
 /// As `Tick`, of an executor that stays on its thread, as this does.
 ///
-/// Example: `uses::naps`.
-///
-/// ```text
-/// let mut tick = executor.tick().ok()?;
-/// let task = executor.spawn(Sum::of(1, 2)).ok()?;
-/// let woken = tick.poll(&Nobody);
-/// ```
+/// Example: `uses::ticks_locally`, at `LocalExecutor::tick`.
 pub struct LocalTick<'a, F, W, R>
 where
     F: Future<TaskWaker<W, R>>,
@@ -38,14 +32,6 @@ where
     type Output = ();
 
     /// As the poll of `Tick`.
-    ///
-    /// Example: `uses::naps`.
-    ///
-    /// ```text
-    /// let asleep = tick.poll(&Nobody);
-    /// let task = executor.spawn(Sum::of(1, 2)).ok()?;
-    /// let woken = tick.poll(&Nobody);
-    /// ```
     #[inline(always)]
     fn poll(&mut self, w: &W) -> Poll<()>
         ensures ended { self.new.inner.rest.ended ≡ is_ready result }
@@ -69,13 +55,7 @@ where
 
 /// As `Run`, of an executor that stays on its thread, as this does.
 ///
-/// Example: `uses::stays`.
-///
-/// ```text
-/// let mut run = executor.run(spawned(&executor, &total, 3)?).ok()?;
-/// run.poll(&Nobody);
-/// let has_ended = run.poll(&Nobody) == Poll::Ready(Ok(()));
-/// ```
+/// Example: `uses::runs_locally`, at `LocalExecutor`.
 pub struct LocalRun<'a, F, W, R, G>
 where
     F: Future<TaskWaker<W, R>>,
@@ -96,13 +76,6 @@ where
     type Output = G::Output;
 
     /// As the poll of `Run`.
-    ///
-    /// Example: `uses::stays`.
-    ///
-    /// ```text
-    /// run.poll(&Nobody);
-    /// let has_ended = run.poll(&Nobody) == Poll::Ready(Ok(()));
-    /// ```
     #[inline(always)]
     fn poll(&mut self, w: &W) -> Poll<G::Output>
         ensures fixed { fixed self.new.inner.rest.runner ≡ fixed self.old.inner.rest.runner }

@@ -7,6 +7,8 @@ use std::marker::Model;
 /// A count up to a limit. The last one of so many begins it anew, so it is below that limit.
 #[derive(Debug, Clone, Copy, PartialEq, Eq)]
 pub(crate) struct Count {
+    // 64 bits each, though both are below 2^32: two halves of a register would be packed and unpacked at
+    // each task.
     counted: u64,
     limit: u64,
 }

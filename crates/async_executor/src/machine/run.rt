@@ -42,6 +42,7 @@ pub struct RunRest {
 #[derive(Debug, Clone, Copy, PartialEq, Eq)]
 pub(crate) struct Runner {
     key: RunnerKey,
+    // Each keeps its limit, from when the run is made: no poll looks it up, and none changes it.
     count: Count,
     found: Count,
 }
@@ -104,6 +105,8 @@ impl RunRest {
     pub fn is_ended(&self) -> bool
         ensures { result ≡ has_ended self.now }
     {
+        // Borrowed, as `search` is: a `Copy` value with a `Count` in it cannot be used twice in one
+        // function.
         matches!(self.stage, Ended)
     }
 
@@ -343,8 +346,7 @@ impl RunMachine {
         RunMachine::new_with(key, Limits::default())
     }
 
-    /// The same with these limits. Its turns are of so many tasks, and it takes a fair part with each
-    /// so many-th task that it finds. The places of its queue are none of its business.
+    /// The same with these limits, but for the room in its queue, which is ignored here.
     pub fn new_with(key: RunnerKey, limits: Limits) -> RunRest
         requires { is_lawful limits ≡ true }
         ensures rest { result ≡ new_rest key limits }

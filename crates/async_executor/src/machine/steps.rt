@@ -1,7 +1,7 @@
 //! The steps of a tick, each a value that must be spent.
 //!
-//! A run goes the same way between two polls of its own future. A is who goes it: `Alone` for a
-//! tick, which ends with its task, and `Runner` for a run.
+//! A run takes the same steps between two polls of its own future. A is the actor: `Alone` for a tick,
+//! which ends with its task, and `Runner` for a run.
 //!
 //! | step | what its holder does | what comes next |
 //! |---|---|---|
@@ -64,6 +64,7 @@ impl<A> Searching<A> {
         ensures world { Leads in_search (searched false) (of_searching self) (of_going result) }
     {
         let Searching { actor, number } = self;
+        // That the search was in vain is the driver's word. A task that was found comes with its notice.
         if number == 0 {
             return GoingToSleep::Insert(Inserting { actor });
         }
@@ -88,7 +89,8 @@ pub(crate) struct Removing<A> {
 }
 
 impl<A> Removing<A> {
-    /// Removes it. The change leaves its waker, or a notice if it was notified.
+    /// Removes it. The change leaves its waker, or a notice if it was notified. Which of both comes out at
+    /// the store alone, so `world` holds for both.
     #[inline(always)]
     pub(crate) fn make<W>(
         self,

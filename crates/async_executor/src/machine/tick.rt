@@ -27,6 +27,7 @@ use executor_core::task::Taken;
 #[derive(Debug, Clone, Copy, PartialEq, Eq)]
 pub struct TickRest {
     number: usize,
+    // So a tick keeps nothing else between polls, and one that has ended gives its place back once.
     ended: bool,
 }
 

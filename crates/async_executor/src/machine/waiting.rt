@@ -78,6 +78,8 @@ pub enum TickReply<W> {
     Stored(Again),
     /// The sleeper was taken out of the list.
     RemovedIt(Change<Removed<W>>),
+    // Without the waker, whose drop runs code of the caller's: who made the removal drops it, once the
+    // lock is given up.
     /// The flag was stored after the removal, which gave the notice if the sleeper was notified.
     StoredRemoved(Option<Notice>),
     /// The flag was exchanged, and gave the pick if somebody is to be notified.

@@ -46,7 +46,7 @@ pub enum RunError<G> {
     #[error("out of memory")]
     OutOfMemory(G),
     /// Every runner number was given.
-    #[error("no runner number is left")]
+    #[error("runner numbers are exhausted")]
     Exhausted(G),
 }
 
@@ -129,7 +129,7 @@ impl<'a, H: Home, G: Future<H::Waker>> RunIn<'a, H, G> {
 #[derive(Drop)]
 struct Driver<'x, 'y, H: Home, G: Drop> {
     executor: &'x ExecutorIn<H>,
-    // That of the executor, at hand.
+    // The executor's state, kept here to save an indirection.
     state: &'x ExecutorState<H::Waker, H::Runtime>,
     search: Search,
     own: &'y mut Own<G>,
@@ -142,6 +142,7 @@ impl<'x, 'y, H: Home, G: Drop> Driver<'x, 'y, H, G> {
     #[inline(always)]
     fn search(&mut self, again: Option<Again>) -> Option<NextTask> {
         let own = &mut *self.own;
+        // The table's lock alone: the store's is taken once there is a task.
         let word = own.words.next();
         let found = self.search.make(&mut *cells!(self.state), word, again);
         if let Some(next) = &found {
@@ -218,7 +219,8 @@ impl<'x, 'y, H: Home, G: Drop> Driver<'x, 'y, H, G> {
     ) -> Option<NextTask>
         requires { IsLeftRight left }
     {
-        // Its drop and its wake come before the search, which they may queue something for.
+        // Its drop and its wake come before the search: they may queue something for it, and while they run
+        // others can still steal what it would take.
         self.finish(id, left);
         self.search_anew()
     }
@@ -380,7 +382,7 @@ impl<H: Home, G: Future<H::Waker>> RunIn<'_, H, G> {
 impl<H: Home, G: Future<H::Waker>> Future<H::Waker> for RunIn<'_, H, G> {
     type Output = G::Output;
 
-    /// Polls the own future, and if that is ready, is ready with its output. Else runs tasks until
+    /// Polls the own future, and if that is ready, is ready with its output. Otherwise runs tasks until
     /// none is left, or a whole turn was run since it yielded last. If none is left, a copy of the
     /// waker is kept, in place of an earlier one, and is woken once there may be a task. After a
     /// turn, or if the copy is refused, the waker itself is woken. A run that was ready wakes it
@@ -390,6 +392,7 @@ impl<H: Home, G: Future<H::Waker>> Future<H::Waker> for RunIn<'_, H, G> {
         ensures ended { has_ended self.old.rest ≡ false → has_ended self.new.rest ≡ is_ready result }
         ensures again { IsTrue (has_ended self.old.rest) → (self.new.rest ≡ self.old.rest) × (is_ready result ≡ false) }
     {
+        // One that has ended has no second output to give.
         if self.rest.is_ended() {
             w.wake();
             return Poll::Pending;

@@ -1,4 +1,4 @@
-//! The words that say where a runner's walk over the queues of others starts.
+//! Random numbers, which say from which queue a runner tries to steal first.
 ghost use Rattle.std.specs.Prelude.{◌≡◌};
 ghost use Rattle.rand_xoshiro.specs.Xoshiro256.{of_seed, plus_plus};
 ghost use Rattle.rand_xoshiro.specs.SplitMix64.{splitmix_seed};

@@ -22,6 +22,8 @@ impl<H: Home> ExecutorIn<H> {
             announce!(state, notice);
         }
         for _ in state.rt().forever() {
+            // The loop has no measure: no contract says what others do to the table between two holds of
+            // its lock.
             let drained = state.cells().drain_next();
             let Some(taken) = drained else {
                 return;

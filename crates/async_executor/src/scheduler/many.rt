@@ -101,11 +101,15 @@ impl<H: Shareable> ExecutorIn<H> {
         ensures room { IfErr result (λ e. IfNone e.refused (vec_len handles.new ≡ vec_capacity handles.new)) }
         ensures place { HasPlace (vec_len handles.new) (vec_capacity handles.new) result }
     {
+        // No table is then copied as it grows. If this is refused, each spawn makes its own room.
         let tasks = expect_handles(handles, &futures);
         changes::reserve(self.home(), tasks);
         let before = handles.len();
+        // One `spawn` each: a hold of the locks over several would keep others out, and the iterator
+        // could not use the executor.
         loop {
             let spawned = handles.len() - before;
+            // Before the iterator is asked, so no future is taken out for which there is no place.
             if handles.try_reserve(1).is_err() {
                 return Err(SpawnMany {
                     spawned,

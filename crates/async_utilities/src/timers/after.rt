@@ -149,6 +149,7 @@ impl<W: Wake, R: Wait + Drop> After<W, R> {
             drop(deadlines);
             wake_unless_kept(left.map(Some));
         } else {
+            // Not before a poll has to wait: a future that is ready at once costs nothing.
             let set = deadlines.set(nanos, copy);
             drop(deadlines);
             self.settle(set);

@@ -13,6 +13,7 @@ use std::collections::BTreeMap;
 /// same timer has. The earlier one comes first, and of two at one time the one that was set first.
 #[derive(Clone, Copy, Debug, PartialEq, Eq, PartialOrd, Ord, Hash)]
 pub(crate) struct Deadline {
+    // 584 years of them. A later time never comes, so there is no error for it.
     pub(crate) nanos: u64,
     pub(crate) number: u64,
 }
@@ -48,7 +49,11 @@ impl News {
 /// left there, and the latest time that the clock was read at.
 #[derive(Drop)]
 pub(crate) struct Deadlines<W> {
+    // Setting, firing and removing are each O(log n), and its model is the list in order. A heap would
+    // keep what was removed.
     waiting: BTreeMap<Deadline, W, Global>,
+    // A clock may go back. A future whose deadline was fired stands here no more, and must be ready all
+    // the same.
     latest: Reading,
     next_number: u64,
     ghost fresh: { IsFresh waiting next_number },

@@ -52,6 +52,8 @@ pub struct Driver<'a, W: Wake, C: Clock + Drop, R: Wait + Drop> {
 impl<'a, W: Wake, C: Clock + Drop, R: Wait + Drop> Driver<'a, W, C, R> {
     // One more who drives it.
     pub(crate) fn new(timer: &'a Timer<W, C, R>) -> Result<Driver<'a, W, C, R>, OutOfMemory> {
+        // For as long as it drives: nobody fires who is not told of a nearer deadline, and no place is
+        // left behind. One that never parks pays for it too.
         let waker = ThreadWaker::new(timer.shared.alloc)?;
         let copy = waker.copy()?;
         let place = timer.shared.drivers.join(&timer.shared.rt, copy)?;
@@ -121,7 +123,7 @@ impl<'a, W: Wake, C: Clock + Drop, R: Wait + Drop> Driver<'a, W, C, R> {
     ///
     /// # Errors
     ///
-    /// `TimerFailed` with the future, if the clock is not to be read.
+    /// `TimerFailed` with the future, if the clock cannot be read.
     ///
     /// Example: `uses::beats`.
     ///

@@ -37,6 +37,7 @@ impl Drivers {
     /// Tells each one of a deadline that comes before all that were there, so that it parks anew.
     pub(crate) fn tell<R: Wait>(&self, rt: &R, news: News) {
         match news {
+            // All of them: whoever is told alone could end, and would have to pass it on.
             News::Nearer => {
                 for (_, waker) in self.wakers.lock(rt).iter() {
                     waker.wake();

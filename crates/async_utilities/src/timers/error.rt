@@ -17,7 +17,7 @@ pub enum TimerError {
     /// Memory was refused.
     #[error("out of memory")]
     OutOfMemory,
-    /// The clock was not to be read.
+    /// The clock could not be read.
     #[error("{0}")]
     Clock(io::Error),
 }

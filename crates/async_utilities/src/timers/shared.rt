@@ -46,6 +46,8 @@ impl<W: Wake, R: Wait + Drop> Shared<W, R> {
         self.latest(now);
         let mut has_woken = false;
         for _ in self.rt.forever() {
+            // One in each hold: so a firing takes no memory, and one that is dropped meanwhile is not
+            // woken.
             let fired = self.deadlines().fire();
             match fired {
                 Fired::One(due) => {

@@ -54,6 +54,7 @@ impl<T: Copy> Clone for Event<T> {
     ghost is_infallible = { λ _. ⊤ };
 
     fn clone(&self) -> Result<Event<T>, AllocError> {
+        // By a copy, so that T need not be `Clone`.
         Ok(*self)
     }
 }

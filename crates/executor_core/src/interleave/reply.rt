@@ -77,6 +77,7 @@ impl<T: Copy> Clone for Reply<T> {
     ghost is_infallible = { λ _. ⊤ };
 
     fn clone(&self) -> Result<Reply<T>, AllocError> {
+        // By a copy, so that T need not be `Clone`.
         Ok(*self)
     }
 }

@@ -51,6 +51,8 @@ pub enum Phase {
 #[derive(Debug, Clone, Copy, PartialEq)]
 pub enum ListChange {
     /// It went to sleep. The change carries an `Again`.
+    // No value that must be spent: nobody else changes the list while the ticker holds the lock, so the
+    // store makes the change anew. The search that an `Again` asks for is the ticker's next phase.
     Slept,
     /// It found a task, and its number is removed. It keeps the notice of the task, and the change
     /// carries another one if the number was notified.

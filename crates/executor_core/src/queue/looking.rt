@@ -30,7 +30,7 @@ impl Again {
 
 impl<P, T, W> Cells<P, T, W> {
     /// Says whether `take_any` would find a task, and takes none. If no task stands in any queue, that
-    /// was the search which still had to follow. Else one has still to follow. It takes no memory.
+    /// was the search which still had to follow. Otherwise one has still to follow. It takes no memory.
     pub fn look(&self, again: Option<Again>) -> Option<Again>
         ensures exact { is_some result ≡ is_some (any_in self.now).0 }
         ensures none { IfNone result (queued_of self.now ≡ []) }

@@ -41,6 +41,7 @@ struct LocalQueue {
 /// lists of ids, the number of the next runner, and how many reserved places are free.
 #[derive(Drop)]
 pub(crate) struct Queues<P, T, W> {
+    // A type of its own, with a model of its own: another form of the queues changes no body there.
     slots: Slots<P, T, W>,
     // In order of registration.
     locals: Vec<LocalQueue>,
@@ -64,6 +65,8 @@ impl<P, T, W> Model for Queues<P, T, W> {
 
     ghost view = { λ q. record { slots = q.slots.slots; state = state_of q.slots.queue q.locals.items q.next_runner q.free_places } };
 
+    // One list of the ids of all queues, whatever their order: one lemma serves every move between
+    // queues.
     ghost invariant = { λ q. IsQueues (state_of q.slots.queue q.locals.items q.next_runner q.free_places) (vec_capacity q.locals) };
 }
 
@@ -159,6 +162,7 @@ impl<P, T, W> Queues<P, T, W> {
         ensures slots { self.new.slots ≡ self.old.slots }
         ensures lists { self.new.state ≡ with_lists (pushed id self.old.state.lists) self.old.state }
     {
+        // No look whether the task is queued already: callers know that it is not, by the law of the queues.
         self.slots.push(id);
         Notice { unspent: () }
     }
@@ -373,6 +377,8 @@ impl<P, T, W> Queues<P, T, W> {
         if place >= self.positions.len() {
             return self.look_for(key);
         }
+        // A right hint costs the same however many runners there are. A wrong one is set again. So a key
+        // is a plain number, and no contract speaks of hints.
         let hint = self.positions[place];
         if stands_at(&self.locals, hint, key.number) {
             return Some(hint);
@@ -430,7 +436,7 @@ impl<P, T, W> Queues<P, T, W> {
     }
 
     // Takes the task at the global front, or else at the front of the first runner's queue that has
-    // one.
+    // one. Who takes here has no queue of its own to steal into, so no other task is moved.
     pub(crate) fn take_any(&mut self) -> Option<TaskId>
         ensures found { result ≡ (search_any self.old.state.lists).0 }
         ensures slots { self.new.slots ≡ self.old.slots }

@@ -29,7 +29,7 @@ pub enum RunnerError {
     #[error("out of memory")]
     OutOfMemory,
     /// Every runner number was given.
-    #[error("no runner number is left")]
+    #[error("runner numbers are exhausted")]
     Exhausted,
 }
 

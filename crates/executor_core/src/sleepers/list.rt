@@ -39,6 +39,7 @@ pub struct Removed<W> {
 #[derive(Drop)]
 pub struct Sleepers<W> {
     unnotified: Vec<(usize, W)>,
+    // A field and no mark in the list: `insert` and `notify` cost the same however many sleep.
     notified: Option<usize>,
     free: Vec<usize>,
     places: usize,

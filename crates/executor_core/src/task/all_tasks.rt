@@ -20,6 +20,8 @@ impl<P, T, W> Cells<P, T, W> {
     pub fn wake_all(&mut self) -> Option<Notice>
         ensures table { self.new ≡ after_wake_all self.old }
         ensures notice { is_some result ≡ wake_all_queues self.old }
+        // For a caller with another model of the tasks: without it, the order by rising slot is not one
+        // order.
         ensures slots { SlotsDiffer self.old }
     {
         let idle = change_all(&mut self.queues, false);
@@ -62,6 +64,8 @@ fn change_all<P, T, W>(queues: &mut Queues<P, T, W>, cancels: bool) -> bool
     ensures idle { result ≡ nat_lt 0 (length (idle_ids 0 queues.old.slots)) }
 {
     let mut idle = false;
+    // One walk for a wake and for a close, so that their order is proved once. It goes by slots up to the
+    // capacity, since a slab has no mutable iterator.
     for slot in 0..queues.capacity() {
         if let Some(id) = change_slot(queues, slot, cancels) {
             queues.push(id).keep();
@@ -80,6 +84,7 @@ fn change_slot<P, T, W>(queues: &mut Queues<P, T, W>, slot: usize, cancels: bool
     let number = queues.get(slot)?.number;
     let id = TaskId { number, slot };
     let cell = queues.cell_mut(id);
+    // Whether the handle is there or not: else the future of a detached task would be left by a close.
     let idle = if cancels {
         cancel_cell(cell)
     } else {

@@ -37,7 +37,8 @@ pub enum SpawnError<P> {
     #[error("out of memory")]
     OutOfMemory(P),
     /// Every task number was given.
-    #[error("no task number is left")]
+    // No error type of its own: this too gives the future back.
+    #[error("task numbers are exhausted")]
     Exhausted(P),
 }
 

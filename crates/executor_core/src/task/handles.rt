@@ -117,6 +117,7 @@ impl<P, T, W> Cells<P, T, W> {
     pub fn is_ended(&self, id: TaskId) -> bool
         ensures { result ≡ not (undropped_in (cell_at self.now id)) }
     {
+        // `is_finished` would not do: it is true of a cancelled task whose future is still there.
         !self.is_undropped(id)
     }
 }

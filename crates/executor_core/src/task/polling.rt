@@ -74,6 +74,8 @@ pub fn run_taken<P, T, Q: Poller<P, T>>(taken: Taken<P>, poller: &mut Q) -> Ran<
         return Ran::Dropped(Held { id, to_drop: true });
     }
     let polled = poller.poll(id, future);
+    // Made here and not in `Taken`: what a search answers, and a run moves several times, has the id
+    // once.
     let held = Held { id, to_drop: false };
     match polled {
         Polled::Pending(future) => Ran::Pending(held, future),

@@ -103,6 +103,7 @@ impl<P, T, W> Slots<P, T, W> {
         ensures* writes_back { sem 𝓛 (lends_cell P.row T.row W.row self.entry id result) }
         ensures value { slice_index_or self.old.slots id.slot None ≡ Some (numbered id result.now) }
     {
+        // The cell alone is lent, for this id: no caller can write a slot's number or its link.
         let slot = &mut self.slots[id.slot];
         let entry = &mut slot.entry;
         &mut entry.cell
@@ -242,6 +243,7 @@ impl<P, T, W> Slots<P, T, W> {
         ensures queue { self.new ≡ with_queue (drop count self.old.queue) self.old }
         ensures ring { ring.new ≡ record ring.old { ids = ring.old.ids ++ take count self.old.queue } }
     {
+        // The links of these are cleared one by one. Their slots are the ones that the takes go to next.
         for _ in 0..count {
             let Some(id) = self.pop() else { unreachable!() };
             let Ok(()) = ring.push(id) else {

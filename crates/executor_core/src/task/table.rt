@@ -35,12 +35,15 @@ pub enum EndPending<P> {
 ///
 /// A contract sees it as a `Table`: a finite map from task numbers to cells, and lists of numbers.
 /// Its law, which every call keeps: a number stands once in the queues if its cell is scheduled,
-/// and else in none.
+/// and otherwise in none.
 #[derive(Drop)]
 pub struct Cells<P, T, W> {
     pub(crate) queues: Queues<P, T, W>,
     pub(crate) next: u64,
+    // At most `next`, as the invariant says: so it never overflows, nor does the count of the queued
+    // ones.
     pub(crate) undropped: usize,
+    // `drain_next` alone acts by it, so it costs no other call anything: wakes and spawns queue as before.
     pub(crate) closed: bool,
 }
 
@@ -69,6 +72,7 @@ impl<P, T, W> Cells<P, T, W> {
     pub fn new(alloc: Global) -> Result<Self, OutOfMemory>
         ensures { IfOk result (λ cells. cells ≡ empty_table 0) }
     {
+        // Nothing is refused here. The `Result` is what callers have always had.
         Self::first_number(alloc, 0)
     }
 
@@ -283,10 +287,11 @@ impl<P, T, W> Cells<P, T, W> {
     }
 
     /// The law of the queues, which every call keeps: a number stands once in all of them together
-    /// if its cell is scheduled, and else in none. It does nothing.
+    /// if its cell is scheduled, and otherwise in none. It does nothing.
     pub fn law_holds(&self)
         ensures { LockLaw self.now }
     {
+        // For a caller that holds the table and makes no other call to learn the law from.
         let _ = &self.next;
     }
 }

@@ -47,6 +47,7 @@ impl<P: Drop, T: Copy> World<P, T> {
     fn ticker(&self, k: usize) -> Ticker
         ensures { result ≡ ticker k self.now }
     {
+        // One that was never made is seen as one that has ended: no step of it is enabled.
         ticker_at(&self.tickers, k)
     }
 
@@ -147,6 +148,8 @@ impl<P: Drop, T: Copy> World<P, T> {
     fn may_close(&self) -> bool
         ensures { result ≡ may_close self.now }
     {
+        // Both take the executor from its owner, whose ticks and runs borrow it; a poll of a task is one
+        // of theirs.
         !self.is_closed() && !self.leaked && !self.some_held() && !some_busy(&self.tickers)
     }
 
@@ -155,6 +158,7 @@ impl<P: Drop, T: Copy> World<P, T> {
         ensures { result ≡ enabled step.now self.now }
     {
         match step {
+            // `TryAny` changes the queues of runners, which a closed executor has empty.
             Step::Spawn(_) | Step::TryTick | Step::TryAny | Step::Tick | Step::Run =>
                 !self.is_closed(),
             Step::Wake(n) => find_info(&self.entries, *n).is_some(),

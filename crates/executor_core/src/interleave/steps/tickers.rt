@@ -63,6 +63,8 @@ fn release_place<P, T>(core: &mut Core<P, T, ()>, ticker: Ticker, is_new: bool)
     requires { is_new ≡ is_new_run core.old.cells.locals ticker }
     ensures { core.new ≡ record core.old { cells = record core.old.cells { free_places = cond is_new (core.old.cells.free_places - 1) core.old.cells.free_places } } }
 {
+    // A running ticker does this right after its end, under the sleepers' lock. In between only a new
+    // ticker and an insertion look at the places, and one that has not ended finds its own free.
     if !is_new {
         return;
     }
