@@ -1,6 +1,6 @@
 use Rattle.std.proofs.Common.{◌≡◌, ◌∙◌, None, arith}
 use Rattle.std.proofs.lemmas.List.Elements.{All-push}
-use Rattle.priority_executor.proofs.executor.PriorityExecutor.tick.Goals as goal
+use Rattle.priority_executor.proofs.executor.PriorityExecutor.sleepers.Goals as goal
 
 pub loop-level-preserved : goal.loop-level-preserved
 loop-level-preserved g c =
