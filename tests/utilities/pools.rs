@@ -1,13 +1,15 @@
 //! Threads that run the tasks of one executor: of one queue, of shards, and of levels.
+use crate::tests::support::running::halt::TURNS;
 use crate::tests::support::running::record::{AtDrop, Moment, Record};
 use crate::tests::support::running::refusal::{MOST, is_order_left, refuse};
 use async_executor::{Future, Poll, SpawnError, Task, TaskWaker, Wake};
 use async_utilities::{JoinAll, Pool, PoolError, PoolOf, ThreadWaker, block_on};
 use pools::{Levels, PriorityPool, ShardedPool};
 use priority_executor::PriorityExecutor;
-use std::sync::Wait;
+use std::sync::atomic::{AtomicU64, Ordering};
+use std::sync::{Arc, Wait};
 use std::test::Fail;
-use std::thread::Threads;
+use std::thread::{Threads, yield_now};
 
 type Ended = Result<(), PoolError>;
 
@@ -138,6 +140,55 @@ fn a_pool_runs_all_tasks(rt: HostRuntime) -> Result<(), Fail> {
         assert_eq!(rt; sums::<ShardedPool<Gives, _>, _>(&rt, count)?, (499500, count));
         assert_eq!(rt; sums::<PriorityPool<Gives, _, 2>, _>(&rt, count)?, (499500, count));
     }
+    Ok(())
+}
+
+// Ready once so many are polled at the same time, each by a thread of its own.
+#[derive(Drop)]
+struct Meets {
+    count: Arc<AtomicU64>,
+    all: u64,
+}
+
+impl<W> Future<W> for Meets {
+    type Output = ();
+
+    fn poll(&mut self, _w: &W) -> Poll<()> {
+        self.count.fetch_add(1, Ordering::SeqCst);
+        for _ in 0..TURNS {
+            if self.count.load(Ordering::SeqCst) >= self.all {
+                break;
+            }
+            yield_now();
+        }
+        Poll::Ready(())
+    }
+}
+
+// Has each of three threads, of as many shards, run a task at the same time, so all of them have begun. Says
+// whether each has its queue in a shard of its own.
+fn has_one_in_each<R>(rt: &R) -> Result<bool, Fail>
+where
+    R: AllocGlobal + Wait + Threads + Clone + Drop + Send + Sync + 'static,
+{
+    let pool: ShardedPool<Meets, R> = ShardedPool::new(rt.clone()?, rt.alloc(), 3)?;
+    let count = Arc::new(rt.alloc(), AtomicU64::new(0))?;
+    let mut tasks = Vec::new(rt.alloc());
+    for _ in 0..3 {
+        let count = Arc::try_clone(&count)?;
+        let task = pool.executor().spawn(Meets { count, all: 3 });
+        tasks.push(task.ok().ok_or("no memory for a task")?)?;
+    }
+    for task in tasks {
+        block_on(rt, rt.alloc(), task)??;
+    }
+    let text = format!(in rt.alloc(); "{:?}", pool.executor())?;
+    Ok(text.as_str().matches("local_runners: [0]").count() == 3)
+}
+
+#[test]
+fn each_thread_drives_a_shard(rt: HostRuntime) -> Result<(), Fail> {
+    assert!(rt; has_one_in_each(&rt)?);
     Ok(())
 }
 
