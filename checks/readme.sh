@@ -149,7 +149,7 @@ fi
 # The examples in comments: each has one to three lines, which stand in a file of the folder uses
 # that defines a caller which the line 'Example: ' above them names.
 for folder in uses crates/executor_core crates/async_executor crates/priority_executor crates/sharded_executor \
-    crates/async_utilities; do
+    crates/async_utilities crates/pools; do
     printf '%s\n' "$sources" | grep "^$folder/src/"
 done | xargs awk '
     function stands(line, word, file) {

@@ -134,6 +134,32 @@ fn a_run_that_sleeps_hears_every_shard(rt: HostRuntime) -> Result<(), Fail> {
     Ok(())
 }
 
+// How many of twenty tasks of another shard a run takes in its first polls, and how often it is woken by then.
+fn taken_of_another<R: Wait + AllocGlobal + Clone + Drop + Send + Sync>(
+    rt: &R,
+) -> Result<[(usize, u64); 2], Fail> {
+    let ran = Arc::new(rt.alloc(), AtomicU64::new(0))?;
+    let ex = shards(rt, 3)?;
+    for _ in 0..20 {
+        leave(&ex, 2, digit(1, &ran)?)?;
+    }
+    let (waker, record) = waker(rt.alloc())?;
+    let mut run = run_of(&ex, 0)?;
+    let mut taken = [(0, 0); 2];
+    for poll in &mut taken {
+        let _ = run.poll(&waker);
+        // Each task that is left holds a share of the count.
+        *poll = (21 - Arc::strong_count(&ran), record.times(Moment::WakerWake));
+    }
+    Ok(taken)
+}
+
+#[test]
+fn a_run_takes_a_handful_of_another_shard(rt: HostRuntime) -> Result<(), Fail> {
+    assert_eq!(rt; taken_of_another(&rt)?, [(16, 1), (20, 2)]);
+    Ok(())
+}
+
 // Two runs sleep, the one of the first shard last. A task of the first shard wakes one of the second: while it
 // is polled, the other run has to be woken. Gives how often that one was woken by then.
 fn woken_meanwhile<R: Wait + AllocGlobal + Clone + Drop + Send + Sync>(rt: &R) -> Result<u64, Fail> {

@@ -162,10 +162,10 @@ where
     ///
     /// `OutOfMemory` with the future, if memory for a sleeper is refused. All is as before.
     ///
-    /// Example: `uses::serves_levels`.
+    /// Example: `uses::runs_levels`.
     ///
     /// ```text
-    /// let run = executor.run(stopped).ok()?;
+    /// let run = executor.run(Zip::new(later, urgent))?;
     /// ```
     pub fn run<G: Future<W>>(
         &self,

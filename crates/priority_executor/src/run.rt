@@ -18,10 +18,10 @@ const TURN: u32 = 64;
 /// If it is dropped asleep, it leaves the sleepers of each level, and if it was notified in one, another
 /// sleeper of that level is woken in its place.
 ///
-/// Example: `uses::serves_levels`.
+/// Example: `uses::runs_levels`.
 ///
 /// ```text
-/// let run = executor.run(stopped).ok()?;
+/// let run = executor.run(Zip::new(later, urgent))?;
 /// ```
 #[derive(Drop)]
 pub struct PriorityRun<'a, F, W, R, G, const N: usize>
@@ -98,10 +98,10 @@ where
     /// meanwhile, or if a copy is refused, the waker itself is woken. A run that was ready wakes it and is
     /// pending, and does nothing more.
     ///
-    /// Example: `uses::serves_levels`.
+    /// Example: `uses::runs_levels`.
     ///
     /// ```text
-    /// block_on(rt, alloc, run)
+    /// let (one, two) = block_on(rt, alloc, run)?;
     /// ```
     fn poll(&mut self, w: &W) -> Poll<G::Output>
         ensures ended { is_some self.old.going ≡ true → is_none self.new.going ≡ is_ready result }

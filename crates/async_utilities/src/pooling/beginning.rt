@@ -73,11 +73,10 @@ impl Beginning {
 
 /// A thread of a pool that has still to begin.
 ///
-/// Example: `pools::sharded`, whose threads each begin by a run.
+/// Example: `uses::limits_a_pool`.
 ///
 /// ```text
-/// let run = self.executor.run(number % self.executor.shards(), stopped)?;
-/// thread.until_ready(run)
+/// thread.until_ready(self.executor.run(stopped)?)
 /// ```
 #[derive(Drop)]
 pub struct PoolThread<'a, R: Wait> {
@@ -88,7 +87,7 @@ pub struct PoolThread<'a, R: Wait> {
 
 /// Says that a thread of a pool polled a future until it was ready. `PoolThread::until_ready` alone makes it.
 ///
-/// Example: `pools::sharded`.
+/// Example: `uses::limits_a_pool`.
 ///
 /// ```text
 /// ) -> Result<Done, PoolError> {
@@ -104,10 +103,10 @@ impl<R: Wait> PoolThread<'_, R> {
     ///
     /// `OutOfMemory` if memory for the thread's waker is refused. The future was not polled then.
     ///
-    /// Example: `pools::sharded`.
+    /// Example: `uses::limits_a_pool`.
     ///
     /// ```text
-    /// thread.until_ready(run)
+    /// thread.until_ready(self.executor.run(stopped)?)
     /// ```
     pub fn until_ready<G: Future<ThreadWaker>>(self, future: G) -> Result<Done, PoolError>
         ensures { IfErr result (λ error. error ≡ OutOfMemory) }

@@ -11,11 +11,10 @@ use std::thread::{self, JoinHandle, Threads};
 
 /// An executor that the threads of a pool drive.
 ///
-/// Example: `pools::sharded`, of a `ShardedExecutor`.
+/// Example: `uses::limits_a_pool`.
 ///
 /// ```text
-/// let run = self.executor.run(number % self.executor.shards(), stopped)?;
-/// thread.until_ready(run)
+/// impl<R: Wait + Clone + Drop> Driven<R> for Limited<R> {
 /// ```
 pub trait Driven<R: Wait + Drop>: Drop {
     /// Runs its tasks on this thread, which is the one of this number, until that future is ready.
@@ -24,11 +23,10 @@ pub trait Driven<R: Wait + Drop>: Drop {
     ///
     /// `PoolError` if something that the thread needs is refused. It has run no task then.
     ///
-    /// Example: `pools::sharded`.
+    /// Example: `uses::limits_a_pool`.
     ///
     /// ```text
-    /// let run = self.executor.run(number % self.executor.shards(), stopped)?;
-    /// thread.until_ready(run)
+    /// thread.until_ready(self.executor.run(stopped)?)
     /// ```
     fn drive(
         &self,
@@ -43,11 +41,10 @@ pub trait Driven<R: Wait + Drop>: Drop {
 ///
 /// Its drop tells the threads to stop, and waits for them. Then the executor is dropped.
 ///
-/// Example: `pools::sharded`.
+/// Example: `uses::limits_a_pool`.
 ///
 /// ```text
-/// pub struct ShardedPool<F, R>
-/// where
+/// let pool = PoolOf::new(rt.clone()?, alloc, 2, Limited { executor })?;
 /// ```
 pub struct PoolOf<E, R>
 where
@@ -139,10 +136,10 @@ where
     ///
     /// `PoolError`. The threads that were started are stopped again and joined, and the executor is dropped.
     ///
-    /// Example: `pools::sharded`.
+    /// Example: `uses::limits_a_pool`.
     ///
     /// ```text
-    /// let inner = PoolOf::new(rt, alloc, count, Shards { executor })?;
+    /// let pool = PoolOf::new(rt.clone()?, alloc, 2, Limited { executor })?;
     /// ```
     pub fn new(rt: R, alloc: Global, count: usize, executor: E) -> Result<PoolOf<E, R>, PoolError>
         ensures { IfOk result (λ pool. vec_len pool.started.threads ≡ count) }
@@ -201,10 +198,10 @@ where
 
     /// The executor, to spawn tasks on.
     ///
-    /// Example: `pools::sharded`.
+    /// Example: `uses::limits_a_pool`.
     ///
     /// ```text
-    /// &self.inner.executor().executor
+    /// pool.executor().executor.spawn_many(sums, &mut tasks)?;
     /// ```
     pub fn executor(&self) -> &E {
         &self.executor
@@ -213,10 +210,10 @@ where
     /// Tells the threads to stop, waits for them, and says what came of each, in the order in which they
     /// were started. Each began with all that it needs, so it is `Ok`.
     ///
-    /// Example: `pools::sharded`.
+    /// Example: `uses::limits_a_pool`.
     ///
     /// ```text
-    /// self.inner.join()
+    /// for ended in pool.join() {
     /// ```
     pub fn join(self) -> Vec<Result<(), PoolError>>
         ensures { vec_len result ≡ vec_len self.started.threads }
