@@ -9,7 +9,7 @@ Usage: checks/lib/examples.py, at the top. It prints each example that is otherw
 import glob
 import re
 
-CRATES = "executor_core async_executor priority_executor sharded_executor async_utilities".split()
+CRATES = "executor_core async_executor priority_executor sharded_executor async_utilities pools".split()
 ITEMS = re.compile(r"crates/async_executor/src/((static_|local_)?executors?\.rt|(local_)?executor/.*)$")
 
 

@@ -8,8 +8,8 @@ use std::thread::Threads;
 use std::time::{Clock, Duration};
 use uses::common::executor;
 use uses::{
-    answers_in_order, closes_a_channel, fans_out, gives_up, hears, joins, makes_once, meets,
-    parks, pools, races, requests_tasks, rests, sends_to_a_task, serves, shares, takes_permits,
+    answers_in_order, closes_a_channel, fans_out, gives_up, hears, joins, limits_a_pool,
+    makes_once, meets, parks, pools, races, requests_tasks, rests, sends_to_a_task, serves, shares, takes_permits,
     takes_turns, tells, times_out, tries, winds_up,
 };
 
@@ -37,11 +37,12 @@ fn is_late(passed: Option<(u128, Duration)>) -> bool {
 fn pooled<R: Wait + Threads + Clone + Drop + Send + Sync + 'static>(
     rt: &R,
     alloc: Global,
-) -> [Line; 4] {
+) -> [Line; 5] {
     [
         ("parks", parks(rt, alloc) == Some(10)),
         ("pools", pools(rt, alloc) == Some(10)),
         ("joins", joins(rt, alloc) == Some(500_500)),
+        ("limits_a_pool", limits_a_pool(rt, alloc).ok() == Some(210)),
         ("winds_up", are_joined(winds_up(rt, alloc))),
     ]
 }

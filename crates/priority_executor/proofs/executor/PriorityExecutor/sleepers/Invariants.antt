@@ -1,6 +1,6 @@
 use Rattle.std.proofs.Common.{◌≡◌, None, vec_len}
 use Rattle.std.specs.Prelude.{All, map, take, vec_capacity}
-use Rattle.priority_executor.proofs.executor.PriorityExecutor.tick.Given as goal
+use Rattle.priority_executor.proofs.executor.PriorityExecutor.sleepers.Given as goal
 
 abbrev pub invariant-loop-level : goal.invariant-loop-level
 invariant-loop-level g l =

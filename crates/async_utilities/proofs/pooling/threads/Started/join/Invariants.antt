@@ -1,6 +1,6 @@
 use Rattle.std.proofs.Common.{◌≡◌, ◌+◌, vec_len, vec_capacity}
 use Rattle.std.specs.Vec.Iter.{into_iter_len}
-use Rattle.async_utilities.proofs.pooling.Started.join.Given as goal
+use Rattle.async_utilities.proofs.pooling.threads.Started.join.Given as goal
 
 -- one for each thread so far, and room for the others
 abbrev pub invariant-loop-thread : goal.invariant-loop-thread
