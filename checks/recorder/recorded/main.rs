@@ -5,7 +5,7 @@
 //! local one, how many times four threads take one each at once, on local executors, how many four threads
 //! take together, and the seed of the first of these. With a wrong body it leaves out the longest of those
 //! that are the same each time, and takes the first random one of one thread, none of four, and no table. Of
-//! four random programs, one has queues with room for few tasks, and another one has copies of wakers refused.
+//! four random programs, one has queues with room for few tasks, and another has copies of wakers refused.
 #![tactic(auto)]
 
 mod fixed;
