@@ -111,8 +111,8 @@ same "FROM_SMOL.md, the poll and the folder uses"
 
 # A row has what one writes with smol, what one writes here, and the caller in whose file that stands.
 sed -n '/^## What one writes/,/^## From/{s/[\\]|//g;p}' docs/FROM_SMOL.md |
-    grep '`uses::[a-z_]*` |$' > "$copy/rows"
-while IFS='|' read -r _ _ here caller _; do
+    grep '| `uses::[a-z_]*`$' > "$copy/rows"
+while IFS='|' read -r _ here caller; do
     caller=$(echo "$caller" | tr -d ' `')
     file=$(grep -lE "fn ${caller#uses::}\b" uses/src/*.rs)
     echo "$here" | grep -o '`[^`]*`' | tr -d '`' | while IFS= read -r text; do

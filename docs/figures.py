@@ -22,7 +22,7 @@ import throughput
 TOP = pathlib.Path(__file__).resolve().parent.parent
 PAGES = ("README.md", "docs/MEASURED.md", "docs/EXSIM.md")
 HEADS = {
-    "beside": ("", "async-executor 1.14.1", "tokio 1.24", "the kit's `futures` and `tokio`", "here"),
+    "beside": ("what", "async-executor 1.14.1", "tokio 1.24", "the kit's futures and tokio", "here"),
     "bench": ("row", "one operation", "instructions", "the Rust crate", "nanoseconds"),
     "busy": ("work", "runs never park", "the Rust crate", "runs park", "the Rust crate", "tokio 1.24"),
     "shards": ("row", "one operation", "T", "shards", "one executor", "the Rust crate", "tokio 1.24"),
@@ -110,9 +110,8 @@ def table(kind, found):
     """What a page says of a kind: its text, or its rows as a table."""
     if kind in SAID:
         return SAID[kind](found)
-    rule = "|---" * len(HEADS[kind]) + "|"
-    head, *lines = ("| " + " | ".join(line) + " |" for line in (HEADS[kind], *rows(kind, found)))
-    return "\n".join((head, rule, *lines))
+    head, *lines = (" | ".join(line) for line in (HEADS[kind], *rows(kind, found)))
+    return "\n".join((head, "|".join(["---"] * len(HEADS[kind])), *lines))
 
 
 def page(text, found):
