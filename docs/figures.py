@@ -15,6 +15,7 @@ import itertools
 import pathlib
 import re
 import sys
+import textwrap
 
 sys.dont_write_bytecode = True
 import throughput
@@ -64,7 +65,8 @@ def families(rows):
     for _, family in itertools.groupby(rows, lambda row: row[0].rstrip("0123456789")):
         (name, said, *_), *others = family = list(family)
         names = [f"`{name}`", *(re.search(r"\d+$", row[0])[0] for row in others)]
-        yield (", ".join(names), said, *(", ".join(dict.fromkeys(cells)) for cells in zip(*(row[2:] for row in family))))
+        cells = zip(*(row[2:] for row in family))
+        yield (", ".join(names), said, *("-" if set(cell) == {"-"} else ", ".join(cell) for cell in cells))
 
 
 def medians(times):
@@ -97,12 +99,18 @@ def rows(kind, found):
     return found[kind]
 
 
+def wrapped(text):
+    """The text in lines as wide as those of a page."""
+    return "\n".join(textwrap.wrap(text, 110))
+
+
 SAID = {
     "first": first,
     "time": commands,
     "ahead": throughput.ahead,
-    "taken": lambda found: f"Taken at {found['taken'][0][0]}.",
-    "swept": lambda found: f"These are {found['swept'][0][0]}.",
+    "taken": lambda found: wrapped(f"Taken at {found['taken'][0][0]}."),
+    "programs": lambda found: wrapped(f"Taken at {found['programs'][0][0]}."),
+    "swept": lambda found: wrapped(f"These are {found['swept'][0][0]}."),
 }
 
 
