@@ -78,7 +78,7 @@ sed -n 's/^It prints `\([^`]*\)`.*/\1/p' README.md > "$copy/said"
 cp crates/hello/stdout "$copy/wanted"
 same "README.md, what the program prints"
 
-block README.md text "Those of exsim" > "$copy/said"
+block README.md text "exsim takes" > "$copy/said"
 cp crates/exsim/stdout "$copy/wanted"
 same "README.md, the run of exsim"
 

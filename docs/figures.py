@@ -171,8 +171,8 @@ def chart(found):
         f'<desc id="description">{said}</desc>',
         throughput.STYLE,
         f'<rect class="ground" width="{WIDTH}" height="{height}"/>',
-        '<text x="10" y="24" font-size="16">Instructions an operation: fewer is better</text>',
-        f'<text x="{same}" y="52" text-anchor="middle">as many as there</text>',
+        '<text x="10" y="24" font-size="16">Instructions an operation, beside the Rust crate: fewer is better</text>',
+        f'<text x="{same}" y="52" text-anchor="middle">100 %</text>',
         f'<text x="{COLUMNS[0]}" y="52" text-anchor="end">here</text>',
         f'<text x="{COLUMNS[1]}" y="52" text-anchor="end">Rust crate</text>',
     ]
