@@ -82,7 +82,8 @@ def beside(found):
     for name, _, _, *times in found["shards"]:
         whose = (f"{name} {who}" for who in ("shards", "here", "rust", "tokio"))
         named.update(zip(whose, map(medians, times)))
-    return [[re.sub(r"\{(.*?)\}", lambda figure: named[figure[1]], cell) for cell in row] for row in found["beside"]]
+    fill = lambda cell: re.sub(r"\{(.*?)\}", lambda figure: named[figure[1]], cell)
+    return [[fill(cell) for cell in row] for row in found["beside"]]
 
 
 def rows(kind, found):
@@ -149,7 +150,6 @@ SHOWN = {
     "local_spawn_try_tick": "spawn and run, LocalExecutor",
     "static_spawn_try_tick": "spawn and run, StaticExecutor",
 }
-WIDTH = 720
 # Where the names of the rows end, how long a bar is that takes as many instructions as the Rust crate,
 # and where the two columns of figures end.
 NAMES = 250
@@ -163,15 +163,15 @@ def chart(found):
     shown = {name: counted[name] for name in SHOWN}
     height = 84 + 24 * len(shown)
     same = NAMES + 8 + SAME
-    said = " ".join(f"{SHOWN[name]}: {ours}, the Rust crate {theirs}." for name, (ours, theirs) in shown.items())
+    said = " ".join(f"{SHOWN[name]}: {count[0]}, the Rust crate {count[1]}." for name, count in shown.items())
     lines = [
-        f'<svg xmlns="http://www.w3.org/2000/svg" width="{WIDTH}" height="{height}" viewBox="0 0 {WIDTH} {height}" '
-        'role="img" aria-labelledby="title description" font-family="sans-serif" font-size="14">',
+        throughput.opening(height),
         '<title id="title">Instructions an operation, beside the Rust crate: fewer is better</title>',
         f'<desc id="description">{said}</desc>',
         throughput.STYLE,
-        f'<rect class="ground" width="{WIDTH}" height="{height}"/>',
-        '<text x="10" y="24" font-size="16">Instructions an operation, beside the Rust crate: fewer is better</text>',
+        f'<rect class="ground" width="{throughput.WIDTH}" height="{height}"/>',
+        '<text x="10" y="24" font-size="16">Instructions an operation, beside the Rust crate: '
+        "fewer is better</text>",
         f'<text x="{same}" y="52" text-anchor="middle">100 %</text>',
         f'<text x="{COLUMNS[0]}" y="52" text-anchor="end">here</text>',
         f'<text x="{COLUMNS[1]}" y="52" text-anchor="end">Rust crate</text>',

@@ -38,7 +38,8 @@ def measured(text):
         row = re.fullmatch(r"value (\w+) (\w*busy)_(\d+)_(\d+) (.*)", line)
         if row:
             times = [float(time) for time in row[5].split()]
-            passes[row[1], row[2], int(row[3]), int(row[4])] = f"{min(times):.0f}/{statistics.median(times):.0f}"
+            both = f"{min(times):.0f}/{statistics.median(times):.0f}"
+            passes[row[1], row[2], int(row[3]), int(row[4])] = both
     works = sorted({work for _, _, work, _ in passes})
     lines = []
     for kind in KINDS:
@@ -93,9 +94,8 @@ def ahead(found):
         for executor in range(1, len(found[kind][0]) - 1):
             places = []
             for threads, name in THREADS.items():
-                those = [
-                    row[0] for row in found[kind] if 1.01 * median(row, executor, threads) < median(row, 0, threads)
-                ]
+                is_ahead = lambda row: 1.01 * median(row, executor, threads) < median(row, 0, threads)
+                those = [row[0] for row in found[kind] if is_ahead(row)]
                 works = ranges([row[0] for row in found[kind]], those)
                 places += [f"on {name} at {listed(works)}"] if works else []
             where = listed(places) if places else "nowhere"
@@ -170,6 +170,15 @@ def legend(y):
     return lines
 
 
+def opening(height):
+    """Where a picture of this height begins."""
+    return (
+        f'<svg xmlns="http://www.w3.org/2000/svg" width="{WIDTH}" height="{height}" '
+        f'viewBox="0 0 {WIDTH} {height}" role="img" aria-labelledby="title description" '
+        'font-family="sans-serif" font-size="14">'
+    )
+
+
 def picture(found):
     """The work that is done in a time, as so many processors, over the work of a poll."""
     rows = [row for row in found["parked_busy"] if row[0] != "0"]
@@ -184,15 +193,14 @@ def picture(found):
     title = "Processors' worth of work that 1,000 tasks do, over the work of a poll: more is better"
     return "\n".join(
         [
-            f'<svg xmlns="http://www.w3.org/2000/svg" width="{WIDTH}" height="{height}" viewBox="0 0 {WIDTH} {height}" '
-            'role="img" aria-labelledby="title description" font-family="sans-serif" font-size="14">',
+            opening(height),
             f'<title id="title">{title}</title>',
             f'<desc id="description">{description(works, all_worth)}</desc>',
             STYLE,
             f'<rect class="ground" width="{WIDTH}" height="{height}"/>',
             f'<text x="10" y="24" font-size="15">{title}</text>',
-            '<text x="10" y="46" font-size="13">Each task wakes itself in each poll. The runs park while there is '
-            "nothing to run. Medians.</text>",
+            '<text x="10" y="46" font-size="13">Each task wakes itself in each poll. The runs park while '
+            "there is nothing to run. Medians.</text>",
             *lines,
             f'<text x="{WIDTH // 2}" y="{height - 10}" text-anchor="middle">work in each poll</text>',
             "</svg>",
