@@ -110,7 +110,7 @@ SAID = {
     "time": commands,
     "ahead": throughput.ahead,
     "taken": lambda found: wrapped(f"Taken at {found['taken'][0][0]}."),
-    "programs": lambda found: wrapped(f"Taken at {found['programs'][0][0]}."),
+    "programs": lambda found: wrapped(f"These are of {found['programs'][0][0]}."),
     "swept": lambda found: wrapped(f"These are {found['swept'][0][0]}."),
 }
 
