@@ -66,6 +66,14 @@ else
     fail "all pages: $words words, and $words_at_most are the most" "$copy/log"
 fi
 
+wc -lw README.md > "$copy/log"
+read -r lines words _ < "$copy/log"
+if [ "$lines" -le 130 ] && [ "$words" -le 900 ]; then
+    pass "README.md: $lines lines of 130, $words words of 900"
+else
+    fail "README.md: more than 130 lines or 900 words" "$copy/log"
+fi
+
 block README.md rust "## A whole program" > "$copy/said"
 cp crates/hello/src/main.rt "$copy/wanted"
 same "README.md, the program and crates/hello"
