@@ -42,15 +42,20 @@ run_exsim() {
     fi
 }
 
-# A word that names a call, a clause, a type, a definition, a crate or a path has to be there.
+# Whether the spec of this path, with dots, has this word.
+has_word() { find crates -path "*/specs/$(echo "$1" | tr . /).antt" -exec grep -qw -- "$2" {} \; -print | grep -q .; }
+
+# A word that names a call, a clause, a type, a definition, a test, a crate or a path has to be there.
 is_there() {
     case $1 in
         *[!A-Za-z0-9_:./]* | F | R | S | W | self | break | unsafe | specs/ | proofs/ | src/ | out/) return 0 ;;
         uses::*) grep -qE "fn ${1#uses::}\b" uses/src/*.rs ;;
         */* | *.md | *.txt | *.svg) [ -e "$1" ] || [ -e "docs/$1" ] || [ -e "crates/executor_core/src/$1.rt" ] ||
             [ -e "crates/async_executor/src/$1.rt" ] || [ -e "crates/async_utilities/src/$1.rt" ] ;;
+        [A-Z]*.[A-Za-z]*) has_word "${1%.*}" "${1##*.}" ;;
         [A-Z]*::[a-z]*) stands "fn ${1#*::}\b" ;;
-        [A-Z]*) stands "(struct|enum|trait|type|const) $1\b" || stands "^ +$1(\(|,| \{|$)" ;;
+        [A-Z]*) stands "(struct|enum|trait|type|const|record|abbrev pub|pub mod) $1\b" || stands "^ +$1(\(|,| \{|$)" ;;
+        [a-z]*::[a-z]*) grep -qE "fn ${1#*::}\b" "tests/executors/${1%%::*}.rs" ;;
         *) [ -d "$1" ] || stands "(fn|mod|ensures|pub|ghost) $1\b" || stands "codes \"$1\"" || grep -qw "$1" crates.txt ||
             grep -q "^$1 " bench/stdout || [ -n "$(find checks -name "$1.edit")" ] ;;
     esac
@@ -105,7 +110,7 @@ block "$calling" text "## Contracts" | sed -n 's/^  \(ensures\|requires\)\( [a-z
 sed 's/^ *//; s/[;,]$//' "$copy/clauses" | grep -Fxf "$copy/said" | sort -u > "$copy/wanted"
 same "CALLING.md, the clauses and the sources"
 
-for page in README.md docs/PROVED.md docs/ARCHITECTURE.md docs/BUGS.md docs/MEASURED.md "$calling"; do
+for page in README.md docs/PROVED.md docs/DEFINITIONS.md docs/ARCHITECTURE.md docs/BUGS.md docs/MEASURED.md "$calling"; do
     quoted "$page" | while read -r word; do
         is_there "$word" || echo "$word"
     done > "$copy/log"
@@ -115,6 +120,16 @@ for page in README.md docs/PROVED.md docs/ARCHITECTURE.md docs/BUGS.md docs/MEAS
         pass "$page: what it names is there"
     fi
 done
+
+sed -n 's/^|.*| \([^|]*\) |$/\1/p' docs/DIFFERENCES.md > "$copy/shown"
+quoted "$copy/shown" | while read -r word; do
+    [ -e "tests/executors/$word.rs" ] || is_there "$word" || echo "$word"
+done > "$copy/log"
+if [ -s "$copy/log" ]; then
+    fail "docs/DIFFERENCES.md, tests and callers that are not there:" "$copy/log"
+else
+    pass "docs/DIFFERENCES.md: what shows each row is there"
+fi
 
 for crate in executor_core async_executor priority_executor sharded_executor async_utilities simulation digests mandelbrot starter; do
     (cd crates/$crate/src && find . -name '*.rt') | sed 's/^\.\///; s/\.rt$//' |
@@ -198,17 +213,15 @@ sed -n '/^## The lines/,/^## /s/^| `\([a-z]*\).*/\1/p' docs/EXSIM.md | sort > "$
 sed -n 's/^word_of .* = codes "\(.*\)"$/\1/p' crates/simulation/specs/Grammar.antt | sort > "$copy/wanted"
 same "EXSIM.md, the words of a line"
 
-sed -n '/^## One interleaving/,/^## /s/^| `\([^`]*\)` | `\([^`]*\)` |.*/\1\t\2/p' docs/EXSIM.md > "$copy/rows"
-cut -f2 "$copy/rows" > "$copy/said"
-cut -f1 "$copy/rows" | run_exsim > "$copy/wanted"
-same "EXSIM.md, the worked interleaving"
-
-# Each block of BUGS.md has lines for a new world, each with its reply behind two spaces or more.
-awk -v dir="$copy" '/^```text$/ { file = dir "/block." ++count; next } /^```$/ { file = "" } file { print > file }' docs/BUGS.md
-for block in "$copy"/block.*; do
-    sed 's/.*  //' "$block" > "$copy/said"
-    sed 's/  .*//' "$block" | run_exsim > "$copy/wanted"
-    same "BUGS.md, block ${block##*.} of exsim"
+# Each text on these pages has lines for a new world, each with its reply behind two spaces or more.
+for page in BUGS.md EXSIM.md; do
+    awk -v file="$copy/$page" '/^```text$/ { text = file "." ++count; next } /^```$/ { text = "" } text { print > text }' \
+        "docs/$page"
+    for text in "$copy/$page".*; do
+        sed 's/.*  //' "$text" > "$copy/said"
+        sed 's/  .*//' "$text" | run_exsim > "$copy/wanted"
+        same "$page, text ${text##*.} of exsim"
+    done
 done
 
 sed -n 's/^bench | \([a-z0-9_]*\) .*/\1/p' docs/figures.txt | sort > "$copy/said"
