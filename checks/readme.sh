@@ -121,7 +121,7 @@ for page in README.md docs/PROVED.md docs/DEFINITIONS.md docs/ARCHITECTURE.md do
     fi
 done
 
-sed -n 's/^|.*| \([^|]*\) |$/\1/p' docs/DIFFERENCES.md > "$copy/shown"
+awk -F' [|] ' 'NF == 3 { print $3 }' docs/DIFFERENCES.md > "$copy/shown"
 quoted "$copy/shown" | while read -r word; do
     [ -e "tests/executors/$word.rs" ] || is_there "$word" || echo "$word"
 done > "$copy/log"
@@ -209,7 +209,7 @@ for page in README.md docs/*.md "$calling"; do
 done > "$copy/log"
 if [ -s "$copy/log" ]; then fail "links to nothing:" "$copy/log"; else pass "each link has its page"; fi
 
-sed -n '/^## The lines/,/^## /s/^| `\([a-z]*\).*/\1/p' docs/EXSIM.md | sort > "$copy/said"
+sed -n '/^## The lines/,/^## /s/^`\([a-z]*\)[^`]*` | .*/\1/p' docs/EXSIM.md | sort > "$copy/said"
 sed -n 's/^word_of .* = codes "\(.*\)"$/\1/p' crates/simulation/specs/Grammar.antt | sort > "$copy/wanted"
 same "EXSIM.md, the words of a line"
 
