@@ -42,20 +42,15 @@ run_exsim() {
     fi
 }
 
-# Whether the spec of this path, with dots, has this word.
-has_word() { find crates -path "*/specs/$(echo "$1" | tr . /).antt" -exec grep -qw -- "$2" {} \; -print | grep -q .; }
-
-# A word that names a call, a clause, a type, a definition, a test, a crate or a path has to be there.
+# A word that names a call, a clause, a type, a definition, a crate or a path has to be there.
 is_there() {
     case $1 in
         *[!A-Za-z0-9_:./]* | F | R | S | W | self | break | unsafe | specs/ | proofs/ | src/ | out/) return 0 ;;
         uses::*) grep -qE "fn ${1#uses::}\b" uses/src/*.rs ;;
         */* | *.md | *.txt | *.svg) [ -e "$1" ] || [ -e "docs/$1" ] || [ -e "crates/executor_core/src/$1.rt" ] ||
             [ -e "crates/async_executor/src/$1.rt" ] || [ -e "crates/async_utilities/src/$1.rt" ] ;;
-        [A-Z]*.[A-Za-z]*) has_word "${1%.*}" "${1##*.}" ;;
         [A-Z]*::[a-z]*) stands "fn ${1#*::}\b" ;;
-        [A-Z]*) stands "(struct|enum|trait|type|const|record|abbrev pub|pub mod) $1\b" || stands "^ +$1(\(|,| \{|$)" ;;
-        [a-z]*::[a-z]*) grep -qE "fn ${1#*::}\b" "tests/executors/${1%%::*}.rs" ;;
+        [A-Z]*) stands "(struct|enum|trait|type|const) $1\b" || stands "^ +$1(\(|,| \{|$)" ;;
         *) [ -d "$1" ] || stands "(fn|mod|ensures|pub|ghost) $1\b" || stands "codes \"$1\"" || grep -qw "$1" crates.txt ||
             grep -q "^$1 " bench/stdout || [ -n "$(find checks -name "$1.edit")" ] ;;
     esac
@@ -110,7 +105,7 @@ block "$calling" text "## Contracts" | sed -n 's/^  \(ensures\|requires\)\( [a-z
 sed 's/^ *//; s/[;,]$//' "$copy/clauses" | grep -Fxf "$copy/said" | sort -u > "$copy/wanted"
 same "CALLING.md, the clauses and the sources"
 
-for page in README.md docs/PROVED.md docs/DEFINITIONS.md docs/ARCHITECTURE.md docs/BUGS.md docs/MEASURED.md "$calling"; do
+for page in README.md docs/PROVED.md docs/ARCHITECTURE.md docs/BUGS.md docs/MEASURED.md "$calling"; do
     quoted "$page" | while read -r word; do
         is_there "$word" || echo "$word"
     done > "$copy/log"
@@ -121,10 +116,33 @@ for page in README.md docs/PROVED.md docs/DEFINITIONS.md docs/ARCHITECTURE.md do
     fi
 done
 
+# A word of DEFINITIONS.md stands in the spec whose path is before its last dot, or in some source.
+is_defined() {
+    case $1 in
+        [A-Z]*.[A-Za-z]*) find crates -path "*/specs/$(echo "${1%.*}" | tr . /).antt" \
+            -exec grep -qw -- "${1##*.}" {} \; -print | grep -q . ;;
+        *) stands "(record|abbrev pub|pub mod) $1\b" || is_there "$1" ;;
+    esac
+}
+
+quoted docs/DEFINITIONS.md | while read -r word; do is_defined "$word" || echo "$word"; done > "$copy/log"
+if [ -s "$copy/log" ]; then
+    fail "docs/DEFINITIONS.md names what is not there:" "$copy/log"
+else
+    pass "docs/DEFINITIONS.md: what it names is there"
+fi
+
+# What shows a row of DIFFERENCES.md is a file or a test of tests/executors, or what the other pages name.
+is_shown() {
+    case $1 in
+        uses::*) is_there "$1" ;;
+        *::*) grep -qE "fn ${1#*::}\b" "tests/executors/${1%%::*}.rs" ;;
+        *) [ -e "tests/executors/$1.rs" ] || is_there "$1" ;;
+    esac
+}
+
 awk -F' [|] ' 'NF == 3 { print $3 }' docs/DIFFERENCES.md > "$copy/shown"
-quoted "$copy/shown" | while read -r word; do
-    [ -e "tests/executors/$word.rs" ] || is_there "$word" || echo "$word"
-done > "$copy/log"
+quoted "$copy/shown" | while read -r word; do is_shown "$word" || echo "$word"; done > "$copy/log"
 if [ -s "$copy/log" ]; then
     fail "docs/DIFFERENCES.md, tests and callers that are not there:" "$copy/log"
 else
