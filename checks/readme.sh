@@ -116,6 +116,14 @@ for page in README.md docs/PROVED.md docs/ARCHITECTURE.md docs/BUGS.md docs/MEAS
     fi
 done
 
+python3 -B checks/lib/clauses.py > "$copy/carried"
+sed '$d' "$copy/carried" > "$copy/log"
+if [ -s "$copy/log" ] || ! [ "$(tail -n 1 "$copy/carried")" -gt 0 ]; then
+    fail "docs/PROVED.md, clauses that what is before them lacks:" "$copy/log"
+else
+    pass "docs/PROVED.md: $(tail -n 1 "$copy/carried") clauses, each of a call or a type before it"
+fi
+
 # A word of DEFINITIONS.md stands in the spec whose path is before its last dot, or in some source.
 is_defined() {
     case $1 in
