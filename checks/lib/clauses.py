@@ -1,4 +1,3 @@
-#!/usr/bin/env python3
 """Compares the clauses that docs/PROVED.md names with the contracts of the calls and types before them.
 
 A clause in brackets has to be one of a call before it, of some call of a type before it, or a fact of that
@@ -26,16 +25,17 @@ def contracts():
     """The clauses of each call under its name, with and without its type, and of each type with its facts."""
     found = collections.defaultdict(set)
     for source in sorted(TOP.glob("crates/*/src/**/*.rt")):
-        owner = call = None
+        owner = None
+        names = ()
         for line in source.read_text().splitlines():
             if header := OWNER.match(plain(line)):
-                owner, call = header[1], None
+                owner = header[1]
+                names = (owner,)
             elif header := CALL.match(line):
-                owner = owner if line.startswith(" ") else None
-                call = header[1]
-                found[f"{owner}::{call}" if owner else call]
+                inside = line.startswith(" ")
+                names = (header[1], owner, f"{owner}::{header[1]}") if inside else (header[1],)
             for clause in CLAUSE.findall(line):
-                for name in {owner, call, f"{owner}::{call}"} - {None}:
+                for name in names:
                     found[name].add(clause)
     return found
 
