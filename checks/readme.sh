@@ -176,6 +176,47 @@ for page in README.md docs/PROVED.md docs/ARCHITECTURE.md docs/BUGS.md docs/MEAS
     fi
 done
 
+python3 -B checks/lib/clauses.py > "$copy/carried"
+sed '$d' "$copy/carried" > "$copy/log"
+if [ -s "$copy/log" ] || ! [ "$(tail -n 1 "$copy/carried")" -gt 0 ]; then
+    fail "docs/PROVED.md, clauses that what is before them lacks:" "$copy/log"
+else
+    pass "docs/PROVED.md: $(tail -n 1 "$copy/carried") clauses, each of a call or a type before it"
+fi
+
+# A word of DEFINITIONS.md stands in the spec whose path is before its last dot, or in some source.
+is_defined() {
+    case $1 in
+        [A-Z]*.[A-Za-z]*) find crates -path "*/specs/$(echo "${1%.*}" | tr . /).antt" \
+            -exec grep -qw -- "${1##*.}" {} \; -print | grep -q . ;;
+        *) stands "(record|abbrev pub|pub mod) $1\b" || is_there "$1" ;;
+    esac
+}
+
+quoted docs/DEFINITIONS.md | while read -r word; do is_defined "$word" || echo "$word"; done > "$copy/log"
+if [ -s "$copy/log" ]; then
+    fail "docs/DEFINITIONS.md names what is not there:" "$copy/log"
+else
+    pass "docs/DEFINITIONS.md: what it names is there"
+fi
+
+# What shows a row of DIFFERENCES.md is a file or a test of tests/executors, or what the other pages name.
+is_shown() {
+    case $1 in
+        uses::*) is_there "$1" ;;
+        *::*) grep -qE "fn ${1#*::}\b" "tests/executors/${1%%::*}.rs" ;;
+        *) [ -e "tests/executors/$1.rs" ] || is_there "$1" ;;
+    esac
+}
+
+awk -F' [|] ' 'NF == 3 { print $3 }' docs/DIFFERENCES.md > "$copy/shown"
+quoted "$copy/shown" | while read -r word; do is_shown "$word" || echo "$word"; done > "$copy/log"
+if [ -s "$copy/log" ]; then
+    fail "docs/DIFFERENCES.md, tests and callers that are not there:" "$copy/log"
+else
+    pass "docs/DIFFERENCES.md: what shows each row is there"
+fi
+
 for crate in executor_core async_executor priority_executor sharded_executor async_utilities simulation digests mandelbrot starter; do
     (cd crates/$crate/src && find . -name '*.rt') | sed 's/^\.\///; s/\.rt$//' |
         grep -vxE 'lib|main|tests(/.*)?' | sort > "$copy/wanted"
@@ -221,21 +262,19 @@ for page in $pages; do
 done > "$copy/log"
 if [ -s "$copy/log" ]; then fail "links to nothing:" "$copy/log"; else pass "each link has its page"; fi
 
-sed -n '/^## The lines/,/^## /s/^| `\([a-z]*\).*/\1/p' docs/EXSIM.md | sort > "$copy/said"
+sed -n '/^## The lines/,/^## /s/^`\([a-z]*\)[^`]*` | .*/\1/p' docs/EXSIM.md | sort > "$copy/said"
 sed -n 's/^word_of .* = codes "\(.*\)"$/\1/p' crates/simulation/specs/Grammar.antt | sort > "$copy/wanted"
 same "EXSIM.md, the words of a line"
 
-sed -n '/^## One interleaving/,/^## /s/^| `\([^`]*\)` | `\([^`]*\)` |.*/\1\t\2/p' docs/EXSIM.md > "$copy/rows"
-cut -f2 "$copy/rows" > "$copy/said"
-cut -f1 "$copy/rows" | run_exsim > "$copy/wanted"
-same "EXSIM.md, the worked interleaving"
-
-# Each block of BUGS.md has lines for a new world, each with its reply behind two spaces or more.
-awk -v dir="$copy" '/^```text$/ { file = dir "/block." ++count; next } /^```$/ { file = "" } file { print > file }' docs/BUGS.md
-for block in "$copy"/block.*; do
-    sed 's/.*  //' "$block" > "$copy/said"
-    sed 's/  .*//' "$block" | run_exsim > "$copy/wanted"
-    same "BUGS.md, block ${block##*.} of exsim"
+# Each text on these pages has lines for a new world, each with its reply behind two spaces or more.
+for page in BUGS.md EXSIM.md; do
+    awk -v file="$copy/$page" '/^```text$/ { text = file "." ++count; next } /^```$/ { text = "" } text { print > text }' \
+        "docs/$page"
+    for text in "$copy/$page".*; do
+        sed 's/.*  //' "$text" > "$copy/said"
+        sed 's/  .*//' "$text" | run_exsim > "$copy/wanted"
+        same "$page, text ${text##*.} of exsim"
+    done
 done
 
 sed -n 's/^bench | \([a-z0-9_]*\) .*/\1/p' docs/figures.txt | sort > "$copy/said"
