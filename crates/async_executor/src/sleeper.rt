@@ -118,7 +118,7 @@ impl<H: Home> SleeperIn<'_, H> {
         true
     }
 
-    // What it owes a search for.
+    // What the sleeper owes a search for.
     fn take_again(&mut self) -> Option<Again>
         ensures number { self.new.number ≡ self.old.number }
         ensures spent { self.new.notice ≡ None }

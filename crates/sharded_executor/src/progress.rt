@@ -30,7 +30,7 @@ impl Count {
         self.count.fetch_add(1, Ordering::SeqCst)
     }
 
-    /// The count.
+    /// How many were counted.
     pub(crate) fn get(&self) -> u64 {
         self.count.load(Ordering::SeqCst)
     }

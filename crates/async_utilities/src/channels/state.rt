@@ -44,7 +44,7 @@ pub(crate) struct Closing<S, V> {
 }
 
 impl<S: Wake, V: Wake> Closing<S, V> {
-    /// Wakes them, each once.
+    /// Wakes the ends of the channel that a change has told, each once.
     pub(crate) fn wake(self) {
         let Closing { senders, receivers } = self;
         senders.wake();

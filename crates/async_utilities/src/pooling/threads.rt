@@ -64,7 +64,7 @@ struct Worker {
 }
 
 impl Worker {
-    // Waits for it, and says what came of it.
+    // Waits for the end of the thread, and says what came of it.
     fn join<R: Threads>(self, rt: &R) -> Ended {
         let Worker { thread } = self;
         thread.join(rt)
