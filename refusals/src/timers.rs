@@ -119,8 +119,8 @@ pub fn drive<R: Wait + Clock + Clone + Drop>(rt: &R, alloc: Global, refused: &mu
     refused.expect(output == Some(7));
 }
 
-// Makes a pool, and again if that is refused, and stops it. What its threads were refused was an answer of the
-// making.
+// Makes a pool, and again if that is refused, and stops it. What its threads were refused was an answer
+// of the making.
 macro_rules! start_and_stop {
     ($refused:expr, $count:ident, $made:expr) => {{
         let refused = $refused;

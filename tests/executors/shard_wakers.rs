@@ -1,5 +1,5 @@
-//! Wakers of runs of a sharded executor that use every shard, by another thread, while they are copied, woken and
-//! dropped.
+//! Wakers of runs of a sharded executor that use every shard, by another thread, while they are copied,
+//! woken and dropped.
 use crate::tests::support::running::halt::Halt;
 use crate::tests::support::running::job::{Job, digit};
 use crate::tests::support::running::record::{Moment, Record};
@@ -72,8 +72,8 @@ impl<R: Wait + Clone + Drop + Send + Sync> Fixture<R> {
     }
 }
 
-// Has another thread make this call, which halts once for each shard. Meanwhile this one uses every shard, or only
-// those before which it halted. Says whether that went well.
+// Has another thread make this call, which halts once for each shard. Meanwhile this one uses every
+// shard, or only those before which it halted. Says whether that went well.
 fn used_beside<R: Wait + Threads + Clone + Drop + Send + Sync, C: FnOnce() + Send + Drop>(
     rt: &R,
     it: &Fixture<R>,
@@ -143,8 +143,8 @@ fn every_shard_is_used_while_the_waker_of_a_run_is_woken(rt: HostRuntime) -> Res
     Ok(())
 }
 
-// What a run left in each shard is dropped as it leaves that. A task that comes to a shard where it still sleeps
-// would have this thread drop that, and halt.
+// What a run left in each shard is dropped as it leaves that. A task that comes to a shard where it still
+// sleeps would have this thread drop that, and halt.
 fn used_beside_drops<R: Wait + Threads + AllocGlobal + Clone + Drop + Send + Sync>(
     rt: &R,
 ) -> Result<bool, Fail> {

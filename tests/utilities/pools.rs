@@ -246,8 +246,8 @@ where
 }
 
 // Refuses the last requests that the making of a pool makes, so many and each in turn, which are those of its
-// thread: the sanitizer cannot do without those that start a thread. Says whether each was answered as it should
-// be.
+// thread: the sanitizer cannot do without those that start a thread. Says whether each was answered as it
+// should be.
 fn is_refused_with_its_thread<P, R>(rt: &R, own_requests: usize) -> bool
 where
     P: Kind<Gives, R>,

@@ -1,5 +1,5 @@
-//! Threads that run the tasks of all levels of urgency: one that awaits two tasks meanwhile, and two that each poll
-//! one tick after another.
+//! Threads that run the tasks of all levels of urgency: one that awaits two tasks meanwhile, and two that
+//! each poll one tick after another.
 use crate::common::added;
 use async_executor::{Future, Poll};
 use async_utilities::{Ready, Signal, ThreadWaker, Waiting, Zip, block_on, poll_until_ready};
