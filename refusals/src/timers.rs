@@ -3,10 +3,9 @@ use crate::outcome::count;
 use crate::utilities::Refused;
 use async_executor::{Future, OutOfMemory, Poll, TaskWaker, Wake};
 use async_utilities::{
-    Job, Never, NoopWaker, Pool, PoolError, PoolOf, Ready, ThreadWaker, Timer, TimerError, TimerFailed, Work,
+    Job, Never, NoopWaker, Pool, PoolError, Ready, ThreadWaker, Timer, TimerError, TimerFailed, Work,
 };
-use pools::{Levels, PriorityPool, ShardedPool};
-use priority_executor::PriorityExecutor;
+use pools::ShardedPool;
 use std::alloc::Global;
 use std::cell::Cell;
 use std::sync::Wait;
@@ -120,8 +119,8 @@ pub fn drive<R: Wait + Clock + Clone + Drop>(rt: &R, alloc: Global, refused: &mu
     refused.expect(output == Some(7));
 }
 
-// Makes a pool, and again if that is refused, and stops it. What its threads were refused was an answer of the
-// making.
+// Makes a pool, and again if that is refused, and stops it. What its threads were refused was an answer
+// of the making.
 macro_rules! start_and_stop {
     ($refused:expr, $count:ident, $made:expr) => {{
         let refused = $refused;
@@ -158,14 +157,6 @@ fn pool_of_shards<R: Wait + Threads + Clone + Drop + Send + Sync + 'static>(
     ShardedPool::new(rt.clone()?, alloc, 1)
 }
 
-fn pool_of_levels<R: Wait + Threads + Clone + Drop + Send + Sync + 'static>(
-    rt: &R,
-    alloc: Global,
-) -> Result<PriorityPool<Ready<u64>, R, 2>, PoolError> {
-    let levels = Levels::new(PriorityExecutor::new(rt.clone()?, alloc)?);
-    PoolOf::new(rt.clone()?, alloc, 1, levels)
-}
-
 /// Starts a pool of each kind and stops it.
 pub fn start_pools<R: Wait + Threads + Clone + Drop + Send + Sync + 'static>(
     rt: &R,
@@ -174,7 +165,6 @@ pub fn start_pools<R: Wait + Threads + Clone + Drop + Send + Sync + 'static>(
 ) {
     start_and_stop!(&mut *refused, pool, pool(rt, alloc));
     start_and_stop!(&mut *refused, sharded_pool, pool_of_shards(rt, alloc));
-    start_and_stop!(&mut *refused, priority_pool, pool_of_levels(rt, alloc));
 }
 
 /// Gives its number.

@@ -242,8 +242,8 @@ fn a_dropped_tick_has_another_woken_at_its_level(rt: HostRuntime) -> Result<(), 
     Ok(())
 }
 
-// Two ticks sleep. The one that slept last is woken for a task of level 1, whose poll wakes an urgent one: the
-// other tick has to be woken meanwhile. Gives how often it was by then.
+// Two ticks sleep. The one that slept last is woken for a task of level 1, whose poll wakes an urgent
+// one: the other tick has to be woken meanwhile. Gives how often it was by then.
 fn woken_meanwhile<R: Wait + AllocGlobal + Clone + Drop + Send + Sync>(rt: &R) -> Result<u64, Fail> {
     let alloc = rt.alloc();
     let ex: Levels<R, 2> = PriorityExecutor::new(rt.clone()?, alloc)?;
@@ -268,8 +268,9 @@ fn an_urgent_task_waits_for_no_poll_of_another_level(rt: HostRuntime) -> Result<
     Ok(())
 }
 
-// Two ticks sleep, and a task is spawned at each level. The tick that slept last was notified in both, and has to
-// pass on what it was notified of at level 1 before it runs a task. Gives how often the other was woken by then.
+// Two ticks sleep, and a task is spawned at each level. The tick that slept last was notified in both,
+// and has to pass on what it was notified of at level 1 before it runs a task. Gives how often the other
+// was woken by then.
 fn passed_on<R: Wait + AllocGlobal + Clone + Drop + Send + Sync>(rt: &R) -> Result<u64, Fail> {
     let alloc = rt.alloc();
     let ex: Levels<R, 2> = PriorityExecutor::new(rt.clone()?, alloc)?;
@@ -316,8 +317,8 @@ fn a_run_takes_the_lowest_level_first(rt: HostRuntime) -> Result<(), Fail> {
     Ok(())
 }
 
-// A task of level 1 wakes an urgent one, and another one of level 1 stands behind it. Gives how often the awaiter of
-// the urgent one was woken when that one ran.
+// A task of level 1 wakes an urgent one, and another one of level 1 stands behind it. Gives how often the
+// awaiter of the urgent one was woken when that one ran.
 fn ended_before<R: Wait + AllocGlobal + Clone + Drop + Send + Sync>(rt: &R) -> Result<u64, Fail> {
     let alloc = rt.alloc();
     let ex: Levels<R, 2> = PriorityExecutor::new(rt.clone()?, alloc)?;

@@ -397,8 +397,8 @@ fn a_hundred_tasks_are_spawned_by_four_requests(rt: HostRuntime) -> Result<(), F
     Ok(())
 }
 
-// The same of an executor with two levels, which has no text: a tick of all levels sleeps, and is woken by the
-// first task, and a run runs the others.
+// The same of an executor with two levels, which has no text: a tick of all levels sleeps, and is woken
+// by the first task, and a run runs the others.
 fn priority_once<R: AllocGlobal + Wait + Clone + Drop + Send + Sync>(
     rt: &R,
     request: usize,
@@ -478,8 +478,9 @@ fn each_call_of_the_priority_executor_is_refused_and_goes_on(rt: HostRuntime) ->
     Ok(())
 }
 
-// The same of an executor with two shards: a run sleeps, and is woken by the first task. What is refused as the
-// run goes to sleep is no request of its own: a `TestWaker` that cannot be copied has the run woken.
+// The same of an executor with two shards: a run sleeps, and is woken by the first task. What is refused
+// as the run goes to sleep is no request of its own: a `TestWaker` that cannot be copied has the run
+// woken.
 fn sharded_once<R: AllocGlobal + Wait + Clone + Drop + Send + Sync>(
     rt: &R,
     request: usize,

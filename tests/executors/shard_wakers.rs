@@ -1,5 +1,5 @@
-//! Wakers of runs of a sharded executor that use every shard, by another thread, while they are copied, woken and
-//! dropped.
+//! Wakers of runs of a sharded executor that use every shard, by another thread, while they are copied,
+//! woken and dropped.
 use crate::tests::support::running::halt::Halt;
 use crate::tests::support::running::job::{Job, digit};
 use crate::tests::support::running::record::{Moment, Record};
@@ -13,6 +13,9 @@ use std::test::Fail;
 use std::thread::{self, Threads};
 
 const SHARDS: usize = 3;
+
+// The shards in the order in which the run of shard 1 sleeps in them, and leaves them.
+const ORDER: [usize; SHARDS] = [1, 2, 0];
 
 type TestRun<'a, R> = ShardedRun<'a, Job<R>, TestWaker, R, Never<()>>;
 
@@ -61,20 +64,20 @@ impl<R: Wait + Clone + Drop + Send + Sync> Fixture<R> {
         }
     }
 
-    // Spawns a task in each shard, and runs all that there are. Says whether none is left.
-    fn uses_all(&self) -> bool {
-        let are_left = (0..SHARDS).all(|shard| self.leaves(shard));
+    // Spawns a task in each of these shards, and runs all that there are. Says whether none is left.
+    fn uses(&self, shards: &[usize]) -> bool {
+        let are_left = shards.iter().all(|shard| self.leaves(*shard));
         while self.ex.try_tick_any() {}
         are_left && self.ex.is_empty()
     }
 }
 
-// Has another thread make this call, which halts so often. Meanwhile this one uses every shard. Says whether that
-// went well.
+// Has another thread make this call, which halts once for each shard. Meanwhile this one uses every
+// shard, or only those before which it halted. Says whether that went well.
 fn used_beside<R: Wait + Threads + Clone + Drop + Send + Sync, C: FnOnce() + Send + Drop>(
     rt: &R,
     it: &Fixture<R>,
-    halts: u32,
+    uses_every: bool,
     call: C,
 ) -> bool {
     thread::scope(thread::scope_env(), rt, |scope| {
@@ -82,8 +85,9 @@ fn used_beside<R: Wait + Threads + Clone + Drop + Send + Sync, C: FnOnce() + Sen
             return false;
         }
         let mut is_right = true;
-        for _ in 0..halts {
-            is_right &= it.halt.await_other() && it.uses_all();
+        for halted in 1..=SHARDS {
+            let used = if uses_every { SHARDS } else { halted };
+            is_right &= it.halt.await_other() && it.uses(&ORDER[..used]);
             it.halt.release();
         }
         it.halt.open();
@@ -99,7 +103,7 @@ fn used_beside_copies<R: Wait + Threads + AllocGlobal + Clone + Drop + Send + Sy
     let mut run = it.run()?;
     it.record.halt_at(Moment::WakerCopy);
     let (all, polled) = (&it, &mut run);
-    Ok(used_beside(rt, &it, SHARDS as u32, move || drop(polled.poll(&all.waker))))
+    Ok(used_beside(rt, &it, true, move || drop(polled.poll(&all.waker))))
 }
 
 #[test]
@@ -125,7 +129,7 @@ fn used_beside_wakes<R: Wait + Threads + AllocGlobal + Clone + Drop + Send + Syn
         // The run leaves all shards here, so nobody is left whom this thread would wake.
         let is_right = all.halt.await_other();
         drop(run);
-        let is_used = all.uses_all();
+        let is_used = all.uses(&ORDER);
         all.halt.open();
         Ok(is_right && is_used && all.halt.was_passed())
     })
@@ -139,7 +143,8 @@ fn every_shard_is_used_while_the_waker_of_a_run_is_woken(rt: HostRuntime) -> Res
     Ok(())
 }
 
-// What a run left in each shard is dropped as it leaves that.
+// What a run left in each shard is dropped as it leaves that. A task that comes to a shard where it still
+// sleeps would have this thread drop that, and halt.
 fn used_beside_drops<R: Wait + Threads + AllocGlobal + Clone + Drop + Send + Sync>(
     rt: &R,
 ) -> Result<bool, Fail> {
@@ -147,7 +152,7 @@ fn used_beside_drops<R: Wait + Threads + AllocGlobal + Clone + Drop + Send + Syn
     let mut run = it.run()?;
     let _ = run.poll(&it.waker);
     it.record.halt_at(Moment::WakerDrop);
-    Ok(used_beside(rt, &it, SHARDS as u32, move || drop(run)))
+    Ok(used_beside(rt, &it, false, move || drop(run)))
 }
 
 #[test]

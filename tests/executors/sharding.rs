@@ -134,7 +134,8 @@ fn a_run_that_sleeps_hears_every_shard(rt: HostRuntime) -> Result<(), Fail> {
     Ok(())
 }
 
-// How many of twenty tasks of another shard a run takes in its first polls, and how often it is woken by then.
+// How many of twenty tasks of another shard a run takes in its first polls, and how often it is woken by
+// then.
 fn taken_of_another<R: Wait + AllocGlobal + Clone + Drop + Send + Sync>(
     rt: &R,
 ) -> Result<[(usize, u64); 2], Fail> {
@@ -160,8 +161,8 @@ fn a_run_takes_a_handful_of_another_shard(rt: HostRuntime) -> Result<(), Fail> {
     Ok(())
 }
 
-// Two runs sleep, the one of the first shard last. A task of the first shard wakes one of the second: while it
-// is polled, the other run has to be woken. Gives how often that one was woken by then.
+// Two runs sleep, the one of the first shard last. A task of the first shard wakes one of the second:
+// while it is polled, the other run has to be woken. Gives how often that one was woken by then.
 fn woken_meanwhile<R: Wait + AllocGlobal + Clone + Drop + Send + Sync>(rt: &R) -> Result<u64, Fail> {
     let alloc = rt.alloc();
     let ex = shards(rt, 2)?;
@@ -184,8 +185,9 @@ fn no_place_is_held_while_a_task_is_polled(rt: HostRuntime) -> Result<(), Fail> 
     Ok(())
 }
 
-// Two runs sleep, the one of the first shard last, and a task is spawned on each shard. That run was notified in
-// both, and has to pass one of the notices on before it runs a task. Gives how often the other was woken by then.
+// Two runs sleep, the one of the first shard last, and a task is spawned on each shard. That run was
+// notified in both, and has to pass one of the notices on before it runs a task. Gives how often the
+// other was woken by then.
 fn passed_on<R: Wait + AllocGlobal + Clone + Drop + Send + Sync>(rt: &R) -> Result<u64, Fail> {
     let alloc = rt.alloc();
     let ex = shards(rt, 2)?;
@@ -208,8 +210,8 @@ fn a_second_notice_is_passed_on_before_a_task_is_polled(rt: HostRuntime) -> Resu
     Ok(())
 }
 
-// How many tasks of the second shard ran while a run of the first had one that is never ready, and wakes itself
-// at each poll, in so many polls of the run.
+// How many tasks of the second shard ran while a run of the first had one that is never ready, and wakes
+// itself at each poll, in so many polls of the run.
 fn looked_around<R: Wait + AllocGlobal + Clone + Drop + Send + Sync>(
     rt: &R,
     polls: u64,

@@ -1,11 +1,10 @@
-//! Threads that run the tasks of one executor: of one queue, of shards, and of levels.
+//! Threads that run the tasks of one executor: of one queue, and of shards.
 use crate::tests::support::running::halt::TURNS;
 use crate::tests::support::running::record::{AtDrop, Moment, Record};
 use crate::tests::support::running::refusal::{MOST, is_order_left, refuse};
 use async_executor::{Future, Poll, SpawnError, Task, TaskWaker, Wake};
-use async_utilities::{JoinAll, Pool, PoolError, PoolOf, ThreadWaker, block_on};
-use pools::{Levels, PriorityPool, ShardedPool};
-use priority_executor::PriorityExecutor;
+use async_utilities::{JoinAll, Pool, PoolError, ThreadWaker, block_on};
+use pools::ShardedPool;
 use std::sync::atomic::{AtomicU64, Ordering};
 use std::sync::{Arc, Wait};
 use std::test::Fail;
@@ -65,27 +64,6 @@ where
     }
 }
 
-// The tasks of a test are of level 1.
-impl<F, R> Kind<F, R> for PriorityPool<F, R, 2>
-where
-    F: Future<TaskWaker<ThreadWaker, R>> + Send + 'static,
-    F::Output: Send + 'static,
-    R: Wait + Threads + Clone + Drop + Send + Sync + AllocGlobal + 'static,
-{
-    fn start(rt: &R, count: usize) -> Result<Self, PoolError> {
-        let levels = Levels::new(PriorityExecutor::new(rt.clone()?, rt.alloc())?);
-        PoolOf::new(rt.clone()?, rt.alloc(), count, levels)
-    }
-
-    fn spawn(&self, future: F) -> Result<Task<F, ThreadWaker, R>, SpawnError<F>> {
-        self.executor().spawn(1, future)
-    }
-
-    fn end(self) -> Vec<Ended> {
-        self.join()
-    }
-}
-
 // Gives its number at its second poll, for which it asks.
 #[derive(Drop)]
 struct Gives {
@@ -138,7 +116,6 @@ fn a_pool_runs_all_tasks(rt: HostRuntime) -> Result<(), Fail> {
     for count in [1, 2, 4] {
         assert_eq!(rt; sums::<Pool<Gives, _>, _>(&rt, count)?, (499500, count));
         assert_eq!(rt; sums::<ShardedPool<Gives, _>, _>(&rt, count)?, (499500, count));
-        assert_eq!(rt; sums::<PriorityPool<Gives, _, 2>, _>(&rt, count)?, (499500, count));
     }
     Ok(())
 }
@@ -207,8 +184,7 @@ where
 #[test]
 fn the_drop_of_a_pool_stops_its_threads(rt: HostRuntime) -> Result<(), Fail> {
     starts_and_drops::<Pool<Gives, _>, _>(&rt)?;
-    starts_and_drops::<ShardedPool<Gives, _>, _>(&rt)?;
-    starts_and_drops::<PriorityPool<Gives, _, 2>, _>(&rt)
+    starts_and_drops::<ShardedPool<Gives, _>, _>(&rt)
 }
 
 // Never ready. Its drop is counted.
@@ -251,7 +227,6 @@ fn a_pool_that_goes_drops_the_tasks_that_are_left(rt: HostRuntime) -> Result<(),
     for joins in [true, false] {
         assert_eq!(rt; leaves::<Pool<Stays, _>, _>(&rt, joins)?, 1);
         assert_eq!(rt; leaves::<ShardedPool<Stays, _>, _>(&rt, joins)?, 1);
-        assert_eq!(rt; leaves::<PriorityPool<Stays, _, 2>, _>(&rt, joins)?, 1);
     }
     Ok(())
 }
@@ -271,8 +246,8 @@ where
 }
 
 // Refuses the last requests that the making of a pool makes, so many and each in turn, which are those of its
-// thread: the sanitizer cannot do without those that start a thread. Says whether each was answered as it should
-// be.
+// thread: the sanitizer cannot do without those that start a thread. Says whether each was answered as it
+// should be.
 fn is_refused_with_its_thread<P, R>(rt: &R, own_requests: usize) -> bool
 where
     P: Kind<Gives, R>,
@@ -302,11 +277,5 @@ fn a_pool_is_refused_with_its_thread(rt: HostRuntime) -> Result<(), Fail> {
 #[test]
 fn a_pool_of_shards_is_refused_with_its_thread(rt: HostRuntime) -> Result<(), Fail> {
     assert!(rt; is_refused_with_its_thread::<ShardedPool<Gives, _>, _>(&rt, 7));
-    Ok(())
-}
-
-#[test]
-fn a_pool_of_levels_is_refused_with_its_thread(rt: HostRuntime) -> Result<(), Fail> {
-    assert!(rt; is_refused_with_its_thread::<PriorityPool<Gives, _, 2>, _>(&rt, 4));
     Ok(())
 }

@@ -1,7 +1,7 @@
 //! An executor for each level of urgency.
 ghost use Rattle.std.specs.Prelude.{◌≡◌, ◌<◌, ◌-◌, ◌^◌, None, false, IfOk, IfErr, IsSomeAnd, All, length, map, vec_len};
 ghost use Rattle.executor_core.specs.SpawnError.{refused_future};
-ghost use Rattle.async_executor.specs.declared.runner.run.RunError.TheVariants.{OutOfMemory};
+ghost use Rattle.async_executor.specs.declared.runner.run.RunError.TheVariants as RunError;
 
 use crate::answers::Answers;
 use crate::asker::{Asker, choose};
@@ -175,7 +175,7 @@ where
         future: G,
     ) -> Result<PriorityRun<'_, F, W, R, G, N>, RunError<G>>
         ensures ok { IfOk result (λ run. IsSomeAnd run.going (λ g. All (λ s. s.inner.number ≡ None) g.sleepers.levels.items)) }
-        ensures refused { IfErr result (λ e. e ≡ OutOfMemory future) }
+        ensures refused { IfErr result (λ e. e ≡ RunError.OutOfMemory future) }
     {
         match self.sleepers() {
             Ok(sleepers) => Ok(PriorityRun {

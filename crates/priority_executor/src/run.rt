@@ -57,7 +57,8 @@ where
     R: Wait + Clone + Drop,
     G: Future<W>,
 {
-    // Runs the tasks of a turn, and goes to sleep if there are fewer. If it does not sleep, it wakes the waker.
+    // Runs the tasks of a turn, and goes to sleep if there are fewer. If it does not sleep, it wakes the
+    // waker.
     fn serve(&mut self, w: &W)
         ensures asleep { self.new.is_asleep ≡ true → All (λ s. is_some s.inner.number ≡ true) self.new.sleepers.levels.items }
         ensures awake { self.new.is_asleep ≡ false → All (λ s. s.inner.number ≡ None) self.new.sleepers.levels.items }
@@ -93,10 +94,10 @@ where
 
     /// Polls the own future, and if that is ready, is ready with its output: all places are given back.
     /// Else it leaves the sleepers of each level, and runs one task after another, each of the lowest level
-    /// that has one then, until none has any or a turn is over. If none has any, a copy of the waker is kept in
-    /// each level, and is woken once there may be a task in one. If the turn is over, if a task comes
-    /// meanwhile, or if a copy is refused, the waker itself is woken. A run that was ready wakes it and is
-    /// pending, and does nothing more.
+    /// that has one then, until none has any or a turn is over. If none has any, a copy of the waker is
+    /// kept in each level, and is woken once there may be a task in one. If the turn is over, if a task
+    /// comes meanwhile, or if a copy is refused, the waker itself is woken. A run that was ready wakes it
+    /// and is pending, and does nothing more.
     ///
     /// Example: `uses::runs_levels`.
     ///

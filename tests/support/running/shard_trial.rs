@@ -12,7 +12,8 @@ use std::sync::atomic::Ordering;
 use std::test::Fail;
 use std::thread::{self, Threads};
 
-/// What is wrong in the end of this program on so many shards, which are dropped even if it leaks its executor.
+/// What is wrong in the end of this program on so many shards, which are dropped even if it leaks its
+/// executor.
 pub fn tried_on<R: AllocGlobal + Wait + Threads + Clone + Drop + Send + Sync>(
     rt: &R,
     program: &Program,

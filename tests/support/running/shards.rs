@@ -8,8 +8,8 @@ use std::fmt::{self, Debug, Formatter, Write};
 use std::sync::Wait;
 use std::sync::atomic::{AtomicUsize, Ordering};
 
-/// An executor with shards. Each call on one shard is made on the next one in turn, so that of one with a single
-/// shard all holds that holds of an executor. Its text has the text of each shard.
+/// An executor with shards. Each call on one shard is made on the next one in turn, so that of one with a
+/// single shard all holds that holds of an executor. Its text has the text of each shard.
 #[derive(Drop)]
 pub struct Shards<F, W, R>
 where
