@@ -15,9 +15,9 @@ type Receives<R> = Receiver<u64, TestWaker, TestWaker, R>;
 // How many futures of each side there are at once.
 const FUTURES: usize = 4;
 
-const WALKS: u64 = 60;
+const WALKS: u64 = 200;
 
-const STEPS: u64 = 300;
+const STEPS: u64 = 400;
 
 // One side of the model.
 #[derive(Drop)]

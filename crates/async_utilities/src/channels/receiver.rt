@@ -1,6 +1,7 @@
 //! Receivers, and the futures of messages.
-ghost use Rattle.std.specs.Prelude.{◌≡◌, IfOk};
+ghost use Rattle.std.specs.Prelude.{◌≡◌, IfOk, None, OnErr, OnOk, OnSome};
 ghost use Rattle.std.specs.Arc.{arc_value};
+ghost use Rattle.async_utilities.specs.Polls.{IfReady};
 
 use crate::channels::Channel;
 use crate::channels::state::Received;
@@ -40,7 +41,10 @@ pub struct Receiver<T: Drop, S: Wake, V: Wake, R: Wait + Drop> {
 
 impl<T: Drop, S: Wake, V: Wake, R: Wait + Drop> Channel<T, S, V, R> {
     // Takes the first message, if there is one. One that waited at this place does so no longer.
-    fn receive_from(&self, place: &mut Option<usize>) -> Result<T, NoMessage> {
+    fn receive_from(&self, place: &mut Option<usize>) -> Result<T, NoMessage>
+        ensures taken { OnOk result (place.new ≡ None) }
+        ensures none { OnErr result (place.new ≡ place.old) }
+    {
         let mut state = self.state();
         match state.receive() {
             Received::Message(message, due) => {
@@ -56,7 +60,9 @@ impl<T: Drop, S: Wake, V: Wake, R: Wait + Drop> Channel<T, S, V, R> {
     }
 
     // Gives the first message, or waits at this place.
-    fn poll_receive(&self, w: &V, place: &mut Option<usize>) -> Poll<Option<T>> {
+    fn poll_receive(&self, w: &V, place: &mut Option<usize>) -> Poll<Option<T>>
+        ensures taken { IfReady result (λ message. OnSome message (place.new ≡ None)) }
+    {
         match self.receive_from(place) {
             Ok(message) => return Poll::Ready(Some(message)),
             Err(NoMessage::Closed) => return Poll::Ready(None),
@@ -70,7 +76,9 @@ impl<T: Drop, S: Wake, V: Wake, R: Wait + Drop> Channel<T, S, V, R> {
     }
 
     // Gives the first message, or waits with this waker.
-    fn receive_or_wait(&self, waker: V, place: &mut Option<usize>) -> Poll<Option<T>> {
+    fn receive_or_wait(&self, waker: V, place: &mut Option<usize>) -> Poll<Option<T>>
+        ensures taken { IfReady result (λ message. OnSome message (place.new ≡ None)) }
+    {
         let mut state = self.state();
         let message = match state.receive() {
             Received::Empty => {
@@ -169,7 +177,10 @@ impl<T: Drop, S: Wake, V: Wake, R: Wait + Drop> Receiver<T, S, V, R> {
     ///     Poll::Ready(None) => return Poll::Ready(self.total),
     ///     Poll::Pending => return Poll::Pending,
     /// ```
-    pub fn poll_receive(&mut self, w: &V) -> Poll<Option<T>> {
+    pub fn poll_receive(&mut self, w: &V) -> Poll<Option<T>>
+        ensures taken { IfReady result (λ message. OnSome message (self.new.place ≡ None)) }
+        ensures same { arc_value self.new.channel ≡ arc_value self.old.channel }
+    {
         self.channel.poll_receive(w, &mut self.place)
     }
 
@@ -181,7 +192,9 @@ impl<T: Drop, S: Wake, V: Wake, R: Wait + Drop> Receiver<T, S, V, R> {
     /// ```text
     /// let Some(job) = block_on(rt, alloc, jobs.receive()).ok()? else {
     /// ```
-    pub fn receive(&self) -> Receive<'_, T, S, V, R> {
+    pub fn receive(&self) -> Receive<'_, T, S, V, R>
+        ensures { (result.receiver.now ≡ self.now) × (result.place ≡ None) }
+    {
         Receive {
             receiver: self,
             place: None,
@@ -223,7 +236,10 @@ pub struct Receive<'a, T: Drop, S: Wake, V: Wake, R: Wait + Drop> {
 impl<T: Drop, S: Wake, V: Wake, R: Wait + Drop> Future<V> for Receive<'_, T, S, V, R> {
     type Output = Option<T>;
 
-    fn poll(&mut self, w: &V) -> Poll<Option<T>> {
+    fn poll(&mut self, w: &V) -> Poll<Option<T>>
+        ensures taken { IfReady result (λ message. OnSome message (self.new.place ≡ None)) }
+        ensures same { self.new.receiver.now ≡ self.old.receiver.now }
+    {
         self.receiver.channel.poll_receive(w, &mut self.place)
     }
 }
