@@ -1,10 +1,11 @@
 //! Receivers, and the futures of messages.
-ghost use Rattle.std.specs.Prelude.{◌≡◌, IfOk, None, OnErr, OnOk, OnSome};
+ghost use Rattle.std.specs.Prelude.{◌≡◌, ◌≤◌, ◌+◌, IfOk, None, OnErr, OnOk, OnSome, take, vec_capacity, vec_len};
 ghost use Rattle.std.specs.Arc.{arc_value};
 ghost use Rattle.async_utilities.specs.Polls.{IfReady};
 
 use crate::channels::Channel;
-use crate::channels::state::Received;
+use crate::channels::state::{Batch, Received};
+use crate::due::Due;
 use crate::wait_queue::keep;
 use async_executor::{Future, OutOfMemory, Poll, Wake};
 use std::sync::{Arc, Wait};
@@ -57,6 +58,30 @@ impl<T: Drop, S: Wake, V: Wake, R: Wait + Drop> Channel<T, S, V, R> {
             Received::Empty => Err(NoMessage::Empty),
             Received::Closed => Err(NoMessage::Closed),
         }
+    }
+
+    // Takes so many messages at most, under one lock unless senders are to be woken between them.
+    fn receive_many(&self, messages: &mut Vec<T>, most: usize) -> Result<usize, NoMessage>
+        requires { vec_len messages.old + most ≤ vec_capacity messages.old }
+        ensures count { IfOk result (λ n. (n ≤ most) × (vec_len messages.new ≡ vec_len messages.old + n)) }
+        ensures front { take (vec_len messages.old) messages.new.items ≡ messages.old.items }
+        ensures none { OnErr result (messages.new.items ≡ messages.old.items) }
+        ensures room { vec_capacity messages.new ≡ vec_capacity messages.old }
+    {
+        let mut taken = 0;
+        for _ in 0..most {
+            let mut state = self.state();
+            let Batch { count, due } = state.receive_many(messages, most - taken);
+            let none = state.no_message();
+            drop(state);
+            taken += count;
+            let is_over = matches!(&due, Due::Nobody);
+            due.wake();
+            if is_over {
+                return if taken > 0 { Ok(taken) } else { Err(none) };
+            }
+        }
+        Ok(taken)
     }
 
     // Gives the first message, or waits at this place.
@@ -162,6 +187,30 @@ impl<T: Drop, S: Wake, V: Wake, R: Wait + Drop> Receiver<T, S, V, R> {
     /// ```
     pub fn try_receive(&self) -> Result<T, NoMessage> {
         self.channel.receive_from(&mut None)
+    }
+
+    /// Takes so many messages at most, the first one first, and puts them behind those that `messages`
+    /// has. It takes no memory: what there is no room for in `messages` stays in the channel. Gives how
+    /// many it took, which is 0 if it was to take none. It is not behind those who wait for a message,
+    /// and takes one lock for all, and one more for each sender that it wakes.
+    ///
+    /// # Errors
+    ///
+    /// `NoMessage`. `messages` is as it was then.
+    ///
+    /// Example: `uses::takes_many`.
+    ///
+    /// ```text
+    /// let count = receiver.try_receive_many(&mut messages, 3).ok()?;
+    /// ```
+    pub fn try_receive_many(&self, messages: &mut Vec<T>, limit: usize) -> Result<usize, NoMessage>
+        ensures count { IfOk result (λ n. (n ≤ limit) × (vec_len messages.new ≡ vec_len messages.old + n)) }
+        ensures front { take (vec_len messages.old) messages.new.items ≡ messages.old.items }
+        ensures none { OnErr result (messages.new.items ≡ messages.old.items) }
+        ensures room { vec_capacity messages.new ≡ vec_capacity messages.old }
+    {
+        let room = messages.capacity() - messages.len();
+        self.channel.receive_many(messages, limit.min(room))
     }
 
     /// Gives the first message, once there is one, or None if there is none and the channel is closed.
