@@ -1,12 +1,14 @@
 #!/bin/sh
 # Compares what the pages say with what the repository has: programs, examples and printed runs word
 # for word, the calls and clauses that carry a promise, callers and their files, the modules of the
-# map, the worked interleaving of exsim, examples and their lines, links, and figures.
+# map, the worked interleaving of exsim, examples and their lines, links, and figures. And counts their words.
 # Usage: checks/readme.sh, anywhere. RT names the command rt. Its last line counts the comparisons.
 set -u
 . "$(dirname "$0")/lib/edits"
 cd "$top" || exit 1
 callings=$(echo crates/*/CALLING.md)
+pages="README.md $(echo docs/*.md) $callings"
+words_at_most=22000
 sources=$(find crates uses -path '*/out' -prune -o \( -name '*.rt' -o -name '*.antt' -o -name '*.rs' \) -print)
 
 printf '%s\n' "$sources" | xargs cat > "$copy/sources"
@@ -44,7 +46,7 @@ run_exsim() {
 # A word that names a call, a clause, a type, a definition, a crate or a path has to be there.
 is_there() {
     case $1 in
-        *[!A-Za-z0-9_:./]* | F | R | S | W | self | break | unsafe | specs/ | proofs/ | src/ | out/ | io::*) return 0 ;;
+        *[!A-Za-z0-9_:./]* | F | R | S | W | self | break | unsafe | async | Result | usize::MAX | specs/ | proofs/ | src/ | out/ | io::*) return 0 ;;
         uses::*) grep -qE "fn ${1#uses::}\b" uses/src/*.rs ;;
         */* | *.md | *.txt | *.svg) [ -e "$1" ] || [ -e "docs/$1" ] || [ -e "crates/executor_core/src/$1.rt" ] ||
             [ -e "crates/async_executor/src/$1.rt" ] || [ -e "crates/async_utilities/src/$1.rt" ] ;;
@@ -55,6 +57,22 @@ is_there() {
             grep -q "^$1 " bench/stdout || [ -n "$(find checks -name "$1.edit")" ] ;;
     esac
 }
+
+words=$(cat $pages | wc -w)
+if [ "$words" -le "$words_at_most" ]; then
+    pass "all pages: $words words of $words_at_most"
+else
+    wc -w $pages > "$copy/log"
+    fail "all pages: $words words, and $words_at_most are the most" "$copy/log"
+fi
+
+wc -lw README.md > "$copy/log"
+read -r lines words _ < "$copy/log"
+if [ "$lines" -le 130 ] && [ "$words" -le 900 ]; then
+    pass "README.md: $lines lines of 130, $words words of 900"
+else
+    fail "README.md: more than 130 lines or 900 words" "$copy/log"
+fi
 
 block README.md rust "## A whole program" > "$copy/said"
 cp crates/hello/src/main.rt "$copy/wanted"
@@ -68,7 +86,7 @@ sed -n 's/^It prints `\([^`]*\)`.*/\1/p' README.md > "$copy/said"
 cp crates/hello/stdout "$copy/wanted"
 same "README.md, what the program prints"
 
-block README.md text "The first two print" > "$copy/said"
+block README.md text "exsim takes" > "$copy/said"
 cp crates/exsim/stdout "$copy/wanted"
 same "README.md, the run of exsim"
 
@@ -108,9 +126,38 @@ for page in $callings; do
     if [ -s "$copy/log" ]; then fail "$page, callers in other files:" "$copy/log"; else pass "$page: each caller is in its file"; fi
 done
 
-block docs/OWN_REPOSITORY.md rust "## From an" > "$copy/said"
+block docs/OWN_REPOSITORY.md rust "## A future" > "$copy/said"
+sed -n '/^\/\/\/ Gives the sum/,$p' uses/src/futures.rs > "$copy/wanted"
+same "OWN_REPOSITORY.md, the future and the folder uses"
+
+block docs/FROM_SMOL.md rust "## From an" > "$copy/said"
 sed -n '/^    fn poll/,/^    }/s/^    //p' uses/src/translating.rs > "$copy/wanted"
-same "OWN_REPOSITORY.md, the poll and the folder uses"
+same "FROM_SMOL.md, the poll and the folder uses"
+
+# A row has what one writes with smol, what one writes here, and the caller in whose file that stands.
+sed -n '/^## What one writes/,/^## From/{s/[\\]|//g;p}' docs/FROM_SMOL.md |
+    grep '| `uses::[a-z_]*`$' > "$copy/rows"
+while IFS='|' read -r _ here caller; do
+    caller=$(echo "$caller" | tr -d ' `')
+    file=$(grep -lE "fn ${caller#uses::}\b" uses/src/*.rs)
+    echo "$here" | grep -o '`[^`]*`' | tr -d '`' | while IFS= read -r text; do
+        grep -qF -- "$text" ${file:-/dev/null} || echo "$caller: $text"
+    done
+done < "$copy/rows" > "$copy/log"
+if [ -s "$copy/log" ] || [ "$(wc -l < "$copy/rows")" -lt 15 ]; then
+    fail "FROM_SMOL.md, rows whose callers lack what they say:" "$copy/log"
+else
+    pass "FROM_SMOL.md: $(wc -l < "$copy/rows") rows, each as its caller has it"
+fi
+
+# What a name of smol's crates is called here.
+awk -F' [|] ' '/^## Every public name/ { names = 1 } names && NF == 2 { print $2 }' docs/FROM_SMOL.md > "$copy/here.md"
+quoted "$copy/here.md" | while read -r word; do is_there "$word" || echo "$word"; done > "$copy/log"
+if [ -s "$copy/log" ]; then
+    fail "FROM_SMOL.md names what is not there:" "$copy/log"
+else
+    pass "FROM_SMOL.md: what it names is there"
+fi
 
 for page in README.md docs/PROVED.md docs/ARCHITECTURE.md docs/BUGS.md docs/MEASURED.md $callings; do
     quoted "$page" | while read -r word; do
@@ -128,6 +175,47 @@ for page in README.md docs/PROVED.md docs/ARCHITECTURE.md docs/BUGS.md docs/MEAS
         pass "$page: what it names is there"
     fi
 done
+
+python3 -B checks/lib/clauses.py > "$copy/carried"
+sed '$d' "$copy/carried" > "$copy/log"
+if [ -s "$copy/log" ] || ! [ "$(tail -n 1 "$copy/carried")" -gt 0 ]; then
+    fail "docs/PROVED.md, clauses that what is before them lacks:" "$copy/log"
+else
+    pass "docs/PROVED.md: $(tail -n 1 "$copy/carried") clauses, each of a call or a type before it"
+fi
+
+# A word of DEFINITIONS.md stands in the spec whose path is before its last dot, or in some source.
+is_defined() {
+    case $1 in
+        [A-Z]*.[A-Za-z]*) find crates -path "*/specs/$(echo "${1%.*}" | tr . /).antt" \
+            -exec grep -qw -- "${1##*.}" {} \; -print | grep -q . ;;
+        *) stands "(record|abbrev pub|pub mod) $1\b" || is_there "$1" ;;
+    esac
+}
+
+quoted docs/DEFINITIONS.md | while read -r word; do is_defined "$word" || echo "$word"; done > "$copy/log"
+if [ -s "$copy/log" ]; then
+    fail "docs/DEFINITIONS.md names what is not there:" "$copy/log"
+else
+    pass "docs/DEFINITIONS.md: what it names is there"
+fi
+
+# What shows a row of DIFFERENCES.md is a file or a test of tests/executors, or what the other pages name.
+is_shown() {
+    case $1 in
+        uses::*) is_there "$1" ;;
+        *::*) grep -qE "fn ${1#*::}\b" "tests/executors/${1%%::*}.rs" ;;
+        *) [ -e "tests/executors/$1.rs" ] || is_there "$1" ;;
+    esac
+}
+
+awk -F' [|] ' 'NF == 3 { print $3 }' docs/DIFFERENCES.md > "$copy/shown"
+quoted "$copy/shown" | while read -r word; do is_shown "$word" || echo "$word"; done > "$copy/log"
+if [ -s "$copy/log" ]; then
+    fail "docs/DIFFERENCES.md, tests and callers that are not there:" "$copy/log"
+else
+    pass "docs/DIFFERENCES.md: what shows each row is there"
+fi
 
 for crate in executor_core async_executor priority_executor sharded_executor async_utilities pools simulation digests mandelbrot \
     starter bank; do
@@ -168,28 +256,26 @@ else
     pass "each example is in the folder uses, and whole at the types of async_executor"
 fi
 
-for page in README.md docs/*.md $callings; do
+for page in $pages; do
     grep -oE '\]\([^)#]*' "$page" | sed 's/^](//' | grep -v '^http' | while read -r link; do
         [ -e "$(dirname "$page")/$link" ] || echo "$page: $link"
     done
 done > "$copy/log"
 if [ -s "$copy/log" ]; then fail "links to nothing:" "$copy/log"; else pass "each link has its page"; fi
 
-sed -n '/^## The lines/,/^## /s/^| `\([a-z]*\).*/\1/p' docs/EXSIM.md | sort > "$copy/said"
+sed -n '/^## The lines/,/^## /s/^`\([a-z]*\)[^`]*` | .*/\1/p' docs/EXSIM.md | sort > "$copy/said"
 sed -n 's/^word_of .* = codes "\(.*\)"$/\1/p' crates/simulation/specs/Grammar.antt | sort > "$copy/wanted"
 same "EXSIM.md, the words of a line"
 
-sed -n '/^## One interleaving/,/^## /s/^| `\([^`]*\)` | `\([^`]*\)` |.*/\1\t\2/p' docs/EXSIM.md > "$copy/rows"
-cut -f2 "$copy/rows" > "$copy/said"
-cut -f1 "$copy/rows" | run_exsim > "$copy/wanted"
-same "EXSIM.md, the worked interleaving"
-
-# Each block of BUGS.md has lines for a new world, each with its reply behind two spaces or more.
-awk -v dir="$copy" '/^```text$/ { file = dir "/block." ++count; next } /^```$/ { file = "" } file { print > file }' docs/BUGS.md
-for block in "$copy"/block.*; do
-    sed 's/.*  //' "$block" > "$copy/said"
-    sed 's/  .*//' "$block" | run_exsim > "$copy/wanted"
-    same "BUGS.md, block ${block##*.} of exsim"
+# Each text on these pages has lines for a new world, each with its reply behind two spaces or more.
+for page in BUGS.md EXSIM.md; do
+    awk -v file="$copy/$page" '/^```text$/ { text = file "." ++count; next } /^```$/ { text = "" } text { print > text }' \
+        "docs/$page"
+    for text in "$copy/$page".*; do
+        sed 's/.*  //' "$text" > "$copy/said"
+        sed 's/  .*//' "$text" | run_exsim > "$copy/wanted"
+        same "$page, text ${text##*.} of exsim"
+    done
 done
 
 sed -n 's/^bench | \([a-z0-9_]*\) .*/\1/p' docs/figures.txt | sort > "$copy/said"

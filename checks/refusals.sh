@@ -16,7 +16,7 @@
 set -eu
 . "$(dirname "$0")/lib/edits"
 . "$top/checks/lib/builds"
-most=150
+most=200
 
 give_up() {
     fail "$@"
@@ -28,7 +28,7 @@ give_up() {
 # each request.
 lay_out() {
     copy_sources
-    add_crate refusals ': executor_core async_executor async_utilities slab'
+    add_crate refusals ': executor_core async_executor async_utilities sharded_executor pools slab'
     mkdir "$copy/cases"
     python3 -B "$top/checks/lib/choose.py" program "$copy" "$@"
     number=0

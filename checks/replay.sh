@@ -3,13 +3,16 @@
 #
 # The edits of checks/recorder make a copy of the executor in which each step on what is shared is written
 # down, with its answer and its call, in the order of tickets that are drawn under the lock of the step. The
-# program checks/recorder/programs.rs takes random programs on one thread and on four, and some in which a
-# thread halts at a named step. checks/lib/replay.py checks each log twice: exsim, from the sources as they
-# stand, has to give each reply that the executor gave; and each call has to make the steps that it owes, in
-# its order. docs/REPLAY.md says what that shows.
+# program checks/recorder/recorded takes random programs on one thread and on four, some that are the same
+# each time, in which a thread halts at a named step or memory is refused, and each table of lines of the
+# folder tests (checks/lib/tables.py). checks/lib/replay.py checks each log twice: exsim, from the sources as
+# they stand, has to give each reply that the executor gave; and each call has to make the steps that it owes,
+# in its order. A step of the world, or a reply of it, that occurs in no log fails the check. docs/REPLAY.md
+# says what all that shows.
 #
-# Each edit of checks/wrong_bodies with a line 'replay: CHECK PROGRAM LINE' has to be refused by this check in
-# this program at this line of its log. All of them are built together with the right bodies, unproved.
+# Each edit of checks/wrong_bodies or checks/guards with a line 'replay: CHECK PROGRAM LINE' has to be refused
+# by this check in this program at this line of its log. All are built together with the right bodies,
+# unproved.
 #
 # Each execution of the right bodies that differs is drawn around its first difference.
 #
@@ -22,26 +25,31 @@ set -eu
 . "$(dirname "$0")/lib/edits"
 . "$top/checks/lib/builds"
 recorder=$top/checks/recorder
-fixed=7
+fixed=11
 alone=10
 at_once=4
-storms=${1:-150}
+storms=${1:-100}
 seed=${2:-1}
+
+# Adds the Rust files below a folder to another one.
+add_sources() {
+    (cd "$1" && find . -name '*.rs') | while read -r file; do
+        mkdir -p "$(dirname "$2/$file")"
+        cp "$1/$file" "$2/${file%.rs}.rt"
+    done
+}
 
 # Makes the program that is recorded a crate of the copy, over the recorder, with the bodies of these edits.
 lay_out() {
     copy_sources
-    mkdir -p "$copy/crates/executor_core/src/recorder" "$copy/crates/recorded/src/support" "$copy/cases"
-    cp "$recorder/recorder.rs" "$copy/crates/executor_core/src/recorder.rt"
-    for module in cells flag list; do
-        cp "$recorder/$module.rs" "$copy/crates/executor_core/src/recorder/$module.rt"
+    mkdir "$copy/cases"
+    program=$copy/crates/recorded/src
+    for crate in executor_core recorded; do
+        add_sources "$recorder/$crate" "$copy/crates/$crate/src"
     done
-    cp "$recorder/programs.rs" "$copy/crates/recorded/src/main.rt"
-    cp "$recorder/fixed.rs" "$copy/crates/recorded/src/fixed.rt"
-    for module in halt handles lives programs record trial waker; do
-        echo "pub mod $module;" >> "$copy/crates/recorded/src/support.rt"
-        cp "$top/tests/support/running/$module.rs" "$copy/crates/recorded/src/support/$module.rt"
-    done
+    add_sources "$top/tests/support/running" "$program/support"
+    (cd "$program/support" && ls | sed 's/\(.*\)\.rt/pub mod \1;/') > "$program/support.rt"
+    python3 -B "$top/checks/lib/tables.py" "$top/tests" "$program" > "$copy/tables"
     echo 'recorded: executor_core async_executor' >> "$copy/crates.txt"
     for edit in "$recorder"/*/*.edit; do
         add_edit "$edit" "$copy"
@@ -52,8 +60,9 @@ lay_out() {
     number=0
     for edit in none "$@"; do
         echo "$number 0" > "$copy/cases/$(basename "$edit" .edit)"
+        [ "$edit" = none ] || field "$edit" replay | sed "s/^\([a-z]*\) \([^ ]*\) .*/\1:$number.\2/"
         number=$((number + 1))
-    done
+    done > "$copy/names"
 }
 
 # Takes the programs, and replays their logs. What is said of each execution stands in $copy/said.
@@ -64,7 +73,7 @@ replay() {
     exec 9>&-
     mv "$copy/log" "$copy/programs"
     [ -z "${LOG:-}" ] || cp "$copy/recorded" "$LOG"
-    python3 -B "$top/checks/lib/replay.py" lines "$copy/recorded" "$copy/executions"
+    python3 -B "$top/checks/lib/replay.py" lines "$copy/recorded" "$copy/executions" $(cat "$copy/names")
     # The world is that of the repository, without the recorder.
     restore_sources executor_core
     try exsim src/main.rt --cases "$copy/executions"
@@ -77,19 +86,28 @@ draw() {
     python3 -B "$top/checks/lib/portray.py" differences "$copy/recorded" "$copy/said" "$2" "$1"
 }
 
-# Says whether both checks pass each execution of the right bodies, as they must.
+# Says whether both checks pass each execution of the right bodies, as they must, and whether each step of the
+# world has each of its replies in one of them.
 judge_right() {
-    executions=$((fixed + 2 * alone + 4 * at_once + storms))
+    plays=$(sed -n 's/^0\.table_\([0-9]*\): .*/\1/p' "$copy/said" | sort -u | wc -l)
+    tables=$(sed -n 's/^0\.table_\([0-9]*\)[0-9]: .*/\1/p' "$copy/said" | sort -u | wc -l)
+    executions=$((fixed + 2 * alone + 4 * at_once + storms + plays))
     right=$(grep -cE '^0\.[a-z]+_[0-9]+: [0-9]+ steps$' "$copy/said" || :)
     passed=$((passed + right))
-    [ "$right" = $executions ] || {
-        fail "$((executions - right)) of $executions executions are refused:"
+    if [ "$right" != $executions ] || [ "$tables" != "$(wc -l < "$copy/tables")" ]; then
+        fail "$((executions - right)) of $executions executions, with $tables tables, are refused or missing:"
         awk '/^[0-9]+\./ { is_right = /^0\./ && !/: [0-9]+ steps$/ } is_right' "$copy/said"
+        # Which tests the refused tables are of.
+        awk 'NR == FNR { test[$1] = $2; next }
+            sub(/^0\.table_/, "") && !/: [0-9]+ steps$/ { print "table_" $1, test[int($1 / 10)] }' \
+            "$copy/tables" "$copy/said"
         draw 0. "${PICTURES:-$(mktemp -d)}"
         grep -A 5 '^== none$' "$copy/programs" || cat "$copy/programs"
-    }
-    grep -E '^ *[0-9,]+ |^never: ' "$copy/said" || :
-    echo "$right executions, the storms from seed $seed on"
+    fi
+    grep -E '^ *[0-9,]+ ' "$copy/said" || :
+    never=$(grep '^never: ' "$copy/said" || :)
+    [ -z "$never" ] || fail "$never"
+    echo "$right executions, $plays of them of $tables tables, the storms from seed $seed on"
 }
 
 # Says whether each of these edits is refused by its check, in its program, at its line, as it must be.
@@ -109,7 +127,7 @@ judge() {
     done
 }
 
-set -- $(edits_of wrong_bodies | xargs grep -l '^replay: ')
+set -- $({ edits_of wrong_bodies && edits_of guards; } | xargs grep -l '^replay: ')
 lay_out "$@"
 # The most that a run of all these programs may take, and one of exsim.
 seconds=$((300 + storms / 5))

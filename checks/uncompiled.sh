@@ -23,7 +23,7 @@ find_errors() {
     words "$1" > "$copy/words"
     (cd "$copy/crates/$1" && xargs -d '\n' "$kit/bin/rattle" check --only= < "$copy/words") \
         > "$copy/log" 2>&1 || :
-    sed -nE 's/^([^ :]*):([0-9]*):[0-9]*: error(\[([a-z-]*)\])?.*/\1 \2 \4/p' "$copy/log" |
+    sed -nE 's/^([^ :]*):([0-9]*):[0-9]*: error(\[([a-z0-9-]*)\])?.*/\1 \2 \4/p' "$copy/log" |
         sort -u -k1,1 -k2,2n -k3 > "$copy/found"
     is_cut=$(grep -cE ' and [0-9]+ more errors?$' "$copy/log") || return 0
     awk '

@@ -1,7 +1,7 @@
 #!/usr/bin/env python3
 """Writes the figures of docs/figures.txt where readers look for them.
 
-They become tables in README.md, docs/MEASURED.md and docs/EXSIM.md, between the lines
+They become text and tables in README.md, docs/MEASURED.md and docs/EXSIM.md, between the lines
 '<!-- figures: KIND -->' and '<!-- end -->', and the charts docs/benchmark.svg and docs/throughput.svg.
 With the argument --check nothing is written: each page that does not say what docs/figures.txt says
 is named, and the last line counts the pages.
@@ -11,9 +11,11 @@ lines are 'value WHO ROW NANOSECONDS ..': WHO is ours, rust or tokio, ROW busy_W
 and each number is that of a pass. A line 'swept ..' says how they were taken. Its other lines are
 left out.
 """
+import itertools
 import pathlib
 import re
 import sys
+import textwrap
 
 sys.dont_write_bytecode = True
 import throughput
@@ -21,15 +23,12 @@ import throughput
 TOP = pathlib.Path(__file__).resolve().parent.parent
 PAGES = ("README.md", "docs/MEASURED.md", "docs/EXSIM.md")
 HEADS = {
-    "time": ("from a fresh clone", "what it does", "time"),
+    "beside": ("what", "async-executor 1.14.1", "tokio 1.24", "the kit's futures and tokio", "here"),
     "bench": ("row", "one operation", "instructions", "the Rust crate", "nanoseconds"),
-    "threads": ("row, on T threads", "one operation", "T", "nanoseconds", "the Rust crate"),
-    "busy": ("work in a poll, nanoseconds", "runs that never park", "the Rust crate"),
-    "parked_busy": ("work in a poll, nanoseconds", "runs that park", "the Rust crate", "tokio 1.24"),
+    "busy": ("work", "runs never park", "the Rust crate", "runs park", "the Rust crate", "tokio 1.24"),
     "shards": ("row", "one operation", "T", "shards", "one executor", "the Rust crate", "tokio 1.24"),
     "exsim": ("lines", "milliseconds", "million instructions", "peak memory, MB"),
 }
-CODE = {"time", "bench"}
 
 
 def figures():
@@ -42,18 +41,86 @@ def figures():
     return found
 
 
+def first(found):
+    """The figures that the README begins with."""
+    spawn = next(row for row in found["bench"] if row[0] == "spawn_try_tick")
+    shards = next(row for row in found["shards"] if row[0] == "sharded_yield_T")
+    times = throughput.listed(medians(shards[3]).split(", "))
+    return (
+        f"- A task is spawned, run and ended in {spawn[2]} instructions; the Rust crate takes {spawn[3]}.\n"
+        f"- With a shard for each thread, a yield takes {times} nanoseconds on one, two and four threads.\n"
+        "- A task takes no allocation of its own: tables grow, and keep their memory."
+    )
+
+
+def commands(found):
+    """The commands that a reader begins with, what each does, and how long it takes."""
+    width = max(len(command) for command, *_ in found["time"])
+    lines = [f"{command:<{width}}  # {said}" for command, said in found["time"]]
+    return "\n".join(["```sh", *lines, "```"])
+
+
+def families(rows):
+    """Rows whose names differ in their last number alone, one after another, as one row."""
+    for _, family in itertools.groupby(rows, lambda row: row[0].rstrip("0123456789")):
+        (name, said, *_), *others = family = list(family)
+        names = [f"`{name}`", *(re.search(r"\d+$", row[0])[0] for row in others)]
+        cells = zip(*(row[2:] for row in family))
+        yield (", ".join(names), said, *("-" if set(cell) == {"-"} else ", ".join(cell) for cell in cells))
+
+
+def medians(times):
+    """The medians of minima and medians."""
+    return ", ".join(time.split("/")[-1] for time in times.split(", "))
+
+
+def beside(found):
+    """The rows that set executors side by side, with '{ROW WHO}' filled in by the figure of that row."""
+    named = {}
+    for name, _, *instructions, _ in found["bench"]:
+        named.update(zip((f"{name} here", f"{name} rust"), instructions))
+    for name, _, _, *times in found["shards"]:
+        whose = (f"{name} {who}" for who in ("shards", "here", "rust", "tokio"))
+        named.update(zip(whose, map(medians, times)))
+    fill = lambda cell: re.sub(r"\{(.*?)\}", lambda figure: named[figure[1]], cell)
+    return [[fill(cell) for cell in row] for row in found["beside"]]
+
+
+def rows(kind, found):
+    """The rows of a table of this kind."""
+    if kind == "beside":
+        return beside(found)
+    if kind == "bench":
+        return list(families(found["bench"]))
+    if kind == "busy":
+        return [(*never, *parked[1:]) for never, parked in zip(found["busy"], found["parked_busy"])]
+    if kind == "shards":
+        spawner = next(row for row in found["threads"] if row[0] == "one_spawner_T")
+        return [*found["shards"], (*spawner[:3], "-", *spawner[3:], "-")]
+    return found[kind]
+
+
+def wrapped(text):
+    """The text in lines as wide as those of a page."""
+    return "\n".join(textwrap.wrap(text, 110))
+
+
+SAID = {
+    "first": first,
+    "time": commands,
+    "ahead": throughput.ahead,
+    "taken": lambda found: wrapped(f"Taken at {found['taken'][0][0]}."),
+    "programs": lambda found: wrapped(f"These are of {found['programs'][0][0]}."),
+    "swept": lambda found: wrapped(f"These are {found['swept'][0][0]}."),
+}
+
+
 def table(kind, found):
-    """The rows of a kind as a table, or what there is of it as text."""
-    if kind == "taken":
-        return f"Taken at {found[kind][0][0]}."
-    if kind == "swept":
-        return f"These are {found[kind][0][0]}."
-    if kind == "ahead":
-        return throughput.ahead(found)
-    lines = [HEADS[kind], ("---",) * len(HEADS[kind])]
-    for first, *rest in found[kind]:
-        lines.append((f"`{first}`" if kind in CODE else first, *rest))
-    return "\n".join("| " + " | ".join(line) + " |" for line in lines)
+    """What a page says of a kind: its text, or its rows as a table."""
+    if kind in SAID:
+        return SAID[kind](found)
+    head, *lines = (" | ".join(line) for line in (HEADS[kind], *rows(kind, found)))
+    return "\n".join((head, "|".join(["---"] * len(HEADS[kind])), *lines))
 
 
 def page(text, found):
@@ -66,41 +133,59 @@ def page(text, found):
     )
 
 
+# The rows of the chart, with what a reader calls each.
+SHOWN = {
+    "spawn_try_tick": "spawn a task and run it",
+    "spawn_drain": "spawn many, then run them",
+    "spawn_cancel": "spawn a task and cancel it",
+    "spawn_many_run": "spawn_many, await each",
+    "spawn_await_run": "spawn and await, one by one",
+    "spawn_try_tick_4k": "spawn a future of 4,096 bytes",
+    "yield_try_tick": "a yield, by try_tick",
+    "yield_run": "a yield, in a run",
+    "ping_pong": "two tasks wake each other",
+    "idle_million": "wake one of 1,000,000 idle",
+    "idle_run_0": "poll a run that finds nothing",
+    "idle_run_15": "the same, beside 15 idle runs",
+    "local_spawn_try_tick": "spawn and run, LocalExecutor",
+    "static_spawn_try_tick": "spawn and run, StaticExecutor",
+}
 # Where the names of the rows end, how long a bar is that takes as many instructions as the Rust crate,
 # and where the two columns of figures end.
-NAMES = 208
-SAME = 290
-COLUMNS = (716, 790)
+NAMES = 250
+SAME = 196
+COLUMNS = (612, 706)
 
 
 def chart(found):
-    """The rows of the benchmark as bars, each as a part of the same row of the Rust crate."""
-    rows = [row for row in found["bench"] if row[3].isdigit()]
-    height = 84 + 22 * len(rows)
+    """Rows of the benchmark as bars, each as a part of the same row of the Rust crate."""
+    counted = {name: (ours, theirs) for name, _, ours, theirs, _ in found["bench"]}
+    shown = {name: counted[name] for name in SHOWN}
+    height = 84 + 24 * len(shown)
     same = NAMES + 8 + SAME
-    said = " ".join(f"{name}: {ours}, the Rust crate {theirs}." for name, _, ours, theirs, _ in rows)
+    said = " ".join(f"{SHOWN[name]}: {count[0]}, the Rust crate {count[1]}." for name, count in shown.items())
     lines = [
-        f'<svg xmlns="http://www.w3.org/2000/svg" width="800" height="{height}" viewBox="0 0 800 {height}" '
-        'role="img" aria-labelledby="title description" font-family="sans-serif" font-size="13">',
+        throughput.opening(height),
         '<title id="title">Instructions an operation, beside the Rust crate: fewer is better</title>',
         f'<desc id="description">{said}</desc>',
         throughput.STYLE,
-        f'<rect class="ground" width="800" height="{height}"/>',
-        '<text x="10" y="22" font-size="15">Instructions an operation: fewer is better</text>',
-        f'<text x="{same}" y="48" text-anchor="middle">as many as the Rust crate</text>',
-        f'<text x="{COLUMNS[0]}" y="48" text-anchor="end">here</text>',
-        f'<text x="{COLUMNS[1]}" y="48" text-anchor="end">Rust crate</text>',
-        f'<line x1="{same}" y1="56" x2="{same}" y2="{height - 10}" stroke="#8b949e" stroke-width="2"/>',
+        f'<rect class="ground" width="{throughput.WIDTH}" height="{height}"/>',
+        '<text x="10" y="24" font-size="16">Instructions an operation, beside the Rust crate: '
+        "fewer is better</text>",
+        f'<text x="{same}" y="52" text-anchor="middle">100 %</text>',
+        f'<text x="{COLUMNS[0]}" y="52" text-anchor="end">here</text>',
+        f'<text x="{COLUMNS[1]}" y="52" text-anchor="end">Rust crate</text>',
     ]
-    for place, (name, _, ours, theirs, _) in enumerate(rows):
-        top = 62 + 22 * place
+    for place, (name, (ours, theirs)) in enumerate(shown.items()):
+        top = 64 + 24 * place
         width = round(SAME * int(ours) / int(theirs), 1)
         lines += [
-            f'<text x="{NAMES}" y="{top + 12}" text-anchor="end">{name}</text>',
-            f'<rect x="{NAMES + 8}" y="{top}" width="{width:g}" height="15" fill="#3b7dc4"/>',
-            f'<text x="{COLUMNS[0]}" y="{top + 12}" text-anchor="end">{ours}</text>',
-            f'<text x="{COLUMNS[1]}" y="{top + 12}" text-anchor="end">{theirs}</text>',
+            f'<text x="{NAMES}" y="{top + 13}" text-anchor="end">{SHOWN[name]}</text>',
+            f'<rect class="ours" x="{NAMES + 8}" y="{top}" width="{width:g}" height="17"/>',
+            f'<text x="{COLUMNS[0]}" y="{top + 13}" text-anchor="end">{ours}</text>',
+            f'<text x="{COLUMNS[1]}" y="{top + 13}" text-anchor="end">{theirs}</text>',
         ]
+    lines.append(f'<path class="ideal" d="M{same} 60V{height - 14}" stroke-width="2"/>')
     return "\n".join(lines + ["</svg>", ""])
 
 

@@ -10,17 +10,20 @@ import textwrap
 
 KINDS = {"busy": "runs that never park", "parked_busy": "runs that park"}
 THREADS = {1: "one thread", 2: "two threads", 4: "four threads"}
-# What draws an executor: its name here and in a file of passes, its color, its dashes, its mark.
+# What draws an executor: its name here, in a file of passes and in the style, its dashes, its mark.
 DRAWN = (
-    ("here", "ours", "#1f5fa8", "none", '<circle cx="{x:g}" cy="{y:g}" r="4.5"/>'),
-    ("the Rust crate", "rust", "#b8500f", "7 4", '<rect x="{x0:g}" y="{y0:g}" width="8" height="8"/>'),
-    ("tokio 1.24", "tokio", "#3c7a3c", "2 4", '<path d="M{x:g} {y0:g}l5 9h-10z"/>'),
+    ("here", "ours", "none", '<circle cx="{x:g}" cy="{y:g}" r="4.5"/>'),
+    ("the Rust crate", "rust", "7 4", '<rect x="{x0:g}" y="{y0:g}" width="8" height="8"/>'),
+    ("tokio 1.24", "tokio", "2 4", '<path d="M{x:g} {y0:g}l5 9h-10z"/>'),
 )
-# What text and ground look like in a light and in a dark page.
-STYLE = (
-    "<style>text{fill:#1f2328}.ground{fill:#ffffff}"
-    "@media(prefers-color-scheme:dark){text{fill:#e6edf3}.ground{fill:#0d1117}}</style>"
+# The colors of a light page, and those of a dark one.
+COLORS = (
+    "text{fill:#1f2328}.ground{fill:#ffffff}.grid{stroke:#dfe3e8}.ideal{stroke:#8a929c}"
+    ".ours{fill:#1f5fa8;stroke:#1f5fa8}.rust{fill:#b8500f;stroke:#b8500f}.tokio{fill:#3c7a3c;stroke:#3c7a3c}",
+    "text{fill:#e6edf3}.ground{fill:#0d1117}.grid{stroke:#30363d}"
+    ".ours{fill:#6cb0ff;stroke:#6cb0ff}.rust{fill:#f0883e;stroke:#f0883e}.tokio{fill:#56d364;stroke:#56d364}",
 )
+STYLE = f"<style>{COLORS[0]}@media(prefers-color-scheme:dark){{{COLORS[1]}}}</style>"
 WIDTH = 720
 LEFT = 70
 # Between two amounts of work, and for one processor.
@@ -35,7 +38,8 @@ def measured(text):
         row = re.fullmatch(r"value (\w+) (\w*busy)_(\d+)_(\d+) (.*)", line)
         if row:
             times = [float(time) for time in row[5].split()]
-            passes[row[1], row[2], int(row[3]), int(row[4])] = f"{min(times):.0f}/{statistics.median(times):.0f}"
+            both = f"{min(times):.0f}/{statistics.median(times):.0f}"
+            passes[row[1], row[2], int(row[3]), int(row[4])] = both
     works = sorted({work for _, _, work, _ in passes})
     lines = []
     for kind in KINDS:
@@ -90,9 +94,8 @@ def ahead(found):
         for executor in range(1, len(found[kind][0]) - 1):
             places = []
             for threads, name in THREADS.items():
-                those = [
-                    row[0] for row in found[kind] if 1.01 * median(row, executor, threads) < median(row, 0, threads)
-                ]
+                is_ahead = lambda row: 1.01 * median(row, executor, threads) < median(row, 0, threads)
+                those = [row[0] for row in found[kind] if is_ahead(row)]
                 works = ranges([row[0] for row in found[kind]], those)
                 places += [f"on {name} at {listed(works)}"] if works else []
             where = listed(places) if places else "nowhere"
@@ -110,13 +113,13 @@ def worth(rows, executor):
     return by_threads
 
 
-def curve(points, color, dashes, mark):
+def curve(points, executor, dashes, mark):
     """A line through these points, with a mark at each."""
     path = " ".join(f"{x:g},{y:g}" for x, y in points)
     marks = "".join(mark.format(x=x, y=y, x0=x - 4, y0=y - (6 if "path" in mark else 4)) for x, y in points)
     return (
-        f'<polyline points="{path}" fill="none" stroke="{color}" stroke-width="2.5" stroke-dasharray="{dashes}"/>'
-        f'<g fill="{color}">{marks}</g>'
+        f'<g class="{executor}"><polyline points="{path}" style="fill:none" stroke-width="2.5" '
+        f'stroke-dasharray="{dashes}"/><g stroke="none">{marks}</g></g>'
     )
 
 
@@ -133,14 +136,14 @@ def panel(threads, bottom, works, all_worth):
     lines = [f'<text x="{LEFT}" y="{height(threads) - 12:g}" font-weight="bold">{THREADS[threads]}</text>']
     for processors in range(threads + 1):
         ideal = processors == threads
-        stroke = 'stroke="#8a929c" stroke-width="3"' if ideal else 'stroke="#dfe3e8"'
+        stroke = 'class="ideal" stroke-width="3"' if ideal else 'class="grid"'
         lines += [
             f'<line x1="{LEFT}" y1="{height(processors):g}" x2="{right}" y2="{height(processors):g}" {stroke}/>',
             f'<text x="{LEFT - 8}" y="{height(processors) + 4:g}" text-anchor="end">{processors}</text>',
         ]
-    for (_, _, color, dashes, mark), of_executor in reversed(list(zip(DRAWN, all_worth))):
+    for (_, *look), of_executor in reversed(list(zip(DRAWN, all_worth))):
         points = [(x, height(y)) for x, y in zip(places, of_executor[threads])]
-        lines.append(curve(points, color, dashes, mark))
+        lines.append(curve(points, *look))
     for x, work in zip(places, works):
         lines.append(f'<text x="{x}" y="{bottom + 18}" text-anchor="middle">{said(work)}</text>')
     return lines
@@ -159,13 +162,21 @@ def description(works, all_worth):
 def legend(y):
     """What each line stands for."""
     lines = [
-        f'<line x1="{LEFT}" y1="{y}" x2="{LEFT + 34}" y2="{y}" stroke="#8a929c" stroke-width="3"/>',
-        f'<text x="{LEFT + 42}" y="{y + 4}">ideal</text>',
+        f'<line x1="{LEFT}" y1="{y}" x2="{LEFT + 34}" y2="{y}" class="ideal" stroke-width="3"/>',
+        f'<text x="{LEFT + 44}" y="{y + 5}">ideal</text>',
     ]
-    for n, (name, _, *look) in enumerate(DRAWN):
-        x = LEFT + 120 + 165 * n
-        lines += [curve([(x, y), (x + 34, y)], *look), f'<text x="{x + 46}" y="{y + 4}">{name}</text>']
+    for x, (name, *look) in zip((LEFT + 130, LEFT + 260, LEFT + 450), DRAWN):
+        lines += [curve([(x, y), (x + 34, y)], *look), f'<text x="{x + 44}" y="{y + 5}">{name}</text>']
     return lines
+
+
+def opening(height):
+    """Where a picture of this height begins."""
+    return (
+        f'<svg xmlns="http://www.w3.org/2000/svg" width="{WIDTH}" height="{height}" '
+        f'viewBox="0 0 {WIDTH} {height}" role="img" aria-labelledby="title description" '
+        'font-family="sans-serif" font-size="14">'
+    )
 
 
 def picture(found):
@@ -173,7 +184,7 @@ def picture(found):
     rows = [row for row in found["parked_busy"] if row[0] != "0"]
     works = [number(row[0]) for row in rows]
     all_worth = [worth(rows, executor) for executor in range(len(DRAWN))]
-    lines, bottom = legend(64), 92
+    lines, bottom = legend(74), 100
     for threads in THREADS:
         bottom += 34 + PROCESSOR * threads
         lines += panel(threads, bottom, works, all_worth)
@@ -182,15 +193,14 @@ def picture(found):
     title = "Processors' worth of work that 1,000 tasks do, over the work of a poll: more is better"
     return "\n".join(
         [
-            f'<svg xmlns="http://www.w3.org/2000/svg" width="{WIDTH}" height="{height}" viewBox="0 0 {WIDTH} {height}" '
-            'role="img" aria-labelledby="title description" font-family="sans-serif" font-size="14">',
+            opening(height),
             f'<title id="title">{title}</title>',
             f'<desc id="description">{description(works, all_worth)}</desc>',
             STYLE,
             f'<rect class="ground" width="{WIDTH}" height="{height}"/>',
-            f'<text x="10" y="22" font-size="15">{title}</text>',
-            '<text x="10" y="42" font-size="12">Each task wakes itself in each poll. The runs park while there is '
-            "nothing to run. Medians.</text>",
+            f'<text x="10" y="24" font-size="15">{title}</text>',
+            '<text x="10" y="46" font-size="13">Each task wakes itself in each poll. The runs park while '
+            "there is nothing to run. Medians.</text>",
             *lines,
             f'<text x="{WIDTH // 2}" y="{height - 10}" text-anchor="middle">work in each poll</text>',
             "</svg>",

@@ -11,7 +11,9 @@
 pub mod awaiting;
 pub mod busy;
 pub mod closing;
+pub mod crossing;
 pub mod futures;
+pub mod locking;
 pub mod messaging;
 pub mod parking;
 pub mod priorities;

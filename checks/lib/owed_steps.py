@@ -5,6 +5,7 @@ from recorded import TICKERS, Refused, walk
 
 # The sign of a step, by its word and its answer. What has none is a step that no call may make.
 SIGNS = {
+    "Given": {"Nothing": "i"},
     "Spawn": {"Task": "s", "Refused": "S"},
     "Wake": {"Nothing": "w", "Notice": "W"},
     "Take": {"None": "t", "Poll": "T", "Drop": "T"},
@@ -20,7 +21,7 @@ SIGNS = {
     "DropHandle": {"Nothing": "g", "Output": "g", "Notice": "G"},
     "WakeAll": {"Nothing": "a", "Notice": "A"},
     "Close": {"Nothing": "z", "Notice": "Z"},
-    "Drain": {"None": "y", "Poll": "Y", "Drop": "Y"},
+    "Drain": {"None": "y", "Drop": "Y"},
     "ReserveRunner": {"Runner": "M", "Refused": "S"},
     "ReleaseRunner": {"Done": "m"},
     "Register": {"Done": "j", "Refused": "S"},
@@ -38,7 +39,9 @@ SIGNS = {
     "Store": {"True": "O", "False": "O"},
     "Exchange": {"Nothing": "e", "Pick": "E"},
     "Notify": {"Sleeper": "N", "Nobody": "N"},
-    "ShowQueued": {"Nothing": ""},
+    "ShowGlobal": {"Nothing": ""},
+    "ShowRunner": {"Nothing": ""},
+    "ShowLocal": {"Nothing": ""},
     "Show": {"True": "", "False": ""},
 }
 # What a notice owes: an exchange, and behind a pick the notification.
@@ -53,7 +56,8 @@ EMPTY = f"(?:{END}2|[BL]r4|{QUEUED}2{NEWS})"
 TASKS = f"3(?:RO)?{NEWS}f?{NEXT}*"
 OVER = f"(?:{END}|{QUEUED}{NEWS})"
 OWED = {
-    "Spawn": f"s{NEWS}|S",
+    "Spawn": f"s{NEWS}|S?",
+    "SpawnMany": f"(?:i(?:b|s{NEWS}))*(?:iF)?",
     "Wake": f"w|W{NEWS}",
     "TryTick": f"t|T{NEWS}{OVER}",
     "TryAny": f"0|1{NEWS}{OVER}",
@@ -62,7 +66,7 @@ OWED = {
     "Detach": "H",
     "DropHandle": f"g|G{NEWS}|H",
     "Tick": "n|S",
-    "Run": "nM|S|nSl",
+    "Run": "nM|nSl|S?",
     "PollTick": f"(?:t[IP]O)*(?:T(?:RO)?{NEWS}{OVER}l|t(?:k|Kv))",
     "DropTick": LEFT,
     "PollRun": f"j?Q(?:{ENDED}|(?:2[IP]O|{TASKS}{EMPTY}IO)*(?:2(?:k|Kv)|{TASKS}(?:{EMPTY}Kv|{OVER})))",
@@ -74,11 +78,12 @@ OWED = {
     "Own": "",
 }
 OWED = {word: re.compile(owed) for word, owed in OWED.items()}
-# The signs of a poll, of a drop and of a poll of the own future, which stand for calls within a call.
+# The signs of a poll, of a drop and of a poll of the own future, which stand for calls within a call. A spawn
+# within a call that spawns many is b, or F if it is refused.
 INNER = {"Future": "B", "Disposal": "D", "Own": "Q"}
 OF_TASK = ("Pend", "Ready", "Dropped")
-# By the end of a program, the call that lets its executor go.
-GOES = {"Closed": "Close", "Leaked": "Leak"}
+# The calls that let an executor go, by the end of a program.
+GOES = {"Closed": ["Close"], "Leaked": ["Leak"], "Kept": []}
 
 
 class Words:
@@ -111,7 +116,7 @@ class Owed:
 
     def __init__(self):
         self.lent, self.words, self.over, self.live = set(), {}, set(), set()
-        self.gone = []
+        self.gone, self.forgotten = [], 0
 
     def take(self, line, frame):
         """Adds the sign of a step to its call."""
@@ -141,6 +146,8 @@ class Owed:
                 raise Refused(at, f"the future of task {frame.of} is out, and was not taken")
             is_lent = frame.word == "Future" and frame.of in self.lent
             outer.signs += "L" if is_lent else INNER[frame.word]
+        if frame.word == "Spawn" and outer and outer.word == "SpawnMany":
+            outer.signs += "b" if "s" in frame.signs else "F"
         if frame.word in ("Tick", "Run") and frame.signs[:1] == "n" and "S" not in frame.signs:
             self.live.add(frame.of)
         if frame.word in TICKERS and frame.signs.endswith("l"):
@@ -150,14 +157,15 @@ class Owed:
     def let_go(self, call, line, end):
         """The executor is closed or leaked, once, as its program does it."""
         self.gone.append(call)
-        if end != "Wrong" and self.gone != [GOES[end]]:
+        if end != "Wrong" and self.gone != GOES[end]:
             raise Refused(line.at, f"the executor is {end.lower()}, by {', '.join(self.gone)}")
 
     def finish(self, at, end):
-        if end != "Wrong" and not self.gone:
+        if end != "Wrong" and self.gone != GOES[end]:
             raise Refused(at, f"the executor is not {end.lower()}")
-        if self.live:
-            raise Refused(at, f"{len(self.live)} tickers have not given their places back")
+        if len(self.live) != self.forgotten:
+            kept = f"{len(self.live)} tickers keep their places"
+            raise Refused(at, f"{kept}, and {self.forgotten} are forgotten")
 
 
 def check_calls(lines, end):
@@ -168,16 +176,18 @@ def check_calls(lines, end):
     for line, frame, outer in walk(lines):
         if line.word == "CallLent":
             owed.lent.add(line.of)
+        elif line.word == "Forgotten":
+            owed.forgotten += 1
         elif line.word == "CallFuture":
             owed.lent.discard(line.of)
         elif line.word == "Limits":
             continue
         elif line.word == "End":
             owed.end(frame, outer, line.at)
-            if frame.word in GOES.values():
+            if [frame.word] in GOES.values():
                 owed.let_go(frame.word, line, end)
-        elif line.is_step and frame is None:
+        elif line.is_step and frame is None and not line.word.startswith("Show"):
             raise Refused(line.at, f"a step {line.word} of no call")
-        elif line.is_step:
+        elif line.is_step and frame:
             owed.take(line, frame)
     owed.finish(len(lines), end)

@@ -16,11 +16,14 @@ the files.
 import re
 import sys
 from html import escape
+from math import hypot
 
 from recorded import Refused, executions, walk
 from world_steps import steps_of
 
 WIDTH, LEFT, LANE, BAR, BELOW, LEGEND = 1000, 76, 148, 18, 60, 24
+# How far from the middle of a mark an arrow begins and ends.
+MARK = 5
 # How many steps are drawn before the first difference, and behind it.
 BEFORE, BEHIND = 40, 15
 # So many characters of a text fit into a line.
@@ -146,10 +149,12 @@ class Picture:
             self.label("small", f'x="{LEFT + x}" y="{y}"', said)
 
     def draw_arrow(self, kind, start, end):
+        """An arrow from the edge of the mark of one step to that of another, from above or along its lane."""
         (x, y), (to, down) = ((self.x(place), self.y(self.steps[place][0]) + BAR) for place in (start, end))
-        middle = (x + to) / 2
-        self.draw(f'<path class="{kind}" marker-end="url(#end)" d="M{x:.1f} {y} C{middle:.1f} {y - 22}'
-                  f' {middle:.1f} {down - 22} {to:.1f} {down}"/>')
+        rise, fall = ((x + to) / 2, y - 22), (to - 14, down - 36) if down > y else (to - 36, down)
+        points = (beside_mark((x, y), rise), rise, fall, beside_mark((to, down), fall))
+        first, *rest = (f"{right:.1f} {below:.1f}" for right, below in points)
+        self.draw(f'<path class="{kind}" marker-end="url(#end)" d="M{first} C{" ".join(rest)}"/>')
 
     def draw_passing(self):
         """The arrows, by what each step queues, takes and notifies."""
@@ -223,6 +228,13 @@ class Picture:
             *self.labels,
             "</svg>",
         ])
+
+
+def beside_mark(mark, towards):
+    """Where the edge of a mark is, on the way towards a point."""
+    (x, y), (to, down) = mark, towards
+    way = hypot(to - x, down - y)
+    return x + MARK * (to - x) / way, y + MARK * (down - y) / way
 
 
 def gives_notice(step, reply):

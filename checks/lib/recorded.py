@@ -1,15 +1,15 @@
 """The logs of checks/replay.sh: their lines, their executions, and the calls that the lines belong to.
 
 A log has executions, each a head of four numbers and its lines in the order of their tickets
-(checks/recorder/recorder.c). checks/recorder/recorder.rs names what the numbers stand for.
+(checks/recorder/recorder.c). checks/recorder/executor_core/recorder.rs names what the numbers stand for.
 """
 import os
 import re
 from copy import copy
 
-RECORDER = f"{os.path.dirname(os.path.abspath(__file__))}/../recorder/recorder.rs"
+RECORDER = f"{os.path.dirname(os.path.abspath(__file__))}/../recorder/executor_core/recorder.rs"
 # The words of a line that is neither a call's beginning nor a step.
-APART = ("End", "ExchangeBegins", "Made", "LetGo", "Ending")
+APART = ("End", "ExchangeBegins", "Made", "LetGo", "Forgotten", "Ending")
 # The calls of a ticker.
 TICKERS = ("Tick", "Run", "PollTick", "PollRun", "DropTick", "DropRun")
 
@@ -111,7 +111,7 @@ def walk(lines):
     frames = {}
     for line in lines:
         stack = frames.setdefault(line.thread, [])
-        if line.word == "CallLent":
+        if line.word in ("CallLent", "Forgotten"):
             yield line, None, None
         elif line.word.startswith("Call"):
             stack.append(Frame(line))

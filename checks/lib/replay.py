@@ -1,9 +1,11 @@
 """Checks each execution of a log twice: as steps of a world, and as what each call owes.
 
-Usage: replay.py lines LOG FOLDER, which writes for each execution NAME of the log the lines that the world is
-to take, as FOLDER/NAME, and to FOLDER.said what the second check says and which replies are wanted.
+Usage: replay.py lines LOG FOLDER [CHECK:NAME..], which writes for each execution of the log the lines that
+the world is to take, as FOLDER/NAME, and to FOLDER.said what the second check says and which replies are
+wanted. If executions of wrong bodies are named, it leaves their others out, and the lines if CHECK is calls.
 replay.py compare FOLDER OUTPUT compares these with the replies of exsim. It prints a line for each execution,
-'NAME: N steps' or which check refuses it, and then how often each step had each reply.
+'NAME: N steps' or which check refuses it, and then how often each step had each reply with the right bodies,
+and which have none.
 """
 import json
 import os
@@ -27,21 +29,35 @@ def refused_by(check, lines, *more):
         return None, f"{why}{before}"
 
 
-def write_lines(log, folder):
+def is_right(name):
+    """Whether an execution of this name is one of the right bodies."""
+    return name.startswith("0.")
+
+
+def write_lines(log, folder, *named):
     os.makedirs(folder, exist_ok=True)
-    said = {}
+    checks = dict(reversed(it.split(":")) for it in named)
+    said, files = {}, {}
     for execution in executions(log):
+        name = execution.name
+        if checks and not is_right(name) and name not in checks:
+            continue
         steps, unordered = refused_by(steps_of, execution.lines)
         _, calls = refused_by(check_calls, execution.lines, execution.end)
-        steps = steps or []
-        with open(f"{folder}/{execution.name}", "w") as file:
-            # What each program of the checks reads first (checks/lib/chosen.c).
-            file.write("0 0\n")
-            file.writelines(f"{line}\n" for _, line, _ in steps)
-            file.write("show\n")
-        said[execution.name] = {"end": execution.end, "calls": calls, "order": unordered, "steps": steps}
+        said[name] = {"end": execution.end, "calls": calls, "order": unordered, "steps": steps or []}
+        # Executions of the same lines, as a table has on executors of each kind, are one to the world.
+        lines = "".join(f"{line}\n" for _, line, _ in steps or ())
+        if checks.get(name) != "calls":
+            said[name]["file"] = files.setdefault(lines, name)
+            write_case(f"{folder}/{files[lines]}", lines)
     with open(f"{folder}.said", "w") as file:
         json.dump(said, file)
+
+
+def write_case(path, lines):
+    """Writes the lines that exsim takes, behind what each program of the checks reads first (chosen.c)."""
+    with open(path, "w") as file:
+        file.write(f"0 0\n{lines}show\n")
 
 
 def replies_in(output):
@@ -58,7 +74,7 @@ def replies_in(output):
 
 def difference(said, replies):
     """Where the world answers otherwise than the executor did, if anywhere, with the steps before."""
-    if said["order"]:
+    if said["order"] or "file" not in said:
         return said["order"]
     steps = said["steps"]
     for number, (at, line, wanted) in enumerate(steps):
@@ -81,19 +97,20 @@ def compare(folder, output):
         all_said = json.load(file)
     replies, counts = replies_in(output), Counter()
     for name, said in all_said.items():
-        steps, calls = difference(said, replies.get(name, [])), said["calls"]
+        steps, calls = difference(said, replies.get(said.get("file"), [])), said["calls"]
         if steps:
             print(f"{name}: steps, {steps}")
         if calls:
             print(f"{name}: calls, {calls}")
         if not steps and not calls:
             print(f"{name}: {len(said['steps'])} steps")
-            if name.startswith("0."):
+            if is_right(name):
                 counts.update(kind_of(line, reply) for _, line, reply in said["steps"])
     for kind, times in sorted(counts.items()):
         print(f"{times:9,} {kind}")
     print(f"{sum(counts.values()):9,} steps")
-    print("never:", ", ".join(sorted(all_kinds() - counts.keys())))
+    for kind in sorted(all_kinds() - counts.keys()):
+        print(f"never: {kind}")
 
 
 if __name__ == "__main__":

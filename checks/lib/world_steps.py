@@ -32,7 +32,7 @@ PLAIN = {
     "DropHandle": ("drophandle {2}", {**NOTICED, "Output": "output {1}"}),
     "WakeAll": ("leak", NOTICED),
     "Close": ("close", NOTICED),
-    "Drain": ("drain", TAKES),
+    "Drain": ("drain", {"Drop": "drop {0}", "None": "none"}),
     "ReserveRunner": ("run", {"Runner": "ticker {3}"}),
     "Register": ("register {3}", {"Done": "done"}),
     "Unregister": ("unregister {3}", NOTICED),
@@ -63,19 +63,22 @@ class World:
     """The lines that the world is to take, with their replies."""
 
     def __init__(self, outputs):
-        self.tickers, self.outputs, self.queued = {}, outputs, []
+        self.tickers, self.outputs = {}, outputs
+        self.queues = [[]]
 
     def show(self, line):
         """The state at rest, as the executor's own table, list and flag say it."""
-        queued, self.queued = ", ".join(map(str, self.queued)), []
+        queued, *queues = (f"[{', '.join(map(str, queue))}]" for queue in self.queues)
+        self.queues = [[]]
         flag = "true" if line.answer == "True" else "false"
         sleepers = f"numbers {line.of} notified {line.with_}"
         out = f"notices 0 picks 0 undropped {line.value}"
-        return [(line.at, "show", f"global [{queued}] locals [] flag {flag} {sleepers} {out}")]
+        said = f"global {queued} locals [{', '.join(queues)}] flag {flag} {sleepers} {out}"
+        return [(line.at, "show", said)]
 
     def ticker(self, frame, line):
         """The number that the world gives the ticker of a call, as the last of its places is reserved."""
-        if line.word == LAST_OF_MAKING.get(frame.word):
+        if line.word == LAST_OF_MAKING.get(frame.word) and line.answer != "Refused":
             self.tickers[frame.of] = len(self.tickers)
         return self.tickers.get(frame.of)
 
@@ -87,8 +90,8 @@ class World:
             return ("search {3} 0" if frame.word == "PollTick" else "trytick"), TAKES
         if line.word == "ReserveSleeper" and frame.word == "Tick":
             return "tick", {"Done": "ticker {3}"}
-        # One that sleeps gives its place back behind its drop.
-        if line.word == "ReleaseSleeper" and frame.word != "PollTick" and not frame.has_left:
+        # One that sleeps gives its place back behind its drop, and one that is refused was never made.
+        if line.word == "ReleaseSleeper" and frame.word not in ("PollTick", "Run") and not frame.has_left:
             return "drop {3}", {"Done": "awake"}
         return PLAIN.get(line.word)
 
@@ -96,9 +99,10 @@ class World:
         """The steps of the world that a line is."""
         if line.word == "Show":
             return self.show(line)
-        if line.word == "ShowQueued":
-            self.queued.append(line.of)
-            return []
+        if line.word == "ShowRunner":
+            self.queues.append([])
+        if line.word in ("ShowGlobal", "ShowLocal"):
+            self.queues[-1].append(line.of)
         k = self.ticker(frame, line) if frame.word in TICKERS else None
         frame.has_left |= line.word == "Leave"
         said = self.said_by(line, frame)
@@ -155,8 +159,9 @@ def kind_of(line, reply):
 
 
 def all_kinds():
-    """Each step that may stand in a log, with each of its replies."""
-    rest = [("tick", {"": "ticker"}), ("trytick", TAKES), ("drop", {"": "awake"})]
+    """Each step of the world, with each of its replies, but for those that no step of an executor has."""
+    rest = [("tick", {"": "ticker"}), ("trytick", TAKES), ("drop", {"": "awake"}), ("poll", {"": "done"})]
+    rest.append(("show", {"": ""}))
     return {
         kind_of(line, re.sub(r" {\d}", "", reply))
         for line, replies in [*PLAIN.values(), *DETACHES.values(), *rest]

@@ -18,9 +18,10 @@ struct line {
 
 static struct line lines[MOST];
 static number count, made;
-static number refused_each, asked, room;
+static number refused_each, asked, room, plays;
 static unsigned threads, halts, released;
 static _Thread_local unsigned thread, halting_word;
+static _Thread_local number ticker;
 
 static unsigned load(const unsigned *it) { return __atomic_load_n(it, __ATOMIC_SEQ_CST); }
 
@@ -37,7 +38,10 @@ void write_down(unsigned word, number of, number with, unsigned answer, number v
 }
 
 // A number that no other ticker of the process has.
-number number_of_ticker(void) { return __atomic_add_fetch(&made, 1, __ATOMIC_SEQ_CST); }
+number number_of_ticker(void) { return ticker = __atomic_add_fetch(&made, 1, __ATOMIC_SEQ_CST); }
+
+// The number that this thread drew last.
+number last_number_of_ticker(void) { return ticker; }
 
 // Has this thread halt behind its next line of this word.
 void halt_behind(unsigned word) { halting_word = word + 1; }
@@ -63,6 +67,12 @@ unsigned is_copy_refused(void) {
 
 // For how many tasks the queues of an executor have room, or 0.
 number room_of_queues(void) { return room; }
+
+// What is played from now on has the numbers from this one on.
+void number_tables_from(number it) { plays = it; }
+
+// The number of what was played.
+number number_of_play(void) { return plays++; }
 
 static char text[ROOM];
 static number length;

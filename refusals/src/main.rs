@@ -43,7 +43,7 @@ fn main(rt: HostRuntime) -> io::Result<ExitCode> {
     timers::wait_for_time(&rt, alloc, &mut refused);
     timers::wait_in_time(&rt, alloc, &mut refused);
     timers::drive(&rt, alloc, &mut refused);
-    timers::start_pool(&rt, alloc, &mut refused);
+    timers::start_pools(&rt, alloc, &mut refused);
     timers::ask_for_job(&rt, alloc, &mut refused);
     if let Some((sleepers, runners)) = rooms::keep_rooms(&rt, alloc, &mut outcome) {
         println!(rt; "room for {sleepers} sleepers and {runners} runners")?;
@@ -53,7 +53,7 @@ fn main(rt: HostRuntime) -> io::Result<ExitCode> {
     }
     let wrong = outcome.wrong.saturating_add(refused.wrong);
     println!(rt;
-        "refused: Cells::spawn {}, Cells::reserve_runner {}, Ring::new {}, Sleepers::reserve {}, Core::reserve {}, World::new {}, World::new_with {}, World::run {}, World::step {}, Executor::new {}, Executor::new_with {}, Executor::spawn {}, Executor::spawn_many {}, Executor::tick {}, Executor::run {}, block_on {}, run_until {}, JoinAll::new {}, Signal::new {}, Signal::waiting {}, bounded {}, Sender::copy {}, Receiver::copy {}, Timer::new {}, After::poll {}, Timeout::poll {}, Timer::block_on {}, Pool::new {}, Pool::unblock {}, lists {}, steps {}, orders {}; wrong: {}",
+        "refused: Cells::spawn {}, Cells::reserve_runner {}, Ring::new {}, Sleepers::reserve {}, Core::reserve {}, World::new {}, World::new_with {}, World::run {}, World::step {}, Executor::new {}, Executor::new_with {}, Executor::spawn {}, Executor::spawn_many {}, Executor::tick {}, Executor::run {}, block_on {}, run_until {}, JoinAll::new {}, Signal::new {}, Signal::waiting {}, bounded {}, Sender::copy {}, Receiver::copy {}, Timer::new {}, After::poll {}, Timeout::poll {}, Timer::block_on {}, Pool::new {}, ShardedPool::new {}, Pool::unblock {}, lists {}, steps {}, orders {}; wrong: {}",
         outcome.cells_spawn,
         outcome.cells_reserve_runner,
         outcome.ring_new,
@@ -82,6 +82,7 @@ fn main(rt: HostRuntime) -> io::Result<ExitCode> {
         refused.timeout,
         refused.driver,
         refused.pool,
+        refused.sharded_pool,
         refused.unblock,
         refused.list,
         outcome.steps,

@@ -5,6 +5,7 @@ use async_executor::{Future, OutOfMemory, Poll, TaskWaker, Wake};
 use async_utilities::{
     Job, Never, NoopWaker, Pool, PoolError, Ready, ThreadWaker, Timer, TimerError, TimerFailed, Work,
 };
+use pools::ShardedPool;
 use std::alloc::Global;
 use std::cell::Cell;
 use std::sync::Wait;
@@ -118,34 +119,52 @@ pub fn drive<R: Wait + Clock + Clone + Drop>(rt: &R, alloc: Global, refused: &mu
     refused.expect(output == Some(7));
 }
 
-type Threaded<R> = Pool<Ready<u64>, R>;
+// Makes a pool, and again if that is refused, and stops it. What its threads were refused was an answer
+// of the making.
+macro_rules! start_and_stop {
+    ($refused:expr, $count:ident, $made:expr) => {{
+        let refused = $refused;
+        let made = match $made {
+            Err(error) => {
+                refused.expect(error != PoolError::Exhausted);
+                count(&mut refused.$count);
+                $made
+            }
+            made => made,
+        };
+        match made {
+            Ok(pool) => {
+                for ended in pool.join() {
+                    refused.expect(ended.is_ok());
+                }
+            }
+            Err(_) => refused.expect(false),
+        }
+    }};
+}
 
-// A pool of one thread, made again if that is refused.
 fn pool<R: Wait + Threads + Clone + Drop + Send + Sync + 'static>(
     rt: &R,
     alloc: Global,
-    refused: &mut Refused,
-) -> Option<Threaded<R>> {
-    match Pool::new(rt.clone().ok()?, alloc, 1) {
-        Ok(pool) => return Some(pool),
-        Err(error) => refused.expect(error != PoolError::Exhausted),
-    }
-    count(&mut refused.pool);
-    Pool::new(rt.clone().ok()?, alloc, 1).ok()
+) -> Result<Pool<Ready<u64>, R>, PoolError> {
+    Pool::new(rt.clone()?, alloc, 1)
 }
 
-/// Starts a pool and stops it. What its thread was refused was an answer of `new`.
-pub fn start_pool<R: Wait + Threads + Clone + Drop + Send + Sync + 'static>(
+fn pool_of_shards<R: Wait + Threads + Clone + Drop + Send + Sync + 'static>(
+    rt: &R,
+    alloc: Global,
+) -> Result<ShardedPool<Ready<u64>, R>, PoolError> {
+    ShardedPool::new(rt.clone()?, alloc, 1)
+}
+
+/// Starts a pool of each kind and stops it.
+pub fn start_pools<R: Wait + Threads + Clone + Drop + Send + Sync + 'static>(
     rt: &R,
     alloc: Global,
     refused: &mut Refused,
 ) {
-    let Some(pool) = pool(rt, alloc, refused) else {
-        return refused.expect(false);
-    };
-    for ended in pool.join() {
-        refused.expect(ended.is_ok());
-    }
+    start_and_stop!(&mut *refused, pool, pool(rt, alloc));
+    start_and_stop!(&mut *refused, sharded_pool, pool_of_shards(rt, alloc));
 }
 
 /// Gives its number.

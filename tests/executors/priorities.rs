@@ -1,10 +1,12 @@
-//! The choice of a level, and an executor with levels.
+//! The choice of a level, and an executor with levels, its ticks and its runs.
 ghost use Rattle.std.specs.Prelude.{◌-◌, vec_len, vec_capacity};
 
-use crate::tests::support::running::record::{Moment, Record};
+use crate::tests::support::running::job::{Job, Left, digit, waker};
+use crate::tests::support::running::record::Moment;
 use crate::tests::support::running::waker::TestWaker;
-use async_executor::{Future, Poll, TaskWaker, Wake};
-use priority_executor::{Asker, PriorityExecutor, choose};
+use async_executor::{Future, Poll};
+use async_utilities::Never;
+use priority_executor::{Asker, PriorityExecutor, PriorityRun, choose};
 use std::alloc::{AllocError, Global};
 use std::sync::atomic::{AtomicU64, Ordering};
 use std::sync::{Arc, Mutex, Wait};
@@ -67,40 +69,16 @@ fn one_level_that_says_no_is_not_chosen(rt: HostRuntime) -> Result<(), Fail> {
     Ok(())
 }
 
-// Puts its digit behind those of the others that ran.
-#[derive(Drop)]
-struct Digit {
-    digit: u64,
-    ran: Arc<AtomicU64>,
-}
-
-impl Digit {
-    fn new(digit: u64, ran: &Arc<AtomicU64>) -> Result<Digit, AllocError> {
-        let ran = Arc::try_clone(ran)?;
-        Ok(Digit { digit, ran })
-    }
-}
-
-impl<W> Future<W> for Digit {
-    type Output = ();
-
-    fn poll(&mut self, _w: &W) -> Poll<()> {
-        let before = self.ran.load(Ordering::SeqCst);
-        self.ran.store(before * 10 + self.digit, Ordering::SeqCst);
-        Poll::Ready(())
-    }
-}
-
-type Levels<R, const N: usize> = PriorityExecutor<Digit, TestWaker, R, N>;
+type Levels<R, const N: usize> = PriorityExecutor<Job<R>, TestWaker, R, N>;
 
 // Spawns a task of this digit at this level, and lets it run on.
 fn leave<R: Wait + Clone + Drop + Send + Sync, const N: usize>(
     ex: &Levels<R, N>,
     level: usize,
-    digit: u64,
+    number: u64,
     ran: &Arc<AtomicU64>,
 ) -> Result<(), Fail> {
-    let task = ex.spawn(level, Digit::new(digit, ran)?).ok();
+    let task = ex.spawn(level, digit(number, ran)?).ok();
     task.ok_or("refused")?.detach();
     Ok(())
 }
@@ -192,12 +170,6 @@ fn each_level_counts_for_is_empty(rt: HostRuntime) -> Result<(), Fail> {
     Ok(())
 }
 
-// A waker, and the record of it and of its copies.
-fn waker(alloc: Global) -> Result<(TestWaker, Record), AllocError> {
-    let record = Record::new(alloc)?;
-    Ok((TestWaker::new(&record)?, record))
-}
-
 #[test]
 fn the_other_ticks_are_dropped_once_one_is_ready(rt: HostRuntime) -> Result<(), Fail> {
     let ran = Arc::new(rt.alloc(), AtomicU64::new(0))?;
@@ -270,57 +242,20 @@ fn a_dropped_tick_has_another_woken_at_its_level(rt: HostRuntime) -> Result<(), 
     Ok(())
 }
 
-type Left<R> = Arc<Mutex<Option<TaskWaker<TestWaker, R>>>>;
-
-// Leaves its waker at its first poll; or wakes the one that left it, and keeps how often this record was woken
-// by then.
-#[derive(Drop)]
-enum Urgent<R> {
-    Leaves(Left<R>, bool),
-    Wakes(Left<R>, Record, Arc<AtomicU64>),
-}
-
-impl<R: Wait + Clone + Drop> Future<TaskWaker<TestWaker, R>> for Urgent<R> {
-    type Output = ();
-
-    fn poll(&mut self, w: &TaskWaker<TestWaker, R>) -> Poll<()> {
-        match self {
-            Urgent::Leaves(place, has_left) => {
-                if !*has_left {
-                    *has_left = true;
-                    if let (Ok(copy), Some(mut place)) = (w.copy(), place.try_lock()) {
-                        *place = Some(copy);
-                    }
-                    return Poll::Pending;
-                }
-            }
-            Urgent::Wakes(place, record, woken) => {
-                if let Some(place) = place.try_lock() {
-                    if let Some(waker) = &*place {
-                        waker.wake();
-                    }
-                }
-                woken.store(record.times(Moment::WakerWake), Ordering::SeqCst);
-            }
-        }
-        Poll::Ready(())
-    }
-}
-
-// Two ticks sleep. The one that slept last is woken for a task of level 1, whose poll wakes an urgent one: the
-// other tick has to be woken meanwhile. Gives how often it was by then.
+// Two ticks sleep. The one that slept last is woken for a task of level 1, whose poll wakes an urgent
+// one: the other tick has to be woken meanwhile. Gives how often it was by then.
 fn woken_meanwhile<R: Wait + AllocGlobal + Clone + Drop + Send + Sync>(rt: &R) -> Result<u64, Fail> {
     let alloc = rt.alloc();
-    let ex: PriorityExecutor<Urgent<R>, TestWaker, R, 2> = PriorityExecutor::new(rt.clone()?, alloc)?;
+    let ex: Levels<R, 2> = PriorityExecutor::new(rt.clone()?, alloc)?;
     let place: Left<R> = Arc::new(alloc, Mutex::new(None))?;
     let woken = Arc::new(alloc, AtomicU64::new(0))?;
-    let urgent = Urgent::Leaves(Arc::try_clone(&place)?, false);
+    let urgent = Job::Leaves(Arc::try_clone(&place)?, false);
     ex.spawn(0, urgent).ok().ok_or("refused")?.detach();
     ex.try_tick();
     let ((first, _), (second, record)) = (waker(alloc)?, waker(alloc)?);
     let (mut p, mut q) = (ex.tick()?, ex.tick()?);
     let _ = (q.poll(&second), p.poll(&first));
-    let other = Urgent::Wakes(place, record.share()?, Arc::try_clone(&woken)?);
+    let other = Job::Wakes(place, record.share()?, Arc::try_clone(&woken)?);
     ex.spawn(1, other).ok().ok_or("refused")?.detach();
     let _ = p.poll(&first);
     Ok(woken.load(Ordering::SeqCst))
@@ -333,19 +268,20 @@ fn an_urgent_task_waits_for_no_poll_of_another_level(rt: HostRuntime) -> Result<
     Ok(())
 }
 
-// Two ticks sleep, and a task is spawned at each level. The tick that slept last was notified in both, and has to
-// pass on what it was notified of at level 1 before it runs a task. Gives how often the other was woken by then.
+// Two ticks sleep, and a task is spawned at each level. The tick that slept last was notified in both,
+// and has to pass on what it was notified of at level 1 before it runs a task. Gives how often the other
+// was woken by then.
 fn passed_on<R: Wait + AllocGlobal + Clone + Drop + Send + Sync>(rt: &R) -> Result<u64, Fail> {
     let alloc = rt.alloc();
-    let ex: PriorityExecutor<Urgent<R>, TestWaker, R, 2> = PriorityExecutor::new(rt.clone()?, alloc)?;
+    let ex: Levels<R, 2> = PriorityExecutor::new(rt.clone()?, alloc)?;
     let place: Left<R> = Arc::new(alloc, Mutex::new(None))?;
     let woken = Arc::new(alloc, AtomicU64::new(0))?;
     let ((first, _), (second, record)) = (waker(alloc)?, waker(alloc)?);
     let (mut p, mut q) = (ex.tick()?, ex.tick()?);
     let _ = (q.poll(&second), p.poll(&first));
-    let other = Urgent::Leaves(Arc::try_clone(&place)?, false);
+    let other = Job::Leaves(Arc::try_clone(&place)?, false);
     ex.spawn(1, other).ok().ok_or("refused")?.detach();
-    let urgent = Urgent::Wakes(place, record.share()?, Arc::try_clone(&woken)?);
+    let urgent = Job::Wakes(place, record.share()?, Arc::try_clone(&woken)?);
     ex.spawn(0, urgent).ok().ok_or("refused")?.detach();
     let _ = p.poll(&first);
     Ok(woken.load(Ordering::SeqCst))
@@ -355,5 +291,136 @@ fn passed_on<R: Wait + AllocGlobal + Clone + Drop + Send + Sync>(rt: &R) -> Resu
 fn the_notice_of_a_level_above_waits_for_no_poll(rt: HostRuntime) -> Result<(), Fail> {
     // By what was passed on, and by the take of the task, behind which there may be more.
     assert_eq!(rt; passed_on(&rt)?, 2);
+    Ok(())
+}
+
+type TestRun<'a, R, const N: usize> = PriorityRun<'a, Job<R>, TestWaker, R, Never<()>, N>;
+
+fn run_of<R: Wait + Clone + Drop + Send + Sync, const N: usize>(
+    ex: &Levels<R, N>,
+) -> Result<TestRun<'_, R, N>, Fail> {
+    Ok(ex.run(Never::new()).ok().ok_or("refused")?)
+}
+
+#[test]
+fn a_run_takes_the_lowest_level_first(rt: HostRuntime) -> Result<(), Fail> {
+    let ran = Arc::new(rt.alloc(), AtomicU64::new(0))?;
+    let ex: Levels<HostRuntime, 3> = PriorityExecutor::new(rt.clone()?, rt.alloc())?;
+    let (waker, record) = waker(rt.alloc())?;
+    for level in [2, 0, 1, 0] {
+        leave(&ex, level, level as u64 + 1, &ran)?;
+    }
+    let mut run = run_of(&ex)?;
+    assert_eq!(rt; run.poll(&waker), Poll::Pending);
+    assert_eq!(rt; ran.load(Ordering::SeqCst), 1123);
+    assert_eq!(rt; (ex.is_empty(), record.times(Moment::WakerWake)), (true, 0));
+    Ok(())
+}
+
+// A task of level 1 wakes an urgent one, and another one of level 1 stands behind it. Gives how often the
+// awaiter of the urgent one was woken when that one ran.
+fn ended_before<R: Wait + AllocGlobal + Clone + Drop + Send + Sync>(rt: &R) -> Result<u64, Fail> {
+    let alloc = rt.alloc();
+    let ex: Levels<R, 2> = PriorityExecutor::new(rt.clone()?, alloc)?;
+    let (place, nobody): (Left<R>, Left<R>) =
+        (Arc::new(alloc, Mutex::new(None))?, Arc::new(alloc, Mutex::new(None))?);
+    let (first, second) = (Arc::new(alloc, AtomicU64::new(0))?, Arc::new(alloc, AtomicU64::new(0))?);
+    let ((awaiter, record), (waker, _)) = (waker(alloc)?, waker(alloc)?);
+    let urgent = Job::Leaves(Arc::try_clone(&place)?, false);
+    let mut urgent = ex.spawn(0, urgent).ok().ok_or("refused")?;
+    ex.try_tick();
+    let _ = urgent.poll(&awaiter);
+    for (left, woken) in [(place, first), (nobody, Arc::try_clone(&second)?)] {
+        let job = Job::Wakes(left, record.share()?, woken);
+        ex.spawn(1, job).ok().ok_or("refused")?.detach();
+    }
+    let _ = run_of(&ex)?.poll(&waker);
+    Ok(second.load(Ordering::SeqCst))
+}
+
+#[test]
+fn a_run_looks_at_the_levels_before_each_task(rt: HostRuntime) -> Result<(), Fail> {
+    assert_eq!(rt; ended_before(&rt)?, 1);
+    Ok(())
+}
+
+#[test]
+fn a_run_goes_on_after_a_turn(rt: HostRuntime) -> Result<(), Fail> {
+    let ran = Arc::new(rt.alloc(), AtomicU64::new(0))?;
+    let ex: Levels<HostRuntime, 2> = PriorityExecutor::new(rt.clone()?, rt.alloc())?;
+    let (waker, record) = waker(rt.alloc())?;
+    for number in 0..100 {
+        leave(&ex, number % 2, 1, &ran)?;
+    }
+    let mut run = run_of(&ex)?;
+    let _ = run.poll(&waker);
+    // Each task that is left holds a share of the count.
+    assert_eq!(rt; (Arc::strong_count(&ran), record.times(Moment::WakerWake)), (37, 1));
+    let _ = run.poll(&waker);
+    assert_eq!(rt; (Arc::strong_count(&ran), record.times(Moment::WakerWake)), (1, 1));
+    Ok(())
+}
+
+#[test]
+fn a_run_that_sleeps_hears_every_level(rt: HostRuntime) -> Result<(), Fail> {
+    let ran = Arc::new(rt.alloc(), AtomicU64::new(0))?;
+    let ex: Levels<HostRuntime, 3> = PriorityExecutor::new(rt.clone()?, rt.alloc())?;
+    let (waker, record) = waker(rt.alloc())?;
+    let mut run = run_of(&ex)?;
+    let _ = run.poll(&waker);
+    for level in 0..3 {
+        assert_eq!(rt; record.times(Moment::WakerWake), level as u64);
+        leave(&ex, level, level as u64 + 1, &ran)?;
+        assert_eq!(rt; record.times(Moment::WakerWake), level as u64 + 1);
+        let _ = run.poll(&waker);
+    }
+    assert_eq!(rt; ran.load(Ordering::SeqCst), 123);
+    Ok(())
+}
+
+#[test]
+fn a_run_of_levels_whose_copies_are_refused_sleeps_nowhere(rt: HostRuntime) -> Result<(), Fail> {
+    let ran = Arc::new(rt.alloc(), AtomicU64::new(0))?;
+    let ex: Levels<HostRuntime, 2> = PriorityExecutor::new(rt.clone()?, rt.alloc())?;
+    let (waker, record) = waker(rt.alloc())?;
+    record.refuse();
+    let mut run = run_of(&ex)?;
+    let _ = run.poll(&waker);
+    leave(&ex, 1, 1, &ran)?;
+    assert_eq!(rt; record.times(Moment::WakerWake), 1);
+    let _ = run.poll(&waker);
+    assert_eq!(rt; ran.load(Ordering::SeqCst), 1);
+    Ok(())
+}
+
+#[test]
+fn a_dropped_run_has_another_woken_at_its_level(rt: HostRuntime) -> Result<(), Fail> {
+    let ran = Arc::new(rt.alloc(), AtomicU64::new(0))?;
+    let ex: Levels<HostRuntime, 2> = PriorityExecutor::new(rt.clone()?, rt.alloc())?;
+    let ((first, first_record), (second, second_record)) = (waker(rt.alloc())?, waker(rt.alloc())?);
+    let (mut p, mut q) = (run_of(&ex)?, run_of(&ex)?);
+    assert_eq!(rt; (p.poll(&first), q.poll(&second)), (Poll::Pending, Poll::Pending));
+    leave(&ex, 1, 1, &ran)?;
+    assert_eq!(rt; second_record.times(Moment::WakerWake), 1);
+    drop(q);
+    assert_eq!(rt; first_record.times(Moment::WakerWake), 1);
+    assert_eq!(rt; p.poll(&first), Poll::Pending);
+    assert_eq!(rt; ran.load(Ordering::SeqCst), 1);
+    Ok(())
+}
+
+#[test]
+fn a_run_of_levels_ends_with_its_own_future(rt: HostRuntime) -> Result<(), Fail> {
+    let ran = Arc::new(rt.alloc(), AtomicU64::new(0))?;
+    let ex: Levels<HostRuntime, 2> = PriorityExecutor::new(rt.clone()?, rt.alloc())?;
+    let (waker, record) = waker(rt.alloc())?;
+    let task = ex.spawn(1, digit(1, &ran)?).ok().ok_or("refused")?;
+    let mut run = ex.run(task).ok().ok_or("refused")?;
+    let answers = [run.poll(&waker), run.poll(&waker)];
+    assert_eq!(rt; answers, [Poll::Pending, Poll::Ready(Ok(()))]);
+    let woken = record.times(Moment::WakerWake);
+    leave(&ex, 0, 2, &ran)?;
+    assert_eq!(rt; (run.poll(&waker), ran.load(Ordering::SeqCst)), (Poll::Pending, 1));
+    assert_eq!(rt; record.times(Moment::WakerWake), woken + 1);
     Ok(())
 }

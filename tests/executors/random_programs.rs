@@ -1,5 +1,6 @@
 //! Random programs on four threads, and on one. `checks/by_hand/soak` takes as many as there is time for.
 use crate::tests::support::running::programs::Program;
+use crate::tests::support::running::shard_trial::tried_on;
 use crate::tests::support::running::trial::{tried, tried_locally};
 use std::sync::Wait;
 use std::test::Fail;
@@ -13,6 +14,8 @@ enum By {
     FourThreads,
     OneThread,
     OneThreadLocally,
+    FourThreadsOnShards,
+    OneThreadOnShards,
 }
 
 // That nothing is wrong in the end of the programs of these seeds.
@@ -27,6 +30,8 @@ fn try_all<R: AllocGlobal + Wait + Threads + Clone + Drop + Send + Sync>(
             By::FourThreads => tried(rt, &program)?,
             By::OneThread => tried(rt, &program.alone(alloc)?)?,
             By::OneThreadLocally => tried_locally(rt, &program.alone(alloc)?)?,
+            By::FourThreadsOnShards => tried_on(rt, &program, 3)?,
+            By::OneThreadOnShards => tried_on(rt, &program.alone(alloc)?, 3)?,
         };
         if let Some(wrong) = wrong {
             return Err(Fail::new(format_args!("seed {seed}: {wrong}")));
@@ -48,4 +53,14 @@ fn programs_of_one_thread_come_to_a_right_end(rt: HostRuntime) -> Result<(), Fai
 #[test]
 fn programs_on_local_executors_come_to_a_right_end(rt: HostRuntime) -> Result<(), Fail> {
     try_all(&rt, By::OneThreadLocally)
+}
+
+#[test]
+fn programs_of_four_threads_on_shards_come_to_a_right_end(rt: HostRuntime) -> Result<(), Fail> {
+    try_all(&rt, By::FourThreadsOnShards)
+}
+
+#[test]
+fn programs_of_one_thread_on_shards_come_to_a_right_end(rt: HostRuntime) -> Result<(), Fail> {
+    try_all(&rt, By::OneThreadOnShards)
 }

@@ -4,7 +4,7 @@ use crate::tests::support::running::line::Answer::{Output, Pending, Ticked};
 use crate::tests::support::running::line::Line::{
     Count, MakeRun, MakeTick, Poll, Refuse, Shows, Spawn, Tick, Wake,
 };
-use crate::tests::support::running::player::play;
+use crate::tests::support::running::player::{play, play_unsharded};
 use crate::tests::support::running::record::Moment::WakerWake;
 use std::test::Fail;
 
@@ -123,7 +123,7 @@ fn of_a_run_that_was_never_polled(rt: HostRuntime) -> Result<(), Fail> {
 
 #[test]
 fn of_a_run_that_sleeps(rt: HostRuntime) -> Result<(), Fail> {
-    play(
+    play_unsharded(
         &rt,
         &[
             MakeRun(Never),

@@ -397,8 +397,8 @@ fn a_hundred_tasks_are_spawned_by_four_requests(rt: HostRuntime) -> Result<(), F
     Ok(())
 }
 
-// The same of an executor with two levels, which has no text and no runs: a tick of all levels sleeps,
-// and is woken by the first task.
+// The same of an executor with two levels, which has no text: a tick of all levels sleeps, and is woken
+// by the first task, and a run runs the others.
 fn priority_once<R: AllocGlobal + Wait + Clone + Drop + Send + Sync>(
     rt: &R,
     request: usize,
@@ -447,11 +447,20 @@ fn priority_once<R: AllocGlobal + Wait + Clone + Drop + Send + Sync>(
         }
     }
     met.expect(tick.poll(&waker) == Poll::Ready(()));
-    let mut ticks = 0;
-    while ticks < 20 && ex.try_tick() {
-        ticks += 1;
+    let again = match ex.run(Beside { number: 5 }) {
+        Ok(run) => Ok(run),
+        Err(RunError::OutOfMemory(own)) => {
+            met.run += 1;
+            met.expect(own.number == 5);
+            ex.run(own)
+        }
+        Err(refused) => Err(refused),
+    };
+    match again {
+        Ok(mut run) => met.expect(run.poll(&waker) == Poll::Pending),
+        Err(_) => met.expect(false),
     }
-    met.expect(ticks == 6 && seen.load(Ordering::SeqCst) == 2461357 && ex.is_empty());
+    met.expect(seen.load(Ordering::SeqCst) == 2461357 && ex.is_empty());
     Ok(met)
 }
 
@@ -465,12 +474,13 @@ fn swept_priority<R: AllocGlobal + Wait + Clone + Drop + Send + Sync>(rt: &R) ->
 fn each_call_of_the_priority_executor_is_refused_and_goes_on(rt: HostRuntime) -> Result<(), Fail> {
     let met = swept_priority(&rt)?;
     assert_eq!(rt; met.wrong, 0);
-    assert!(rt; met.new > 2 && met.spawn > 3 && met.tick > 1);
+    assert!(rt; met.new > 2 && met.spawn > 3 && met.tick > 1 && met.run > 0);
     Ok(())
 }
 
-// The same of an executor with two shards: a run sleeps, and is woken by the first task. What is refused as the
-// run goes to sleep is no request of its own: a `TestWaker` that cannot be copied has the run woken.
+// The same of an executor with two shards: a run sleeps, and is woken by the first task. What is refused
+// as the run goes to sleep is no request of its own: a `TestWaker` that cannot be copied has the run
+// woken.
 fn sharded_once<R: AllocGlobal + Wait + Clone + Drop + Send + Sync>(
     rt: &R,
     request: usize,

@@ -6,7 +6,7 @@ use crate::tests::support::running::line::Line::{
     AnotherWaker, Cancel, Count, DropHandle, Empty, Finished, HaltAt, HaltsAgain, MakeRun,
     MakeTick, ManyRan, OtherWoken, Poll, PollHalts, Refuse, Returns, Spawn, SpawnMany, Ticks, Wake,
 };
-use crate::tests::support::running::player::play;
+use crate::tests::support::running::player::{play, play_unsharded};
 use crate::tests::support::running::record::Moment::{FutureDrop, FuturePoll, OutputDrop, WakerCopy, WakerWake};
 use std::test::Fail;
 
@@ -30,7 +30,7 @@ fn a_run_yields_after_200_tasks(rt: HostRuntime) -> Result<(), Fail> {
 
 #[test]
 fn a_turn_goes_on_over_polls(rt: HostRuntime) -> Result<(), Fail> {
-    play(
+    play_unsharded(
         &rt,
         &[
             MakeRun(Never),
@@ -227,7 +227,7 @@ fn another_run_steals_what_a_run_has(rt: HostRuntime) -> Result<(), Fail> {
 // takes the task of number 3. With more or fewer words it would steal from the second again.
 #[test]
 fn each_search_takes_one_word(rt: HostRuntime) -> Result<(), Fail> {
-    play(
+    play_unsharded(
         &rt,
         &[
             MakeRun(Never),

@@ -1,65 +1,16 @@
 //! An executor with shards, its runs, and the sleepers and workers of which these are made.
-use crate::tests::support::running::record::{Moment, Record};
+use crate::tests::support::running::job::{Job, Left, digit, waker};
+use crate::tests::support::running::record::Moment;
 use crate::tests::support::running::waker::TestWaker;
 use async_executor::{Future, Poll, TaskWaker, Wake};
 use async_utilities::{Never, ThreadWaker, block_on};
 use sharded_executor::{ShardedExecutor, ShardedRun};
-use std::alloc::{AllocError, Global};
+use std::alloc::Global;
 use std::fmt::Debug;
 use std::sync::atomic::{AtomicU64, Ordering};
 use std::sync::{Arc, Mutex, Wait};
 use std::test::Fail;
 use std::thread::{self, Threads};
-
-type Left<R> = Arc<Mutex<Option<TaskWaker<TestWaker, R>>>>;
-
-// What a task of a test does.
-#[derive(Drop)]
-enum Job<R> {
-    // Puts its digit behind those of the others that ran, and is ready.
-    Digit(u64, Arc<AtomicU64>),
-    // Leaves its waker at its first poll, and is ready at the second.
-    Leaves(Left<R>, bool),
-    // Wakes the one that left its waker, and keeps how often this record was woken by then.
-    Wakes(Left<R>, Record, Arc<AtomicU64>),
-    // Wakes itself, and is never ready.
-    Busy,
-}
-
-impl<R: Wait + Clone + Drop> Future<TaskWaker<TestWaker, R>> for Job<R> {
-    type Output = ();
-
-    fn poll(&mut self, w: &TaskWaker<TestWaker, R>) -> Poll<()> {
-        match self {
-            Job::Busy => {
-                w.wake();
-                return Poll::Pending;
-            }
-            Job::Digit(digit, ran) => {
-                let before = ran.load(Ordering::SeqCst);
-                ran.store(before.wrapping_mul(10).wrapping_add(*digit), Ordering::SeqCst);
-            }
-            Job::Leaves(place, has_left) => {
-                if !*has_left {
-                    *has_left = true;
-                    if let (Ok(copy), Some(mut place)) = (w.copy(), place.try_lock()) {
-                        *place = Some(copy);
-                    }
-                    return Poll::Pending;
-                }
-            }
-            Job::Wakes(place, record, woken) => {
-                if let Some(place) = place.try_lock() {
-                    if let Some(waker) = &*place {
-                        waker.wake();
-                    }
-                }
-                woken.store(record.times(Moment::WakerWake), Ordering::SeqCst);
-            }
-        }
-        Poll::Ready(())
-    }
-}
 
 type Shards<R> = ShardedExecutor<Job<R>, TestWaker, R>;
 
@@ -93,17 +44,6 @@ fn leave<R: Wait + Clone + Drop + Send + Sync>(
     }
     ex.shard(number).spawn(job).ok().ok_or("refused")?.detach();
     Ok(())
-}
-
-// A waker, and the record of it and of its copies.
-fn waker(alloc: Global) -> Result<(TestWaker, Record), AllocError> {
-    let record = Record::new(alloc)?;
-    Ok((TestWaker::new(&record)?, record))
-}
-
-// Puts its digit behind those of the others that ran.
-fn digit<R>(digit: u64, ran: &Arc<AtomicU64>) -> Result<Job<R>, AllocError> {
-    Ok(Job::Digit(digit, Arc::try_clone(ran)?))
 }
 
 // The counts of a shard: how many sleep in it, and how many runners it has.
@@ -194,8 +134,35 @@ fn a_run_that_sleeps_hears_every_shard(rt: HostRuntime) -> Result<(), Fail> {
     Ok(())
 }
 
-// Two runs sleep, the one of the first shard last. A task of the first shard wakes one of the second: while it
-// is polled, the other run has to be woken. Gives how often that one was woken by then.
+// How many of twenty tasks of another shard a run takes in its first polls, and how often it is woken by
+// then.
+fn taken_of_another<R: Wait + AllocGlobal + Clone + Drop + Send + Sync>(
+    rt: &R,
+) -> Result<[(usize, u64); 2], Fail> {
+    let ran = Arc::new(rt.alloc(), AtomicU64::new(0))?;
+    let ex = shards(rt, 3)?;
+    for _ in 0..20 {
+        leave(&ex, 2, digit(1, &ran)?)?;
+    }
+    let (waker, record) = waker(rt.alloc())?;
+    let mut run = run_of(&ex, 0)?;
+    let mut taken = [(0, 0); 2];
+    for poll in &mut taken {
+        let _ = run.poll(&waker);
+        // Each task that is left holds a share of the count.
+        *poll = (21 - Arc::strong_count(&ran), record.times(Moment::WakerWake));
+    }
+    Ok(taken)
+}
+
+#[test]
+fn a_run_takes_a_handful_of_another_shard(rt: HostRuntime) -> Result<(), Fail> {
+    assert_eq!(rt; taken_of_another(&rt)?, [(16, 1), (20, 2)]);
+    Ok(())
+}
+
+// Two runs sleep, the one of the first shard last. A task of the first shard wakes one of the second:
+// while it is polled, the other run has to be woken. Gives how often that one was woken by then.
 fn woken_meanwhile<R: Wait + AllocGlobal + Clone + Drop + Send + Sync>(rt: &R) -> Result<u64, Fail> {
     let alloc = rt.alloc();
     let ex = shards(rt, 2)?;
@@ -218,8 +185,9 @@ fn no_place_is_held_while_a_task_is_polled(rt: HostRuntime) -> Result<(), Fail> 
     Ok(())
 }
 
-// Two runs sleep, the one of the first shard last, and a task is spawned on each shard. That run was notified in
-// both, and has to pass one of the notices on before it runs a task. Gives how often the other was woken by then.
+// Two runs sleep, the one of the first shard last, and a task is spawned on each shard. That run was
+// notified in both, and has to pass one of the notices on before it runs a task. Gives how often the
+// other was woken by then.
 fn passed_on<R: Wait + AllocGlobal + Clone + Drop + Send + Sync>(rt: &R) -> Result<u64, Fail> {
     let alloc = rt.alloc();
     let ex = shards(rt, 2)?;
@@ -242,8 +210,8 @@ fn a_second_notice_is_passed_on_before_a_task_is_polled(rt: HostRuntime) -> Resu
     Ok(())
 }
 
-// How many tasks of the second shard ran while a run of the first had one that is never ready, and wakes itself
-// at each poll, in so many polls of the run.
+// How many tasks of the second shard ran while a run of the first had one that is never ready, and wakes
+// itself at each poll, in so many polls of the run.
 fn looked_around<R: Wait + AllocGlobal + Clone + Drop + Send + Sync>(
     rt: &R,
     polls: u64,

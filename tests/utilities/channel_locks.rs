@@ -77,6 +77,19 @@ fn while_room_wakes(rt: HostRuntime) -> Result<(), Fail> {
 }
 
 #[test]
+fn while_a_batch_wakes(rt: HostRuntime) -> Result<(), Fail> {
+    let (waker, halt) = halting(&rt, Moment::WakerWake)?;
+    let (sender, receiver) = channel(&rt, true)?;
+    let mut messages = Vec::with_capacity(rt.alloc(), 1)?;
+    let mut send = sender.send(1);
+    send.poll(&waker);
+    assert!(rt; is_used(&rt, &halt, &sender, || {
+        let _ = receiver.try_receive_many(&mut messages, 1);
+    }));
+    Ok(())
+}
+
+#[test]
 fn while_a_close_wakes(rt: HostRuntime) -> Result<(), Fail> {
     let (waker, halt) = halting(&rt, Moment::WakerWake)?;
     let (sender, receiver) = channel(&rt, false)?;

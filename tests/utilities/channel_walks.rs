@@ -15,9 +15,12 @@ type Receives<R> = Receiver<u64, TestWaker, TestWaker, R>;
 // How many futures of each side there are at once.
 const FUTURES: usize = 4;
 
-const WALKS: u64 = 60;
+const WALKS: u64 = 200;
 
-const STEPS: u64 = 300;
+const STEPS: u64 = 400;
+
+// How many messages a batch has at most.
+const BATCH: usize = 2;
 
 // One side of the model.
 #[derive(Drop)]
@@ -117,6 +120,8 @@ struct Walk<'a, R: Wait + Drop> {
     sends: Vec<Option<(Send<'a, u64, TestWaker, TestWaker, R>, u64)>>,
     receives: Vec<Option<Receive<'a, u64, TestWaker, TestWaker, R>>>,
     wakers: Vec<(TestWaker, TestWaker)>,
+    // Has room for a batch.
+    taken: Vec<u64>,
     model: Model,
     next: u64,
 }
@@ -152,6 +157,7 @@ fn new_walk<'a, R: Wait + Drop>(
         sends,
         receives,
         wakers,
+        taken: Vec::with_capacity(alloc, BATCH)?,
         model,
         next: 0,
     })
@@ -197,6 +203,20 @@ impl<R: Wait + Drop> Walk<'_, R> {
         Ok(answer == wanted)
     }
 
+    // Takes a batch of two, which are one after another in the model.
+    fn take_two(&mut self) -> Result<bool, Fail> {
+        self.taken.clear();
+        let answer = self.receiver.try_receive_many(&mut self.taken, BATCH);
+        let first = match self.model.receive(FUTURES)? {
+            Ok(first) => first,
+            Err(none) => return Ok(answer == Err(none) && self.taken.is_empty()),
+        };
+        match self.model.receive(FUTURES)? {
+            Ok(second) => Ok(answer == Ok(BATCH) && self.taken.as_slice() == [first, second].as_slice()),
+            Err(_) => Ok(answer == Ok(1) && self.taken.as_slice() == [first].as_slice()),
+        }
+    }
+
     // Gives a send up, whose message has to come back.
     fn give_up(&mut self, one: usize) -> Result<bool, Fail> {
         let Some((send, message)) = self.sends[one].take() else {
@@ -237,6 +257,7 @@ impl<R: Wait + Drop> Walk<'_, R> {
                 self.next += 1;
                 Ok(self.sender.try_send(self.next) == self.model.send(self.next, FUTURES)?)
             }
+            14 if number / 256 % 2 == 0 => self.take_two(),
             14 => Ok(self.receiver.try_receive() == self.model.receive(FUTURES)?),
             _ => Ok(number % 4_096 != 15 || self.close()),
         }

@@ -1,8 +1,9 @@
-//! Random walks over a semaphore, a mutex and an event at once, beside plain models of them.
+//! Random walks over a semaphore, a mutex, an event and a barrier at once, beside plain models of them.
 use crate::tests::support::running::record::{Moment, Record};
 use crate::tests::support::running::waker::TestWaker;
 use async_utilities::{
-    Acquire, Event, EventListener, Lock, Mutex, MutexGuard, Semaphore, SemaphoreGuard,
+    Acquire, Barrier, BarrierWait, Event, EventListener, Lock, Mutex, MutexGuard, Semaphore,
+    SemaphoreGuard,
 };
 use executor_core::task::{Future, Poll};
 use std::alloc::Global;
@@ -12,6 +13,9 @@ use std::test::Fail;
 
 // How many futures of each kind there are at once.
 const FUTURES: usize = 4;
+
+// How many a barrier is for.
+const SIZE: usize = 3;
 
 const WALKS: u64 = 200;
 
@@ -136,11 +140,55 @@ impl Told {
     }
 }
 
+// Who came to a barrier, and whose round is over.
+#[derive(Clone, Copy, PartialEq)]
+enum Stage {
+    Away,
+    Came,
+    Over,
+}
+
+#[derive(Clone, Copy)]
+struct Met {
+    stages: [Stage; FUTURES],
+    wakes: [u64; FUTURES],
+}
+
+impl Met {
+    fn new() -> Met {
+        Met { stages: [Stage::Away; FUTURES], wakes: [0; FUTURES] }
+    }
+
+    fn end_round(&mut self) {
+        for one in 0..FUTURES {
+            if self.stages[one] == Stage::Came {
+                self.stages[one] = Stage::Over;
+                self.wakes[one] += 1;
+            }
+        }
+    }
+
+    // Whether it leads, if its round is over.
+    fn poll(&mut self, one: usize) -> Option<bool> {
+        let came = self.stages.iter().filter(|stage| **stage == Stage::Came).count();
+        let is_last = self.stages[one % FUTURES] == Stage::Away && came + 1 == SIZE;
+        if is_last {
+            self.end_round();
+        } else if self.stages[one % FUTURES] != Stage::Over {
+            self.stages[one % FUTURES] = Stage::Came;
+            return None;
+        }
+        self.stages[one % FUTURES] = Stage::Away;
+        Some(is_last)
+    }
+}
+
 #[derive(Drop)]
 struct Models {
     permits: Permits,
     turns: Permits,
     told: Told,
+    met: Met,
     value: u64,
 }
 
@@ -149,12 +197,14 @@ struct Walk<R: Wait + Drop> {
     semaphore: Semaphore<TestWaker, R>,
     mutex: Mutex<u64, TestWaker, R>,
     event: Event<TestWaker, R>,
+    barrier: Barrier<TestWaker, R>,
     acquires: Vec<Option<(Acquire<TestWaker, R>, usize)>>,
     permits: Vec<SemaphoreGuard<TestWaker, R>>,
     locks: Vec<Option<Lock<u64, TestWaker, R>>>,
     guard: Option<MutexGuard<u64, TestWaker, R>>,
     listeners: Vec<Option<EventListener<TestWaker, R>>>,
-    wakers: Vec<[TestWaker; 3]>,
+    waits: Vec<Option<BarrierWait<TestWaker, R>>>,
+    wakers: Vec<[TestWaker; 4]>,
     models: Models,
 }
 
@@ -164,17 +214,20 @@ fn new_walk<R: AllocGlobal + Wait + Clone + Drop>(rt: &R, permits: usize) -> Res
         permits: Permits::new(alloc, permits),
         turns: Permits::new(alloc, 1),
         told: Told::new(alloc),
+        met: Met::new(),
         value: 0,
     };
     let mut walk = Walk {
         semaphore: Semaphore::new(rt.clone()?, alloc, permits)?,
         mutex: Mutex::new(rt.clone()?, alloc, 0)?,
         event: Event::new(rt.clone()?, alloc)?,
+        barrier: Barrier::new(rt.clone()?, alloc, SIZE)?,
         acquires: Vec::new(alloc),
         permits: Vec::new(alloc),
         locks: Vec::new(alloc),
         guard: None,
         listeners: Vec::new(alloc),
+        waits: Vec::new(alloc),
         wakers: Vec::new(alloc),
         models,
     };
@@ -183,9 +236,11 @@ fn new_walk<R: AllocGlobal + Wait + Clone + Drop>(rt: &R, permits: usize) -> Res
             TestWaker::new(&Record::new(alloc)?)?,
             TestWaker::new(&Record::new(alloc)?)?,
             TestWaker::new(&Record::new(alloc)?)?,
+            TestWaker::new(&Record::new(alloc)?)?,
         ];
         let are_made = walk.acquires.push(None).is_ok() && walk.locks.push(None).is_ok();
-        if !are_made || walk.listeners.push(None).is_err() || walk.wakers.push(wakers).is_err() {
+        let are_all = walk.listeners.push(None).is_ok() && walk.waits.push(None).is_ok();
+        if !are_made || !are_all || walk.wakers.push(wakers).is_err() {
             return Err("no memory".into());
         }
     }
@@ -273,9 +328,24 @@ impl<R: Wait + Drop> Walk<R> {
         }
     }
 
+    fn meet(&mut self, one: usize) -> Result<bool, Fail> {
+        let mut wait = match self.waits[one].take() {
+            Some(old) => old,
+            None => self.barrier.wait()?,
+        };
+        let wanted = self.models.met.poll(one);
+        match wait.poll(&self.wakers[one][3]) {
+            Poll::Ready(result) => Ok(wanted == Some(result.is_leader())),
+            Poll::Pending => {
+                self.waits[one] = Some(wait);
+                Ok(wanted.is_none())
+            }
+        }
+    }
+
     // One of each kind goes.
     fn give_up(&mut self, one: usize, kind: u64) -> bool {
-        match kind % 3 {
+        match kind % 4 {
             0 => {
                 if self.acquires[one].take().is_some() {
                     self.models.permits.leave(one);
@@ -286,9 +356,14 @@ impl<R: Wait + Drop> Walk<R> {
                     self.models.turns.leave(one);
                 }
             }
-            _ => {
+            2 => {
                 if self.listeners[one].take().is_some() {
                     self.models.told.leave(one);
+                }
+            }
+            _ => {
+                if self.waits[one].take().is_some() {
+                    self.models.met.stages[one % FUTURES] = Stage::Away;
                 }
             }
         }
@@ -296,9 +371,9 @@ impl<R: Wait + Drop> Walk<R> {
     }
 
     fn step(&mut self, number: u64) -> Result<bool, Fail> {
-        let one = (number / 16 % FUTURES as u64) as usize;
-        let count = (number / 64 % 4) as usize;
-        match number % 16 {
+        let one = (number / 20 % FUTURES as u64) as usize;
+        let count = (number / 80 % 4) as usize;
+        match number % 20 {
             0..=2 => self.acquire(one, count.max(1)),
             3 => Ok(self.try_acquire(count.max(1))),
             4 | 5 => Ok(self.give_back()),
@@ -307,18 +382,20 @@ impl<R: Wait + Drop> Walk<R> {
             10..=12 => self.listen(one),
             13 => Ok(self.event.notify(count) == self.models.told.notify(count)),
             14 => Ok(self.event.notify_additional(count) == self.models.told.tell(count)),
+            15..=18 => self.meet(one),
             _ if count == 0 => Ok(self.event.notify_all() == self.models.told.tell(FUTURES)),
-            _ => Ok(self.give_up(one, number / 256)),
+            _ => Ok(self.give_up(one, number / 320)),
         }
     }
 
     // Whether each was woken as often as in its model.
     fn is_told(&self) -> bool {
         let is_right = self.wakers.iter().enumerate().all(|(one, wakers)| {
-            let wakes = |kind: usize| wakers[kind % 3].record().times(Moment::WakerWake);
+            let wakes = |kind: usize| wakers[kind % 4].record().times(Moment::WakerWake);
             wakes(0) == self.models.permits.wakes[one % FUTURES]
                 && wakes(1) == self.models.turns.wakes[one % FUTURES]
                 && wakes(2) == self.models.told.wakes[one % FUTURES]
+                && wakes(3) == self.models.met.wakes[one % FUTURES]
         });
         is_right && self.semaphore.permits() == self.models.permits.left
     }

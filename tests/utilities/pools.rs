@@ -1,11 +1,68 @@
-//! Threads that run the tasks of one executor.
+//! Threads that run the tasks of one executor: of one queue, and of shards.
+use crate::tests::support::running::halt::TURNS;
 use crate::tests::support::running::record::{AtDrop, Moment, Record};
 use crate::tests::support::running::refusal::{MOST, is_order_left, refuse};
-use async_executor::{Future, Poll, Wake};
-use async_utilities::{JoinAll, Pool, PoolError, block_on};
-use std::sync::Wait;
+use async_executor::{Future, Poll, SpawnError, Task, TaskWaker, Wake};
+use async_utilities::{JoinAll, Pool, PoolError, ThreadWaker, block_on};
+use pools::ShardedPool;
+use std::sync::atomic::{AtomicU64, Ordering};
+use std::sync::{Arc, Wait};
 use std::test::Fail;
-use std::thread::Threads;
+use std::thread::{Threads, yield_now};
+
+type Ended = Result<(), PoolError>;
+
+// A pool of any kind, of so many threads.
+trait Kind<F, R>: Sized + Drop
+where
+    F: Future<TaskWaker<ThreadWaker, R>> + Send + 'static,
+    F::Output: Send + 'static,
+    R: Wait + Threads + Clone + Drop + Send + Sync + AllocGlobal + 'static,
+{
+    fn start(rt: &R, count: usize) -> Result<Self, PoolError>;
+
+    fn spawn(&self, future: F) -> Result<Task<F, ThreadWaker, R>, SpawnError<F>>;
+
+    fn end(self) -> Vec<Ended>;
+}
+
+impl<F, R> Kind<F, R> for Pool<F, R>
+where
+    F: Future<TaskWaker<ThreadWaker, R>> + Send + 'static,
+    F::Output: Send + 'static,
+    R: Wait + Threads + Clone + Drop + Send + Sync + AllocGlobal + 'static,
+{
+    fn start(rt: &R, count: usize) -> Result<Self, PoolError> {
+        Pool::new(rt.clone()?, rt.alloc(), count)
+    }
+
+    fn spawn(&self, future: F) -> Result<Task<F, ThreadWaker, R>, SpawnError<F>> {
+        self.executor().spawn(future)
+    }
+
+    fn end(self) -> Vec<Ended> {
+        self.join()
+    }
+}
+
+impl<F, R> Kind<F, R> for ShardedPool<F, R>
+where
+    F: Future<TaskWaker<ThreadWaker, R>> + Send + 'static,
+    F::Output: Send + 'static,
+    R: Wait + Threads + Clone + Drop + Send + Sync + AllocGlobal + 'static,
+{
+    fn start(rt: &R, count: usize) -> Result<Self, PoolError> {
+        ShardedPool::new(rt.clone()?, rt.alloc(), count.max(1))
+    }
+
+    fn spawn(&self, future: F) -> Result<Task<F, ThreadWaker, R>, SpawnError<F>> {
+        self.executor().spawn(future)
+    }
+
+    fn end(self) -> Vec<Ended> {
+        self.join()
+    }
+}
 
 // Gives its number at its second poll, for which it asks.
 #[derive(Drop)]
@@ -29,18 +86,19 @@ impl<W: Wake> Future<W> for Gives {
 
 // Sums a thousand tasks on so many threads, and joins these. Gives the sum, and how many of the threads
 // ended well.
-fn sums<R: AllocGlobal + Wait + Threads + Clone + Drop + Send + Sync + 'static>(
-    rt: &R,
-    count: usize,
-) -> Result<(u64, usize), Fail> {
-    let pool: Pool<Gives, R> = Pool::new(rt.clone()?, rt.alloc(), count)?;
+fn sums<P, R>(rt: &R, count: usize) -> Result<(u64, usize), Fail>
+where
+    P: Kind<Gives, R>,
+    R: AllocGlobal + Wait + Threads + Clone + Drop + Send + Sync + 'static,
+{
+    let pool = P::start(rt, count)?;
     let mut tasks = Vec::new(rt.alloc());
-    let futures = (0..1000).map(|number| Gives {
-        number,
-        is_polled: false,
-    });
-    if pool.executor().spawn_many(futures, &mut tasks).is_err() {
-        return Err("no memory for the tasks".into());
+    for number in 0..1000 {
+        let future = Gives {
+            number,
+            is_polled: false,
+        };
+        tasks.push(pool.spawn(future).ok().ok_or("no memory for a task")?)?;
     }
     let Ok(all) = JoinAll::new(rt.alloc(), tasks) else {
         return Err("no memory for the outputs".into());
@@ -49,33 +107,84 @@ fn sums<R: AllocGlobal + Wait + Threads + Clone + Drop + Send + Sync + 'static>(
     for output in block_on(rt, rt.alloc(), all)? {
         sum = sum.saturating_add(output?);
     }
-    let ended = pool.join();
+    let ended = pool.end();
     Ok((sum, ended.iter().filter(|one| one.is_ok()).count()))
 }
 
 #[test]
 fn a_pool_runs_all_tasks(rt: HostRuntime) -> Result<(), Fail> {
     for count in [1, 2, 4] {
-        assert_eq!(rt; sums(&rt, count)?, (499500, count));
+        assert_eq!(rt; sums::<Pool<Gives, _>, _>(&rt, count)?, (499500, count));
+        assert_eq!(rt; sums::<ShardedPool<Gives, _>, _>(&rt, count)?, (499500, count));
     }
     Ok(())
 }
 
-// Drops a pool whose threads sleep.
-fn drops<R: AllocGlobal + Wait + Threads + Clone + Drop + Send + Sync + 'static>(
-    rt: &R,
-) -> Result<(), Fail> {
-    let pool: Pool<Gives, R> = Pool::new(rt.clone()?, rt.alloc(), 3)?;
-    drop(pool);
+// Ready once so many are polled at the same time, each by a thread of its own.
+#[derive(Drop)]
+struct Meets {
+    count: Arc<AtomicU64>,
+    all: u64,
+}
+
+impl<W> Future<W> for Meets {
+    type Output = ();
+
+    fn poll(&mut self, _w: &W) -> Poll<()> {
+        self.count.fetch_add(1, Ordering::SeqCst);
+        for _ in 0..TURNS {
+            if self.count.load(Ordering::SeqCst) >= self.all {
+                break;
+            }
+            yield_now();
+        }
+        Poll::Ready(())
+    }
+}
+
+// Has each of three threads, of as many shards, run a task at the same time, so all of them have begun. Says
+// whether each has its queue in a shard of its own.
+fn has_one_in_each<R>(rt: &R) -> Result<bool, Fail>
+where
+    R: AllocGlobal + Wait + Threads + Clone + Drop + Send + Sync + 'static,
+{
+    let pool: ShardedPool<Meets, R> = ShardedPool::new(rt.clone()?, rt.alloc(), 3)?;
+    let count = Arc::new(rt.alloc(), AtomicU64::new(0))?;
+    let mut tasks = Vec::new(rt.alloc());
+    for _ in 0..3 {
+        let count = Arc::try_clone(&count)?;
+        let task = pool.executor().spawn(Meets { count, all: 3 });
+        tasks.push(task.ok().ok_or("no memory for a task")?)?;
+    }
+    for task in tasks {
+        block_on(rt, rt.alloc(), task)??;
+    }
+    let text = format!(in rt.alloc(); "{:?}", pool.executor())?;
+    Ok(text.as_str().matches("local_runners: [0]").count() == 3)
+}
+
+#[test]
+fn each_thread_drives_a_shard(rt: HostRuntime) -> Result<(), Fail> {
+    assert!(rt; has_one_in_each(&rt)?);
+    Ok(())
+}
+
+// Starts pools whose threads sleep, and drops each.
+fn starts_and_drops<P, R>(rt: &R) -> Result<(), Fail>
+where
+    P: Kind<Gives, R>,
+    R: AllocGlobal + Wait + Threads + Clone + Drop + Send + Sync + 'static,
+{
+    for _ in 0..50 {
+        drop(P::start(rt, 3)?);
+    }
     Ok(())
 }
 
 #[test]
 fn the_drop_of_a_pool_stops_its_threads(rt: HostRuntime) -> Result<(), Fail> {
-    for _ in 0..50 {
-        drops(&rt)?;
-    }
-    Ok(())
+    starts_and_drops::<Pool<Gives, _>, _>(&rt)?;
+    starts_and_drops::<ShardedPool<Gives, _>, _>(&rt)
 }
 
 // Never ready. Its drop is counted.
@@ -94,21 +203,19 @@ impl<W> Future<W> for Stays {
 
 // Drops a pool, or joins it, that has a task which is never ready. Gives how often its future was dropped
 // by then.
-fn leaves<R: AllocGlobal + Wait + Threads + Clone + Drop + Send + Sync + 'static>(
-    rt: &R,
-    joins: bool,
-) -> Result<u64, Fail> {
+fn leaves<P, R>(rt: &R, joins: bool) -> Result<u64, Fail>
+where
+    P: Kind<Stays, R>,
+    R: AllocGlobal + Wait + Threads + Clone + Drop + Send + Sync + 'static,
+{
     let record = Record::new(rt.alloc())?;
-    let pool: Pool<Stays, R> = Pool::new(rt.clone()?, rt.alloc(), 2)?;
+    let pool = P::start(rt, 2)?;
     let stays = Stays {
         _drop: AtDrop::new(record.share()?, Moment::FutureDrop),
     };
-    match pool.executor().spawn(stays) {
-        Ok(task) => task.detach(),
-        Err(_) => return Err("no memory for a task".into()),
-    }
+    pool.spawn(stays).ok().ok_or("no memory for a task")?.detach();
     if joins {
-        drop(pool.join());
+        drop(pool.end());
     } else {
         drop(pool);
     }
@@ -117,40 +224,58 @@ fn leaves<R: AllocGlobal + Wait + Threads + Clone + Drop + Send + Sync + 'static
 
 #[test]
 fn a_pool_that_goes_drops_the_tasks_that_are_left(rt: HostRuntime) -> Result<(), Fail> {
-    assert_eq!(rt; leaves(&rt, true)?, 1);
-    assert_eq!(rt; leaves(&rt, false)?, 1);
+    for joins in [true, false] {
+        assert_eq!(rt; leaves::<Pool<Stays, _>, _>(&rt, joins)?, 1);
+        assert_eq!(rt; leaves::<ShardedPool<Stays, _>, _>(&rt, joins)?, 1);
+    }
     Ok(())
 }
 
-// A thread requests memory at least so often, after all that its start takes.
-const OWN_REQUESTS: usize = 4;
-
 // Makes a pool of one thread with this request refused, and stops it. Says whether the refusal was an
 // answer of `new`, or none was met.
-fn begins_or_is_refused<R: AllocGlobal + Wait + Threads + Clone + Drop + Send + Sync + 'static>(
-    rt: &R,
-    request: usize,
-) -> Result<bool, Fail> {
+fn begins_or_is_refused<P, R>(rt: &R, request: usize) -> bool
+where
+    P: Kind<Gives, R>,
+    R: AllocGlobal + Wait + Threads + Clone + Drop + Send + Sync + 'static,
+{
     refuse(rt.alloc(), request);
-    let made: Result<Pool<Gives, R>, PoolError> = Pool::new(rt.clone()?, rt.alloc(), 1);
-    match made {
-        Ok(pool) => Ok(pool.join().iter().all(|ended| ended.is_ok())),
-        Err(error) => Ok(error == PoolError::OutOfMemory),
+    match P::start(rt, 1) {
+        Ok(pool) => pool.end().iter().all(|ended| ended.is_ok()),
+        Err(error) => error == PoolError::OutOfMemory,
     }
 }
 
-// From the last request on, since the sanitizer cannot do without those that start a thread.
-#[test]
-fn a_pool_is_refused_with_its_thread(rt: HostRuntime) -> Result<(), Fail> {
+// Refuses the last requests that the making of a pool makes, so many and each in turn, which are those of its
+// thread: the sanitizer cannot do without those that start a thread. Says whether each was answered as it
+// should be.
+fn is_refused_with_its_thread<P, R>(rt: &R, own_requests: usize) -> bool
+where
+    P: Kind<Gives, R>,
+    R: AllocGlobal + Wait + Threads + Clone + Drop + Send + Sync + 'static,
+{
     let mut refused = 0;
     for request in (1..=MOST).rev() {
-        assert!(rt; begins_or_is_refused(&rt, request)?);
+        if !begins_or_is_refused::<P, R>(rt, request) {
+            return false;
+        }
         if !is_order_left(rt.alloc()) {
             refused += 1;
         }
-        if refused == OWN_REQUESTS {
-            return Ok(());
+        if refused == own_requests {
+            return true;
         }
     }
-    Err("no pool is refused".into())
+    false
+}
+
+#[test]
+fn a_pool_is_refused_with_its_thread(rt: HostRuntime) -> Result<(), Fail> {
+    assert!(rt; is_refused_with_its_thread::<Pool<Gives, _>, _>(&rt, 4));
+    Ok(())
+}
+
+#[test]
+fn a_pool_of_shards_is_refused_with_its_thread(rt: HostRuntime) -> Result<(), Fail> {
+    assert!(rt; is_refused_with_its_thread::<ShardedPool<Gives, _>, _>(&rt, 7));
+    Ok(())
 }

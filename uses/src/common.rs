@@ -1,7 +1,9 @@
 //! Steps that many callers share.
 use crate::futures::Sum;
 use async_executor::{Cancelled, Executor, Future, Poll, Run, Task, TaskWaker, Wake};
+use async_utilities::{JoinAll, ThreadWaker, block_on};
 use std::alloc::Global;
+use std::io;
 use std::sync::Wait;
 
 /// An executor that has no task yet.
@@ -80,4 +82,17 @@ where
 pub fn added(outputs: Option<(u64, u64)>) -> Option<u64> {
     let (first, second) = outputs?;
     first.checked_add(second)
+}
+
+/// Awaits these tasks, and adds their outputs.
+pub fn total_of<R: Wait + Clone + Drop + Send + Sync>(
+    rt: &R,
+    alloc: Global,
+    tasks: Vec<Task<Sum, ThreadWaker, R>>,
+) -> io::Result<u64> {
+    let mut total = 0u64;
+    for output in block_on(rt, alloc, JoinAll::new(alloc, tasks)?)? {
+        total = total.saturating_add(output?);
+    }
+    Ok(total)
 }

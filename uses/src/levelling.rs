@@ -1,13 +1,25 @@
-//! Two threads that run the tasks of all levels of urgency, each by one tick after another.
+//! Threads that run the tasks of all levels of urgency: one that awaits two tasks meanwhile, and two that
+//! each poll one tick after another.
 use crate::common::added;
 use async_executor::{Future, Poll};
 use async_utilities::{Ready, Signal, ThreadWaker, Waiting, Zip, block_on, poll_until_ready};
 use priority_executor::PriorityExecutor;
 use std::alloc::Global;
+use std::io;
 use std::sync::Wait;
 use std::thread::{self, Threads};
 
 type Levels<R> = PriorityExecutor<Ready<u64>, ThreadWaker, R, 2>;
+
+/// Runs the tasks of two levels on this thread, which awaits one of each, and adds what they give.
+pub fn runs_levels<R: Wait + Clone + Drop + Send + Sync>(rt: &R, alloc: Global) -> io::Result<u64> {
+    let executor: Levels<R> = PriorityExecutor::new(rt.clone()?, alloc)?;
+    let later = executor.spawn(1, Ready::new(1))?;
+    let urgent = executor.spawn(0, Ready::new(2))?;
+    let run = executor.run(Zip::new(later, urgent))?;
+    let (one, two) = block_on(rt, alloc, run)?;
+    Ok(one?.saturating_add(two?))
+}
 
 type Stopped<R> = Waiting<ThreadWaker, R>;
 

@@ -55,20 +55,22 @@ pub use fanning::fans_out;
 pub use handling::{cancels, cancels_half_way, detaches, drops, falls_back, lets_go};
 pub use interleaving::interleaves;
 pub use lasting::{keeps, lasts, prints, serves};
-pub use levelling::serves_levels;
+pub use levelling::{runs_levels, serves_levels};
 pub use limiting::keeps_turns;
 pub use locking::{hears, makes_once, meets, takes_permits, takes_turns};
-pub use messaging::{closes_a_channel, gives_up, runs_here, sends_to_a_task, tries};
+pub use messaging::{
+    closes_a_channel, gives_up, runs_here, sends_to_a_task, takes_many, tries,
+};
 pub use mixing::{boxes, mixes};
 pub use nesting::nests;
 pub use parking::{dozes, parks};
-pub use pooling::{joins, pools};
+pub use pooling::{joins, limits_a_pool, pools};
 pub use priorities::{accepts, overtakes, prefers};
 pub use reading::reads;
 pub use receiving::{receives, send};
 pub use requesting::requests_tasks;
 pub use running::{closes, empties, runs, spawns_many};
-pub use sharding::{empties_shards, serves_two, shards};
+pub use sharding::{empties_shards, serves_two, shards, sums_on_shards};
 pub use simulating::simulates;
 pub use staying::{clears, gathers, local_executor, naps, releases, stays};
 pub use telling::tells;

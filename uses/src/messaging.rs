@@ -105,6 +105,28 @@ pub fn tries<R: Wait + Clone + Drop>(
     Some((unsent, message, none))
 }
 
+/// Sends four messages, and takes three of them at once and then the last one. Gives how many came by each
+/// call, their sum, and why no more did.
+pub fn takes_many<R: Wait + Clone + Drop>(
+    rt: &R,
+    alloc: Global,
+) -> Option<([usize; 2], u32, NoMessage)> {
+    let right = rt.clone().ok()?;
+    let (sender, receiver) = bounded::<u32, NoopWaker, NoopWaker, R>(right, alloc, 4).ok()?;
+    for number in 1..5 {
+        sender.try_send(number).ok()?;
+    }
+    let mut messages = Vec::with_capacity(alloc, 8).ok()?;
+    let count = receiver.try_receive_many(&mut messages, 3).ok()?;
+    let rest = receiver.try_receive_many(&mut messages, 3).ok()?;
+    let none = receiver.try_receive_many(&mut messages, 3).err()?;
+    let mut sum = 0u32;
+    for message in messages {
+        sum = sum.saturating_add(message);
+    }
+    Some(([count, rest], sum, none))
+}
+
 /// Closes a channel with a message inside. Gives what its ends say of it before, whether they say that
 /// it is closed then, and what comes out.
 pub fn closes_a_channel<R: Wait + Clone + Drop>(

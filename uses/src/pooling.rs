@@ -1,9 +1,12 @@
 //! Threads that run the tasks of one executor, each by a run, until they are told to stop.
-use crate::common::{added, executor, two_tasks};
+use crate::common::{added, executor, total_of, two_tasks};
 use crate::futures::Sum;
-use async_executor::{Executor, Run};
-use async_utilities::{JoinAll, Pool, Signal, ThreadWaker, Waiting, Zip, block_on};
+use async_executor::{Executor, Limits, Run};
+use async_utilities::{
+    Done, Driven, JoinAll, Pool, PoolError, PoolOf, PoolThread, Signal, ThreadWaker, Waiting, Zip, block_on,
+};
 use std::alloc::Global;
+use std::io;
 use std::sync::Wait;
 use std::thread::{self, Threads};
 
@@ -76,4 +79,42 @@ pub fn joins<R: Wait + Threads + Clone + Drop + Send + Sync + 'static>(
         total = total.checked_add(output.ok()?)?;
     }
     Some(total)
+}
+
+/// An executor with limits of its own, which each thread of a pool drives.
+#[derive(Drop)]
+struct Limited<R: Wait + Clone + Drop> {
+    executor: Workers<R>,
+}
+
+impl<R: Wait + Clone + Drop> Driven<R> for Limited<R> {
+    fn drive(
+        &self,
+        _number: usize,
+        stopped: Waiting<ThreadWaker, R>,
+        thread: PoolThread<'_, R>,
+    ) -> Result<Done, PoolError> {
+        thread.until_ready(self.executor.run(stopped)?)
+    }
+}
+
+/// Has a pool of two threads run tasks in turns of eight, and adds what twenty of them give.
+pub fn limits_a_pool<R: Wait + Threads + Clone + Drop + Send + Sync + 'static>(
+    rt: &R,
+    alloc: Global,
+) -> io::Result<u64> {
+    let limits = Limits {
+        turn: 8,
+        ..Limits::default()
+    };
+    let executor = Executor::new_with(rt.clone()?, alloc, limits)?;
+    let pool = PoolOf::new(rt.clone()?, alloc, 2, Limited { executor })?;
+    let mut tasks = Vec::new(alloc);
+    let sums = (0..20).map(|number| Sum::of(number, 1));
+    pool.executor().executor.spawn_many(sums, &mut tasks)?;
+    let total = total_of(rt, alloc, tasks)?;
+    for ended in pool.join() {
+        ended?;
+    }
+    Ok(total)
 }

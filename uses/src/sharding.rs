@@ -1,12 +1,33 @@
-//! An executor with shards on as many threads, and one who serves two executors by himself.
-use crate::common::added;
+//! An executor with shards on as many threads, by a pool and by threads of one's own, and one who serves two
+//! executors by himself.
+use crate::common::{added, total_of};
 use crate::futures::{Nobody, Sum};
 use async_executor::{Executor, Limits};
 use async_utilities::{Signal, ThreadWaker, Waiting, Zip, block_on};
+use pools::ShardedPool;
 use sharded_executor::{ShardedExecutor, ShardedRun};
 use std::alloc::Global;
+use std::io;
 use std::sync::Wait;
 use std::thread::{self, Threads};
+
+/// Has a pool of four threads run a task for each number below 1,000, spread over four shards, and adds their
+/// outputs.
+pub fn sums_on_shards<R: Wait + Threads + Clone + Drop + Send + Sync + 'static>(
+    rt: &R,
+    alloc: Global,
+) -> io::Result<u64> {
+    let pool: ShardedPool<Sum, R> = ShardedPool::new(rt.clone()?, alloc, 4)?;
+    let mut tasks = Vec::new(alloc);
+    for number in 0..1000 {
+        tasks.push(pool.executor().spawn(Sum::of(number, 1))?)?;
+    }
+    let total = total_of(rt, alloc, tasks)?;
+    for ended in pool.join() {
+        ended?;
+    }
+    Ok(total)
+}
 
 type Shards<R> = ShardedExecutor<Sum, ThreadWaker, R>;
 

@@ -22,8 +22,8 @@ use Rattle.async_executor.specs.declared.machine.steps.StoringRemoved.{StoringRe
 use Rattle.async_executor.specs.declared.machine.steps.Updating.{Updating}
 use Rattle.async_executor.specs.declared.machine.steps.Went.{Went}
 use Rattle.async_executor.specs.declared.machine.steps.Went.TheVariants as goes
-use Rattle.async_executor.specs.declared.ticker.tick.Slept.{Slept}
-use Rattle.async_executor.specs.declared.ticker.tick.Slept.TheVariants.{Again, Rested}
+use Rattle.async_executor.specs.declared.sleeping.Slept.{Slept}
+use Rattle.async_executor.specs.declared.sleeping.Slept.TheVariants.{Again, Rested}
 
 module _ {A : Type 0} where
   -- one that is awake spends the task's notice, and another one keeps it and removes its number first

@@ -27,6 +27,7 @@ pub(crate) mod poller;
 pub mod runner;
 pub(crate) mod scheduler;
 pub(crate) mod sleeper;
+pub(crate) mod sleeping;
 pub(crate) mod state;
 pub mod static_executors;
 pub(crate) mod store;

@@ -67,7 +67,8 @@ fn insert<W: Wake, R: Wait + Clone + Drop>(
 impl<'a, H: Home> SleeperIn<'a, H> {
     /// One that is awake. It has a reserved place among the sleepers.
     pub(crate) fn new(executor: &'a ExecutorIn<H>) -> SleeperIn<'a, H>
-        ensures { result.number ≡ None }
+        ensures awake { result.number ≡ None }
+        ensures own { result.executor.now ≡ executor.now }
     {
         SleeperIn {
             executor,
@@ -117,7 +118,7 @@ impl<H: Home> SleeperIn<'_, H> {
         true
     }
 
-    // What it owes a search for.
+    // What the sleeper owes a search for.
     fn take_again(&mut self) -> Option<Again>
         ensures number { self.new.number ≡ self.old.number }
         ensures spent { self.new.notice ≡ None }

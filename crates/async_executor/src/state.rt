@@ -95,7 +95,7 @@ impl<W, R> ExecutorState<W, R> {
         self.flag.exchange(notice)
     }
 
-    /// Stores the flag for a change of the list of sleepers, under the lock under which it was
+    /// Stores the flag of this state for a change of the list of sleepers, under the lock under which it was
     /// changed, and gives what else the change carries.
     pub(crate) fn store<X>(&self, change: Change<X>, sleepers: &mut Sleepers<W>) -> X
         ensures list { sleepers.new ≡ closed sleepers.old }

@@ -26,4 +26,4 @@
 mod tick;
 
 pub use crate::machine::{TickAction, TickEnd, TickMachine, TickNext, TickReply, TickRest};
-pub(crate) use tick::{Slept, TickIn, announce_found, leave, sleep};
+pub(crate) use tick::TickIn;

@@ -1,9 +1,11 @@
 -- What each call under the lock of a channel does.
-use Rattle.std.specs.Prelude.{ℕ, ◌≡◌, ◌≤◌, ◌<◌, ◌+◌, ◌-◌, Option, None, Some, Result, Ok, Err, Bool, true, false, IsTrue, List, [], ◌∷◌, ◌++◌, length}
+use Rattle.std.specs.Prelude.{ℕ, ◌≡◌, ◌≤◌, ◌<◌, ◌+◌, ◌-◌, Option, None, Some, Result, Ok, Err, Bool, true, false, IsTrue, List, [], ◌∷◌, ◌++◌, ◌⊎◌, length, take}
 use Rattle.std.specs.VecDeque.{deque_capacity}
 use Rattle.async_utilities.specs.Channels.{AreGone}
 use Rattle.async_utilities.specs.WaitQueue.{Enters, Leaves, Notifies, Stays, Waiters}
+use Rattle.async_utilities.specs.declared.channels.state.Batch.{Batch}
 use Rattle.async_utilities.specs.declared.channels.state.Closing.{Closing}
+use Rattle.async_utilities.specs.declared.due.Due.TheVariants.{Nobody}
 use Rattle.async_utilities.specs.declared.due.Left.{Left}
 use Rattle.async_utilities.specs.declared.channels.state.State.{State}
 use Rattle.async_utilities.specs.declared.channels.state.Sent.{Sent}
@@ -44,6 +46,17 @@ module _ {T S V : Type 0} where
   Receives old (receives.Message message due) new =
       (old.messages.items ≡ message ∷ new.messages.items) × SameEnds old new × (new.receivers.waiters ≡ old.receivers.waiters)
       × Notifies old.senders.waiters (old.capacity - length new.messages.items) due new.senders.waiters
+
+  -- So many messages are taken at most, the first one first, and stand behind the others, which stay:
+  -- all that are there, unless a sender is due.
+  pub record ReceivesMany (old : State T S V) (list : List T) (limit : ℕ) (batch : Batch S) (list' : List T) (new : State T S V) : Type 0 where
+    pub moved : list' ++ new.messages.items ≡ list ++ old.messages.items
+    pub count : length list' ≡ length list + batch.count
+    pub front : take (length list) list' ≡ list
+    pub most : batch.count ≤ limit
+    pub all : batch.due ≡ Nobody → (batch.count ≡ limit) ⊎ (new.messages.items ≡ [])
+    pub ends : SameEnds old new
+    pub receivers : new.receivers.waiters ≡ old.receivers.waiters
 
   -- a sender waits, if there is no room
   abbrev pub WaitsToSend : State T S V → Option ℕ → S → Result (ℕ × Option S) S → State T S V → Type 0

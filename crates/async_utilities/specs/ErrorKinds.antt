@@ -2,6 +2,8 @@
 use Rattle.std.specs.IoError.{error_kind}
 use Rattle.std.specs.declared.io.ErrorKind.{ErrorKind}
 use Rattle.std.specs.declared.io.ErrorKind.TheVariants as kind
+use Rattle.executor_core.specs.declared.queue.runner.RunnerError.{RunnerError}
+use Rattle.executor_core.specs.declared.queue.runner.RunnerError.TheVariants as runner
 use Rattle.async_utilities.specs.declared.pooling.PoolError.{PoolError}
 use Rattle.async_utilities.specs.declared.pooling.PoolError.TheVariants as pool
 use Rattle.async_utilities.specs.declared.timers.error.TimerError.{TimerError}
@@ -10,6 +12,11 @@ use Rattle.async_utilities.specs.declared.channels.sender.Unsent.{Unsent}
 use Rattle.async_utilities.specs.declared.channels.sender.Unsent.TheVariants as unsent
 use Rattle.async_utilities.specs.declared.channels.receiver.NoMessage.{NoMessage}
 use Rattle.async_utilities.specs.declared.channels.receiver.NoMessage.TheVariants as none
+
+-- why there is no pool, if a run was refused
+abbrev pub run_refusal : RunnerError → PoolError
+run_refusal runner.OutOfMemory = pool.OutOfMemory
+run_refusal runner.Exhausted = pool.Exhausted
 
 -- why there is no pool
 abbrev pub pool_kind : PoolError → ErrorKind

@@ -1,7 +1,9 @@
+pub mod Barriers
 pub mod ChannelSteps
 pub mod Channels
 pub mod Deadlines
 pub mod ErrorKinds
+pub mod Events
 pub mod Halves
 pub mod Joins
 pub mod Links

@@ -34,7 +34,7 @@ pub use locks::{
     MutexGuard, OnceCell, OnceInit, Semaphore, SemaphoreGuard, TooManyPermits, Unavailable,
 };
 pub use noop::NoopWaker;
-pub use pooling::{Pool, PoolError};
+pub use pooling::{Done, Driven, Pool, PoolError, PoolOf, PoolThread};
 pub use signals::{Signal, Waiting};
 pub use spawning::{JobLimits, Jobs, MakeTask, Server, Spawner, servers};
 pub use timers::{

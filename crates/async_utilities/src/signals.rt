@@ -217,7 +217,10 @@ pub struct Waiting<W: Wake, R: Wait + Drop> {
 impl<W: Wake, R: Wait + Drop> Future<W> for Waiting<W, R> {
     type Output = ();
 
-    fn poll(&mut self, w: &W) -> Poll<()> {
+    fn poll(&mut self, w: &W) -> Poll<()>
+        ensures place { self.new.place ≡ self.old.place }
+        ensures same { arc_value self.new.shared ≡ arc_value self.old.shared }
+    {
         if self.shared.state().is_set {
             return Poll::Ready(());
         }

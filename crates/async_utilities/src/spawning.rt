@@ -217,7 +217,7 @@ where
         }
     }
 
-    // Polls the task that is under way, and says whether it ended.
+    // Polls the task that the server has under way, and says whether it ended.
     fn poll_task(&mut self, w: &PoolWaker<R>) -> bool
         ensures ended { IsTrue result → self.new.task ≡ None }
         ensures job { self.new.unmade ≡ self.old.unmade }

@@ -38,7 +38,6 @@ pub trait Job: Drop {
 #[derive(Drop)]
 pub struct Work<J: Job, V: Wake, R: Wait + Drop> {
     job: Option<J>,
-    // A channel, so that wakers of any type V await it: those who await a handle are the threads' wakers.
     answers: Sender<J::Output, NoopWaker, V, R>,
 }
 
@@ -121,10 +120,12 @@ where
     pub fn unblock(&self, job: J) -> Result<Answer<J::Output, V, R>, AllocFailed<J>>
         ensures refused { IfErr result (λ failed. failed.value ≡ job) }
     {
-        let Ok(rt) = self.rt.clone() else {
+        let Ok(rt) = self.inner.rt.clone() else {
             return Err(AllocFailed { value: job });
         };
-        let Ok((sender, answers)) = bounded(rt, self.alloc, 1) else {
+        // A channel, so that wakers of any type await it: those who await a handle are the threads'
+        // wakers.
+        let Ok((sender, answers)) = bounded(rt, self.inner.alloc, 1) else {
             return Err(AllocFailed { value: job });
         };
         let work = Work {

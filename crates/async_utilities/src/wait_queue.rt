@@ -83,7 +83,7 @@ impl<W> WaitQueue<W> {
         self.order.is_empty()
     }
 
-    /// How many were notified and have not come yet.
+    /// How many of the queue were notified, and have not come yet.
     pub(crate) fn notified(&self) -> usize
         ensures { result ≡ self.now.notified }
     {

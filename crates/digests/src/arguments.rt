@@ -153,7 +153,7 @@ impl<'a, R: System> Words<'a, R> {
         }
     }
 
-    /// The next word, unless there is none.
+    /// The next argument of the command line, unless there is none.
     ///
     /// # Errors
     ///

@@ -1,11 +1,15 @@
 //! An executor for each level of urgency.
-ghost use Rattle.std.specs.Prelude.{◌≡◌, ◌<◌, ◌-◌, ◌^◌, None, false, IfOk, IfErr, IsSomeAnd, All, length, vec_len};
+ghost use Rattle.std.specs.Prelude.{◌≡◌, ◌<◌, ◌-◌, ◌^◌, None, false, IfOk, IfErr, IsSomeAnd, All, length, map, vec_len};
 ghost use Rattle.executor_core.specs.SpawnError.{refused_future};
+ghost use Rattle.async_executor.specs.declared.runner.run.RunError.TheVariants as RunError;
 
 use crate::answers::Answers;
 use crate::asker::{Asker, choose};
+use crate::run::{Going, PriorityRun};
 use crate::tick::{LevelSleepers, PriorityTick};
-use async_executor::{Executor, Future, OutOfMemory, SpawnError, Task, TaskWaker, Wake};
+use async_executor::{
+    Executor, Future, OutOfMemory, RunError, Sleeper, SpawnError, Task, TaskWaker, Wake,
+};
 use std::alloc::Global;
 use std::sync::Wait;
 
@@ -15,7 +19,7 @@ use std::sync::Wait;
 /// were scheduled, and a task stays in its level. While a task of a level is scheduled, none of a
 /// higher level is run: tasks that wake themselves again and again starve all above them.
 ///
-/// It has no `run` and no Debug. The Rust crate has no such type: there, a program writes its own.
+/// It has no Debug. The Rust crate has no such type: there, a program writes its own.
 ///
 /// Example: `uses::overtakes`, `uses::accepts`.
 ///
@@ -143,16 +147,60 @@ where
     /// }
     /// ```
     pub fn tick(&self) -> Result<PriorityTick<'_, F, W, R, N>, OutOfMemory>
-        ensures { IfOk result (λ tick. IsSomeAnd tick.sleepers (λ sleepers. All (λ s. s.inner.number ≡ None) sleepers.levels.items)) }
+        ensures awake { IfOk result (λ tick. IsSomeAnd tick.sleepers (λ own. All (λ s. s.inner.number ≡ None) own.levels.items)) }
+        ensures own { IfOk result (λ tick. IsSomeAnd tick.sleepers (λ own.
+            map (λ s. s.inner.executor.now) own.levels.items ≡ map (λ level. level.inner) self.now.levels.items)) }
+    {
+        let sleepers = self.sleepers()?;
+        Ok(PriorityTick {
+            sleepers: Some(sleepers),
+        })
+    }
+
+    /// A future that runs tasks beside this one, each of the lowest level that has one scheduled then, and
+    /// ends with its output. It has a sleeper of each level, whose places are reserved here, and given back
+    /// once it has ended or was dropped.
+    ///
+    /// # Errors
+    ///
+    /// `OutOfMemory` with the future, if memory for a sleeper is refused. All is as before.
+    ///
+    /// Example: `uses::runs_levels`.
+    ///
+    /// ```text
+    /// let run = executor.run(Zip::new(later, urgent))?;
+    /// ```
+    pub fn run<G: Future<W>>(
+        &self,
+        future: G,
+    ) -> Result<PriorityRun<'_, F, W, R, G, N>, RunError<G>>
+        ensures ok { IfOk result (λ run. IsSomeAnd run.going (λ g. All (λ s. s.inner.number ≡ None) g.sleepers.levels.items)) }
+        ensures refused { IfErr result (λ e. e ≡ RunError.OutOfMemory future) }
+    {
+        match self.sleepers() {
+            Ok(sleepers) => Ok(PriorityRun {
+                going: Some(Going {
+                    own: future,
+                    sleepers,
+                    is_asleep: false,
+                }),
+            }),
+            Err(OutOfMemory) => Err(RunError::OutOfMemory(future)),
+        }
+    }
+
+    // A sleeper of each level, which is awake.
+    fn sleepers(&self) -> Result<LevelSleepers<Sleeper<'_, F, W, R>, N>, OutOfMemory>
+        ensures awake { IfOk result (λ own. All (λ s. s.inner.number ≡ None) own.levels.items) }
+        ensures own { IfOk result (λ own.
+            map (λ s. s.inner.executor.now) own.levels.items ≡ map (λ level. level.inner) self.now.levels.items) }
     {
         let mut levels = Vec::with_capacity(*self.levels.allocator(), N)?;
         for level in &self.levels {
             let sleeper = level.sleeper()?;
             levels.push_reserved(sleeper);
         }
-        Ok(PriorityTick {
-            sleepers: Some(LevelSleepers { levels }),
-        })
+        Ok(LevelSleepers { levels })
     }
 }
 

@@ -7,8 +7,10 @@
 pub(crate) mod answers;
 pub mod asker;
 pub mod executor;
+pub mod run;
 pub mod tick;
 
 pub use asker::{Asker, choose};
 pub use executor::PriorityExecutor;
+pub use run::PriorityRun;
 pub use tick::PriorityTick;

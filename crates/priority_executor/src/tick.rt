@@ -100,22 +100,23 @@ where
     W: Wake,
     R: Wait + Clone + Drop,
 {
-    // Leaves the sleepers of the levels that it looks at and of those above, and runs a task of the first
-    // that has one. It says whether it ran one.
-    fn run_first(&mut self) -> bool {
+    /// Leaves the sleepers of the levels that it looks at and of those above, and runs a task of the first
+    /// that has one. It says whether it ran one.
+    pub(crate) fn run_first(&mut self) -> bool {
+        // A look before the take: only now it is known which levels are above, whose notices are passed
+        // on before the task is run.
         let Some(level) = self.first_with_task() else {
             return false;
         };
-        // Before the task is run. Only after a look it is known which levels are above.
         for above in level + 1..N {
             self.levels[above].pass_on();
         }
         self.levels[level].try_tick_any()
     }
 
-    // Goes to sleep in each level, and says whether it sleeps: none had a task, and no copy was refused. If
-    // it says no, it is awake in each.
-    fn sleep(&mut self, w: &W) -> bool
+    /// Goes to sleep in each level, and says whether it sleeps: none had a task, and no copy was refused. If
+    /// it says no, it is awake in each.
+    pub(crate) fn sleep(&mut self, w: &W) -> bool
         ensures asleep { IsTrue result → All (λ s. is_some s.inner.number ≡ true) self.new.levels.items }
         ensures awake { result ≡ false → All (λ s. s.inner.number ≡ None) self.new.levels.items }
     {
@@ -131,8 +132,8 @@ where
         true
     }
 
-    // Leaves the sleepers of each level. What it owes is searched for in the next poll.
-    fn leave(&mut self)
+    /// Leaves the sleepers of each level. What it owes is searched for in the next poll.
+    pub(crate) fn leave(&mut self)
         ensures { All (λ s. s.inner.number ≡ None) self.new.levels.items }
     {
         for level in 0..N {

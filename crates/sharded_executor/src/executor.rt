@@ -5,6 +5,7 @@ ghost use Rattle.executor_core.specs.SpawnError.{refused_future};
 ghost use Rattle.async_executor.specs.RunError.{run_future};
 ghost use Rattle.executor_core.specs.declared.limits.NewError.TheVariants as NewError;
 
+use crate::progress::Count;
 use crate::run::ShardedRun;
 use async_executor::{
     Executor, Future, Limits, NewError, OutOfMemory, RunError, SpawnError, Task, TaskWaker, Wake,
@@ -12,12 +13,6 @@ use async_executor::{
 use std::alloc::Global;
 use std::fmt::{self, Debug, Formatter, Write};
 use std::sync::Wait;
-use std::sync::atomic::{AtomicUsize, Ordering};
-
-/// As many bytes as two cache lines have: a processor fetches the line beside the one that it needs.
-type Apart = [u64; 16];
-
-const APART: Apart = [0; 16];
 
 /// So many words lie unused before and behind what each shard allocates as it is made, so that no two shards
 /// have parts on neighbouring cache lines.
@@ -48,12 +43,13 @@ where
     // type would stand in each future and each handle.
     shards: Vec<Executor<F, W, R>>,
     unused: Vec<Vec<u64>>,
-    before: Apart,
-    // To which shard the next spawn goes, modulo their number. It is alone on its cache lines.
-    next: AtomicUsize,
-    behind: Apart,
+    // How many turns the runs of each shard had.
+    turns: Vec<Count>,
+    // To which shard the next spawn goes, modulo their number.
+    next: Count,
     alloc: Global,
     ghost some: { 0 < vec_len shards },
+    ghost counted: { vec_len turns ≡ vec_len shards },
 }
 
 impl<F, W, R> ShardedExecutor<F, W, R>
@@ -108,13 +104,13 @@ where
         if !limits.is_lawful() {
             return Err(NewError::BadLimits);
         }
+        let turns = counts(alloc, count)?;
         match shards(rt, alloc, count, limits) {
             Ok((shards, unused)) => Ok(ShardedExecutor {
                 shards,
                 unused,
-                before: APART,
-                next: AtomicUsize::new(0),
-                behind: APART,
+                turns,
+                next: Count::new(),
                 alloc,
             }),
             Err(OutOfMemory) => Err(NewError::OutOfMemory),
@@ -140,9 +136,20 @@ where
         ensures refused { IfErr result (λ e. refused_future e ≡ future) }
     {
         // One count for all: one for each thread would need a place for it.
-        let turn = self.next.fetch_add(1, Ordering::SeqCst);
-        self.shards[turn % self.shards.len()].spawn(future)
+        let shard = self.next.one_more() % self.shards.len() as u64;
+        self.shards[shard as usize].spawn(future)
     }
+}
+
+// So many counts of nothing.
+fn counts(alloc: Global, count: usize) -> Result<Vec<Count>, OutOfMemory>
+    ensures { IfOk result (λ counts. vec_len counts ≡ count) }
+{
+    let mut counts = Vec::with_capacity(alloc, count)?;
+    for made in 0..count {
+        counts.push_reserved(Count::new());
+    }
+    Ok(counts)
 }
 
 // Allocates what lies between two shards.
@@ -265,7 +272,7 @@ where
         requires { number < vec_len self.now.shards }
         ensures refused { IfErr result (λ e. run_future e ≡ future) }
     {
-        ShardedRun::new(&self.shards, self.alloc, number, future)
+        ShardedRun::new(&self.shards, &self.turns, self.alloc, number, future)
     }
 }
 

@@ -23,6 +23,7 @@
 
 pub mod executor;
 pub(crate) mod members;
+pub(crate) mod progress;
 pub mod run;
 
 pub use executor::ShardedExecutor;

@@ -2,6 +2,7 @@
 ghost use Rattle.std.specs.Prelude.{◌≡◌, ◌∷◌, ◌++◌, ◌+◌, ◌-◌, ◌<◌, ◌≤◌, [], false, true, None, All, IfSome, IfNone, IsTrue, is_some, OnOk, length, vec_len, vec_capacity};
 ghost use Rattle.sharded_executor.specs.Order.{asked_around, false_from, true_after};
 
+use crate::progress::Count;
 use async_executor::{
     Executor, Future, OutOfMemory, RunnerError, Sleeper, TaskWaker, Wake, Worker,
 };
@@ -24,7 +25,11 @@ where
     pub(crate) sleepers: Vec<Sleeper<'a, F, W, R>>,
     // The promise of the order speaks of this list. A look around after a turn is in no list.
     pub(crate) answers: Vec<(usize, bool)>,
+    // How many turns the runs of each shard had: of those from the own one on, and of those before it.
+    turns: (&'a [Count], &'a [Count]),
     ghost some: { 0 < vec_len sleepers },
+    ghost counted: { length turns.0.now + length turns.1.now ≡ vec_len sleepers },
+    ghost own: { 0 < length turns.0.now },
     ghost room: { vec_len sleepers ≤ vec_capacity answers },
 }
 
@@ -59,10 +64,12 @@ where
     /// Those of a run of the shard of this number. All sleepers are awake.
     pub(crate) fn new(
         shards: &'a Vec<Executor<F, W, R>>,
+        turns: &'a [Count],
         alloc: Global,
         number: usize,
     ) -> Result<Members<'a, F, W, R>, RunnerError>
-        requires { number < vec_len shards.now }
+        requires inside { number < vec_len shards.now }
+        requires counted { length turns.now ≡ vec_len shards.now }
     {
         let count = shards.len();
         // One in every shard: a task of a shard that no sleeper chose would wait for a run that is busy.
@@ -76,6 +83,7 @@ where
             worker,
             sleepers,
             answers,
+            turns: (&turns[number..], &turns[..number]),
         })
     }
 }
@@ -127,6 +135,7 @@ where
         ensures count { vec_len self.new.sleepers ≡ vec_len self.old.sleepers }
     {
         let has_task = if at == 0 {
+            self.turns.0[0].one_more();
             self.worker.turn()
         } else {
             self.help(at)
@@ -152,6 +161,17 @@ where
             }
         }
         true
+    }
+
+    /// How many turns the runs of the shard at this place had, modulo 2^64.
+    pub(crate) fn turns_at(&self, at: usize) -> u64
+        requires { at < vec_len self.now.sleepers }
+    {
+        let (from_own, before) = self.turns;
+        match from_own.get(at) {
+            Some(turns) => turns.get(),
+            None => before[at - from_own.len()].get(),
+        }
     }
 
     /// Runs one task of the shard at this place, if it has one.

@@ -1,24 +1,26 @@
 //! The run of a sharded executor.
-ghost use Rattle.std.specs.Prelude.{◌≡◌, ◌<◌, ◌≤◌, None, IfOk, IfErr, IfSome, false, true, is_none, is_some, vec_len};
+ghost use Rattle.std.specs.Prelude.{◌≡◌, ◌<◌, ◌≤◌, None, IfOk, IfErr, IfSome, false, true, is_none, is_some, length, vec_len};
 ghost use Rattle.async_executor.specs.Answers.{is_ready};
 ghost use Rattle.async_executor.specs.RunError.{run_future};
 ghost use Rattle.sharded_executor.specs.Order.{IsServed};
 
 use crate::members::Members;
+use crate::progress::Count;
 use async_executor::runner::Words;
 use async_executor::{Executor, Future, Poll, RunError, RunnerError, TaskWaker, Wake};
 use std::alloc::Global;
 use std::sync::Wait;
 
-/// After so many turns of its own shard a run takes one task of another one.
+/// After so many turns of its own shard a run looks at another one.
 const TURNS: u32 = 4;
 
 /// A future that runs tasks of a sharded executor beside the future G, and ends with the output of G.
 ///
 /// It runs the tasks of its own shard, a turn in each poll. If none is left there, it helps another: it
 /// asks the other shards, from one at random on, each once, and runs a handful of tasks of the first that
-/// has one. It sleeps only if none has any. After every fourth turn it takes one task of another shard at
-/// random, so that no shard waits for ever for who is never idle.
+/// has one. It sleeps only if none has any. After every fourth turn it looks at another shard, and takes one
+/// task there if no run of that shard had a turn since it last looked. So no shard waits for ever for who is
+/// never idle, and those that are busy leave one another alone.
 ///
 /// If it is dropped asleep, it leaves the sleepers of every shard, and if it was notified in one, another
 /// sleeper of that shard is woken in its place.
@@ -54,6 +56,9 @@ where
     members: Members<'a, F, W, R>,
     words: Words,
     turns: u32,
+    // The place of a shard that it looks at next, and how many turns the runs there had had.
+    watched: usize,
+    had: u64,
     // Whether the last poll left it among the sleepers of every shard.
     is_asleep: bool,
     ghost few: { turns < 4 },
@@ -69,21 +74,25 @@ where
     /// A run of the shard of this number, which was never polled.
     pub(crate) fn new(
         shards: &'a Vec<Executor<F, W, R>>,
+        turns: &'a [Count],
         alloc: Global,
         number: usize,
         own: G,
     ) -> Result<ShardedRun<'a, F, W, R, G>, RunError<G>>
-        requires { number < vec_len shards.now }
+        requires inside { number < vec_len shards.now }
+        requires counted { length turns.now ≡ vec_len shards.now }
         ensures ok { IfOk result (λ run. is_some run.going ≡ true) }
         ensures refused { IfErr result (λ e. run_future e ≡ own) }
     {
-        match Members::new(shards, alloc, number) {
+        match Members::new(shards, turns, alloc, number) {
             Ok(members) => Ok(ShardedRun {
                 going: Some(Going {
                     own,
                     members,
                     words: Words::new(number as u64),
                     turns: 0,
+                    watched: 0,
+                    had: 0,
                     is_asleep: false,
                 }),
             }),
@@ -142,17 +151,26 @@ where
         1 + (self.words.next() % others as u64) as usize
     }
 
-    // Takes a task of another shard after so many turns of the own one.
+    // Looks at another shard after so many turns of the own one, and takes a task there if nobody had a turn
+    // since. To take one of a shard that is busy would cost both threads what lies in their caches.
     fn look_around(&mut self) {
         self.turns += 1;
         if self.turns < TURNS {
             return;
         }
         self.turns = 0;
-        let at = self.another();
-        if at < self.members.count() {
-            self.members.run_one(at);
+        let watched = self.watched;
+        if 0 < watched
+            && watched < self.members.count()
+            && self.members.turns_at(watched) == self.had
+        {
+            self.members.run_one(watched);
         }
+        let next = self.another();
+        if next < self.members.count() {
+            self.had = self.members.turns_at(next);
+        }
+        self.watched = next;
     }
 }
 

@@ -4,7 +4,7 @@ use std::alloc::Global;
 use std::sync::Wait;
 use std::test::Fail;
 use std::thread::Threads;
-use uses::{empties_shards, executor, serves_two, shards};
+use uses::{empties_shards, executor, serves_two, shards, sums_on_shards};
 
 // Whether it slept with both executors, was notified in the second, and ran a task of that.
 fn serves<R: Wait + Clone + Drop + Send + Sync>(rt: &R, alloc: Global) -> bool {
@@ -14,11 +14,15 @@ fn serves<R: Wait + Clone + Drop + Send + Sync>(rt: &R, alloc: Global) -> bool {
     serves_two(&one, &two) == Some([true, true, true])
 }
 
-fn sharded<R: Wait + Threads + Clone + Drop + Send + Sync>(rt: &R, alloc: Global) -> [Line; 3] {
+fn sharded<R: Wait + Threads + Clone + Drop + Send + Sync + 'static>(
+    rt: &R,
+    alloc: Global,
+) -> [Line; 4] {
     [
         ("shards", shards(rt, alloc) == Some(10)),
         ("empties_shards", empties_shards(rt, alloc) == Some(8)),
         ("serves_two", serves(rt, alloc)),
+        ("sums_on_shards", sums_on_shards(rt, alloc).ok() == Some(500_500)),
     ]
 }
 

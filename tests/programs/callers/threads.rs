@@ -8,9 +8,9 @@ use std::thread::Threads;
 use std::time::{Clock, Duration};
 use uses::common::executor;
 use uses::{
-    answers_in_order, closes_a_channel, fans_out, gives_up, hears, joins, makes_once, meets,
-    parks, pools, races, requests_tasks, rests, sends_to_a_task, serves, shares, takes_permits,
-    takes_turns, tells, times_out, tries, winds_up,
+    answers_in_order, closes_a_channel, fans_out, gives_up, hears, joins, limits_a_pool, makes_once,
+    meets, parks, pools, races, requests_tasks, rests, sends_to_a_task, serves, shares, takes_many,
+    takes_permits, takes_turns, tells, times_out, tries, winds_up,
 };
 
 // Twice each number below twenty.
@@ -37,11 +37,12 @@ fn is_late(passed: Option<(u128, Duration)>) -> bool {
 fn pooled<R: Wait + Threads + Clone + Drop + Send + Sync + 'static>(
     rt: &R,
     alloc: Global,
-) -> [Line; 4] {
+) -> [Line; 5] {
     [
         ("parks", parks(rt, alloc) == Some(10)),
         ("pools", pools(rt, alloc) == Some(10)),
         ("joins", joins(rt, alloc) == Some(500_500)),
+        ("limits_a_pool", limits_a_pool(rt, alloc).ok() == Some(210)),
         ("winds_up", are_joined(winds_up(rt, alloc))),
     ]
 }
@@ -49,8 +50,9 @@ fn pooled<R: Wait + Threads + Clone + Drop + Send + Sync + 'static>(
 fn sent<R: Wait + Threads + Clone + Drop + Send + Sync + 'static>(
     rt: &R,
     alloc: Global,
-) -> [Line; 7] {
+) -> [Line; 8] {
     let tried = Some((Unsent::Full(2), 1, NoMessage::Empty));
+    let many = Some(([3, 1], 10, NoMessage::Empty));
     let closed = Some(([1, usize::MAX, 1, 1], [false, false, true], Ok(1)));
     [
         ("fans_out", fans_out(rt, alloc).ok() == Some(15)),
@@ -61,6 +63,7 @@ fn sent<R: Wait + Threads + Clone + Drop + Send + Sync + 'static>(
             are(answers_in_order(rt, alloc), &DOUBLES),
         ),
         ("tries", tries(rt, alloc) == tried),
+        ("takes_many", takes_many(rt, alloc) == many),
         ("closes_a_channel", closes_a_channel(rt, alloc) == closed),
         ("gives_up", gives_up(rt, alloc) == Some(2)),
     ]

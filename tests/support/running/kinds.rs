@@ -1,6 +1,7 @@
-//! The four kinds of executors that a test is played on.
+//! The five kinds of executors that a test is played on.
 use super::future::{Output, TestFuture};
 use super::line::Answer;
+use super::shards::Shards;
 use super::task::TaskFuture;
 use super::waker::TestWaker;
 use async_executor::{
@@ -8,6 +9,7 @@ use async_executor::{
     LocalTask, LocalTick, Run, StaticExecutor, StaticLocalExecutor, Task, Tick,
 };
 use executor_core::task::{Future, Poll};
+use sharded_executor::ShardedRun;
 use std::alloc::Global;
 use std::rc::Rc;
 use std::sync::{Arc, Wait};
@@ -109,10 +111,17 @@ pub enum StaticLocalTicker<'a, R: Wait + Clone + Drop + Send + Sync> {
     Run(LocalRun<'a, TaskFuture<R>, TestWaker, R, OwnFuture>),
 }
 
-// Makes a ticker that of a kind, by the types that go with it and whether the drop of its executor
-// closes that.
+/// A tick of the only shard of a sharded executor, or a run of that executor.
+#[derive(Drop)]
+pub enum ShardedTicker<'a, R: Wait + Clone + Drop + Send + Sync> {
+    Tick(Tick<'a, TaskFuture<R>, TestWaker, R>),
+    Run(ShardedRun<'a, TaskFuture<R>, TestWaker, R, OwnFuture>),
+}
+
+// Makes a ticker that of a kind, by the types that go with it, the name that the text of its executor
+// begins with, and whether the drop of its executor closes that.
 macro_rules! is_kind {
-    ($ticker:ident, $executor:ident, $rc:ident, $share:expr, $task:ident, $cancel:ident, $fallible:ident, $closes:expr) => {
+    ($ticker:ident, $executor:ident, $rc:ident, $share:expr, $task:ident, $cancel:ident, $fallible:ident, $name:expr, $closes:expr) => {
         impl<'a, R: Wait + Clone + Drop + Send + Sync> Kind<R> for $ticker<'a, R> {
             type Share = $rc<$executor<TaskFuture<R>, TestWaker, R>>;
 
@@ -151,7 +160,7 @@ macro_rules! is_kind {
             }
 
             fn name() -> &'static str {
-                stringify!($executor)
+                $name
             }
 
             fn text(ex: &Self::Share, alloc: Global) -> Result<String, Fail> {
@@ -240,12 +249,16 @@ macro_rules! is_kind {
     };
 }
 
-is_kind!(Ticker, Executor, Arc, Arc::try_clone, Task, Cancel, FallibleTask, true);
+is_kind!(Ticker, Executor, Arc, Arc::try_clone, Task, Cancel, FallibleTask, "Executor", true);
 is_kind!(
-    LocalTicker, LocalExecutor, Rc, Rc::clone, LocalTask, LocalCancel, LocalFallibleTask, true
+    LocalTicker, LocalExecutor, Rc, Rc::clone, LocalTask, LocalCancel, LocalFallibleTask, "LocalExecutor",
+    true
 );
-is_kind!(StaticTicker, StaticExecutor, Arc, Arc::try_clone, Task, Cancel, FallibleTask, false);
+is_kind!(
+    StaticTicker, StaticExecutor, Arc, Arc::try_clone, Task, Cancel, FallibleTask, "StaticExecutor", false
+);
 is_kind!(
     StaticLocalTicker, StaticLocalExecutor, Rc, Rc::clone, LocalTask, LocalCancel, LocalFallibleTask,
-    false
+    "StaticLocalExecutor", false
 );
+is_kind!(ShardedTicker, Shards, Arc, Arc::try_clone, Task, Cancel, FallibleTask, "Executor", true);

@@ -4,7 +4,7 @@ use super::halt::Halt;
 use super::line::{Answer, Line};
 use super::record::{Moment, Record};
 use super::kinds::{
-    Kind as ExecutorKind, LocalTicker, StaticLocalTicker, StaticTicker, Ticker,
+    Kind as ExecutorKind, LocalTicker, ShardedTicker, StaticLocalTicker, StaticTicker, Ticker,
 };
 use super::task::{Entry, FutureWaker, Handle, LentHandle, TaskFuture, TestExecutor};
 use super::waker::TestWaker;
@@ -524,6 +524,16 @@ pub fn play<R: AllocGlobal + Wait + Threads + Clone + Drop + Send + Sync + 'stat
     rt: &R,
     lines: &[Line],
 ) -> Result<(), Fail> {
+    play_unsharded(rt, lines)?;
+    thread::scope(thread::scope_env(), rt, |scope| play_sharded(scope, rt, None, lines))
+}
+
+/// The same, but not on shards: their run begins a poll with a handful of tasks if it was notified, takes no
+/// word for its own shard, and leaves all shards if a copy of its waker is refused.
+pub fn play_unsharded<R: AllocGlobal + Wait + Threads + Clone + Drop + Send + Sync + 'static>(
+    rt: &R,
+    lines: &[Line],
+) -> Result<(), Fail> {
     thread::scope(thread::scope_env(), rt, |scope| play_all(scope, rt, None, lines))
 }
 
@@ -533,7 +543,10 @@ pub fn play_with<R: AllocGlobal + Wait + Threads + Clone + Drop + Send + Sync + 
     limits: Limits,
     lines: &[Line],
 ) -> Result<(), Fail> {
-    thread::scope(thread::scope_env(), rt, |scope| play_all(scope, rt, Some(limits), lines))
+    thread::scope(thread::scope_env(), rt, |scope| {
+        play_all(scope, rt, Some(limits), lines)?;
+        play_sharded(scope, rt, Some(limits), lines)
+    })
 }
 
 // The same, with other threads in this scope.
@@ -550,6 +563,23 @@ fn play_all<'s, E: 's, R: AllocGlobal + Wait + Threads + Clone + Drop + Send + S
     play_alone::<'s, E, LocalTicker<'static, R>, R>(scope, rt, limits, lines)?;
     play_alone::<'s, E, StaticTicker<'static, R>, R>(scope, rt, limits, lines)?;
     play_alone::<'s, E, StaticLocalTicker<'static, R>, R>(scope, rt, limits, lines)
+}
+
+// On a sharded executor of one shard, if the lines need no other thread.
+fn play_sharded<
+    's,
+    E: 's,
+    R: AllocGlobal + Wait + Threads + Clone + Drop + Send + Sync + 'static,
+>(
+    scope: &'s Scope<'s, E>,
+    rt: &R,
+    limits: Option<Limits>,
+    lines: &[Line],
+) -> Result<(), Fail> {
+    if lines.iter().any(|line| line.needs_another_thread()) {
+        return Ok(());
+    }
+    play_alone::<'s, E, ShardedTicker<'static, R>, R>(scope, rt, limits, lines)
 }
 
 fn play_shared<'s, E: 's, R: AllocGlobal + Wait + Threads + Clone + Drop + Send + Sync + 'static>(

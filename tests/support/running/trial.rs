@@ -13,9 +13,9 @@ use std::thread::{self, Threads};
 // What the last ticks of a leaked executor may find.
 const MOST_TICKS: usize = 100_000;
 
-// Never ready.
+/// Never ready.
 #[derive(Drop)]
-struct Endless;
+pub struct Endless;
 
 impl<W> Future<W> for Endless {
     type Output = ();
@@ -121,11 +121,15 @@ macro_rules! half_by_this_thread {
     }};
 }
 
-// Whether the text ends so: no place is left among the runners or the sleepers.
+// Whether no place is left among the runners or the sleepers, of each executor that the text has.
 macro_rules! has_no_tickers {
     ($rt:expr, $ex:expr) => {{
         match format!(in $rt.alloc(); "{:?}", $ex) {
-            Ok(text) => text.as_str().ends_with("local_runners: [], sleepers: 0 }"),
+            Ok(text) => {
+                let text = text.as_str();
+                let all = text.matches("sleepers: ").count();
+                all > 0 && text.matches("local_runners: [], sleepers: 0 }").count() == all
+            }
             Err(_) => false,
         }
     }};
@@ -184,6 +188,8 @@ macro_rules! ended {
         }
     };
 }
+
+pub(crate) use {calls_of, closed, half_by_threads, has_no_tickers};
 
 /// What is wrong in the end of this program on an executor that threads share, if anything.
 pub fn tried<R: AllocGlobal + Wait + Threads + Clone + Drop + Send + Sync>(

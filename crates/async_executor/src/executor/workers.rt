@@ -66,7 +66,8 @@ where
     /// Ok([is_asleep, was_notified, sleeper.try_tick_any()])
     /// ```
     pub fn sleeper(&self) -> Result<Sleeper<'_, F, W, R>, OutOfMemory>
-        ensures { IfOk result (λ sleeper. sleeper.inner.number ≡ None) }
+        ensures awake { IfOk result (λ sleeper. sleeper.inner.number ≡ None) }
+        ensures own { IfOk result (λ sleeper. sleeper.inner.executor.now ≡ self.now.inner) }
     {
         let inner = self.inner.sleeper()?;
         Ok(Sleeper { inner })

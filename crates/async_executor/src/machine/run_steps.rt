@@ -254,7 +254,7 @@ pub(crate) enum Started {
 }
 
 impl Running<Runner> {
-    /// Counts the task.
+    /// Counts the task in the turn of the run, before it is polled.
     #[inline(always)]
     pub(crate) fn start(self) -> Started
         ensures fixed { fixed (runner_started result) ≡ fixed self.actor }

@@ -24,8 +24,8 @@ use crate::machine::{
 };
 use crate::runner::words::Words;
 use crate::scheduler::{ExecutorIn, poll_taken};
+use crate::sleeping::{Slept, announce_found, leave, sleep};
 use crate::state::{ExecutorState, announce, cells};
-use crate::ticker::{Slept, announce_found, leave, sleep};
 use executor_core::limits::Limits;
 use executor_core::queue::{Ring, RunnerError, RunnerKey};
 use executor_core::task::{Again, Cells, Future, Poll, Ran, TaskId, Wake};
@@ -209,8 +209,8 @@ impl<'x, 'y, H: Home, G: Drop> Driver<'x, 'y, H, G> {
         }
     }
 
-    // Does what the end of a task has left to do, and searches for the next one. It is inline around
-    // its calls, so that the room of what they are handed and give is cleared on this path alone.
+    // Does what the end of a task has left to do, and searches for the next one of the run. It is inline
+    // around its calls, so that the room of what they are handed and give is cleared on this path alone.
     #[inline(always)]
     fn finish_then_search(
         &mut self,

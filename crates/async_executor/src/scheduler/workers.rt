@@ -28,7 +28,8 @@ impl<H: Home> ExecutorIn<H> {
 
     /// A sleeper, which is awake, and whose place is reserved here.
     pub(crate) fn sleeper(&self) -> Result<SleeperIn<'_, H>, OutOfMemory>
-        ensures { IfOk result (λ sleeper. sleeper.number ≡ None) }
+        ensures awake { IfOk result (λ sleeper. sleeper.number ≡ None) }
+        ensures own { IfOk result (λ sleeper. sleeper.executor.now ≡ self.now) }
     {
         self.state().reserve_sleeper()?;
         Ok(SleeperIn::new(self))

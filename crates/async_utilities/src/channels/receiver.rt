@@ -1,9 +1,11 @@
 //! Receivers, and the futures of messages.
-ghost use Rattle.std.specs.Prelude.{◌≡◌, IfOk};
+ghost use Rattle.std.specs.Prelude.{◌≡◌, ◌≤◌, ◌+◌, IfOk, None, OnErr, OnOk, OnSome, take, vec_capacity, vec_len};
 ghost use Rattle.std.specs.Arc.{arc_value};
+ghost use Rattle.async_utilities.specs.Polls.{IfReady};
 
 use crate::channels::Channel;
-use crate::channels::state::Received;
+use crate::channels::state::{Batch, Received};
+use crate::due::Due;
 use crate::wait_queue::keep;
 use async_executor::{Future, OutOfMemory, Poll, Wake};
 use std::sync::{Arc, Wait};
@@ -40,7 +42,10 @@ pub struct Receiver<T: Drop, S: Wake, V: Wake, R: Wait + Drop> {
 
 impl<T: Drop, S: Wake, V: Wake, R: Wait + Drop> Channel<T, S, V, R> {
     // Takes the first message, if there is one. One that waited at this place does so no longer.
-    fn receive_from(&self, place: &mut Option<usize>) -> Result<T, NoMessage> {
+    fn receive_from(&self, place: &mut Option<usize>) -> Result<T, NoMessage>
+        ensures taken { OnOk result (place.new ≡ None) }
+        ensures none { OnErr result (place.new ≡ place.old) }
+    {
         let mut state = self.state();
         match state.receive() {
             Received::Message(message, due) => {
@@ -55,8 +60,34 @@ impl<T: Drop, S: Wake, V: Wake, R: Wait + Drop> Channel<T, S, V, R> {
         }
     }
 
+    // Takes so many messages at most, under one lock unless senders are to be woken between them.
+    fn receive_many(&self, messages: &mut Vec<T>, most: usize) -> Result<usize, NoMessage>
+        requires { vec_len messages.old + most ≤ vec_capacity messages.old }
+        ensures count { IfOk result (λ n. (n ≤ most) × (vec_len messages.new ≡ vec_len messages.old + n)) }
+        ensures front { take (vec_len messages.old) messages.new.items ≡ messages.old.items }
+        ensures none { OnErr result (messages.new.items ≡ messages.old.items) }
+        ensures room { vec_capacity messages.new ≡ vec_capacity messages.old }
+    {
+        let mut taken = 0;
+        for _ in 0..most {
+            let mut state = self.state();
+            let Batch { count, due } = state.receive_many(messages, most - taken);
+            let none = state.no_message();
+            drop(state);
+            taken += count;
+            let is_over = matches!(&due, Due::Nobody);
+            due.wake();
+            if is_over {
+                return if taken > 0 { Ok(taken) } else { Err(none) };
+            }
+        }
+        Ok(taken)
+    }
+
     // Gives the first message, or waits at this place.
-    fn poll_receive(&self, w: &V, place: &mut Option<usize>) -> Poll<Option<T>> {
+    fn poll_receive(&self, w: &V, place: &mut Option<usize>) -> Poll<Option<T>>
+        ensures taken { IfReady result (λ message. OnSome message (place.new ≡ None)) }
+    {
         match self.receive_from(place) {
             Ok(message) => return Poll::Ready(Some(message)),
             Err(NoMessage::Closed) => return Poll::Ready(None),
@@ -70,7 +101,9 @@ impl<T: Drop, S: Wake, V: Wake, R: Wait + Drop> Channel<T, S, V, R> {
     }
 
     // Gives the first message, or waits with this waker.
-    fn receive_or_wait(&self, waker: V, place: &mut Option<usize>) -> Poll<Option<T>> {
+    fn receive_or_wait(&self, waker: V, place: &mut Option<usize>) -> Poll<Option<T>>
+        ensures taken { IfReady result (λ message. OnSome message (place.new ≡ None)) }
+    {
         let mut state = self.state();
         let message = match state.receive() {
             Received::Empty => {
@@ -156,6 +189,30 @@ impl<T: Drop, S: Wake, V: Wake, R: Wait + Drop> Receiver<T, S, V, R> {
         self.channel.receive_from(&mut None)
     }
 
+    /// Takes so many messages at most, the first one first, and puts them behind those that `messages`
+    /// has. It takes no memory: what there is no room for in `messages` stays in the channel. Gives how
+    /// many it took, which is 0 if it was to take none. It is not behind those who wait for a message,
+    /// and takes one lock for all, and one more for each sender that it wakes.
+    ///
+    /// # Errors
+    ///
+    /// `NoMessage`. `messages` is as it was then.
+    ///
+    /// Example: `uses::takes_many`.
+    ///
+    /// ```text
+    /// let count = receiver.try_receive_many(&mut messages, 3).ok()?;
+    /// ```
+    pub fn try_receive_many(&self, messages: &mut Vec<T>, limit: usize) -> Result<usize, NoMessage>
+        ensures count { IfOk result (λ n. (n ≤ limit) × (vec_len messages.new ≡ vec_len messages.old + n)) }
+        ensures front { take (vec_len messages.old) messages.new.items ≡ messages.old.items }
+        ensures none { OnErr result (messages.new.items ≡ messages.old.items) }
+        ensures room { vec_capacity messages.new ≡ vec_capacity messages.old }
+    {
+        let room = messages.capacity() - messages.len();
+        self.channel.receive_many(messages, limit.min(room))
+    }
+
     /// Gives the first message, once there is one, or None if there is none and the channel is closed.
     /// While it is pending, a copy of the waker is woken once there is a message. If the copy or a place
     /// among those who wait is refused, the waker itself is woken, and nothing more is kept.
@@ -169,7 +226,10 @@ impl<T: Drop, S: Wake, V: Wake, R: Wait + Drop> Receiver<T, S, V, R> {
     ///     Poll::Ready(None) => return Poll::Ready(self.total),
     ///     Poll::Pending => return Poll::Pending,
     /// ```
-    pub fn poll_receive(&mut self, w: &V) -> Poll<Option<T>> {
+    pub fn poll_receive(&mut self, w: &V) -> Poll<Option<T>>
+        ensures taken { IfReady result (λ message. OnSome message (self.new.place ≡ None)) }
+        ensures same { arc_value self.new.channel ≡ arc_value self.old.channel }
+    {
         self.channel.poll_receive(w, &mut self.place)
     }
 
@@ -181,7 +241,9 @@ impl<T: Drop, S: Wake, V: Wake, R: Wait + Drop> Receiver<T, S, V, R> {
     /// ```text
     /// let Some(job) = block_on(rt, alloc, jobs.receive()).ok()? else {
     /// ```
-    pub fn receive(&self) -> Receive<'_, T, S, V, R> {
+    pub fn receive(&self) -> Receive<'_, T, S, V, R>
+        ensures { (result.receiver.now ≡ self.now) × (result.place ≡ None) }
+    {
         Receive {
             receiver: self,
             place: None,
@@ -223,7 +285,10 @@ pub struct Receive<'a, T: Drop, S: Wake, V: Wake, R: Wait + Drop> {
 impl<T: Drop, S: Wake, V: Wake, R: Wait + Drop> Future<V> for Receive<'_, T, S, V, R> {
     type Output = Option<T>;
 
-    fn poll(&mut self, w: &V) -> Poll<Option<T>> {
+    fn poll(&mut self, w: &V) -> Poll<Option<T>>
+        ensures taken { IfReady result (λ message. OnSome message (self.new.place ≡ None)) }
+        ensures same { self.new.receiver.now ≡ self.old.receiver.now }
+    {
         self.receiver.channel.poll_receive(w, &mut self.place)
     }
 }

@@ -210,6 +210,7 @@ impl<T: Drop, S: Wake, V: Wake, R: Wait + Drop> Sender<T, S, V, R> {
         ensures waits { result ≡ waits → message.new ≡ message.old }
         ensures taken { IfReady result (λ _. message.new ≡ None) }
         ensures back { IfReady result (λ answer. IfErr answer (λ failed. message.old ≡ Some failed)) }
+        ensures same { arc_value self.new.channel ≡ arc_value self.old.channel }
     {
         self.channel.poll_send(w, message, &mut self.place)
     }
@@ -223,7 +224,8 @@ impl<T: Drop, S: Wake, V: Wake, R: Wait + Drop> Sender<T, S, V, R> {
     /// block_on(rt, alloc, sender.send(number)).ok()?.ok()?;
     /// ```
     pub fn send(&self, message: T) -> Send<'_, T, S, V, R>
-        ensures { result.message ≡ Some message }
+        ensures message { result.message ≡ Some message }
+        ensures same { (result.sender.now ≡ self.now) × (result.place ≡ None) }
     {
         Send {
             sender: self,
@@ -288,6 +290,7 @@ impl<T: Drop, S: Wake, V: Wake, R: Wait + Drop> Future<S> for Send<'_, T, S, V, 
         ensures waits { result ≡ waits → self.new.message ≡ self.old.message }
         ensures taken { IfReady result (λ _. self.new.message ≡ None) }
         ensures back { IfReady result (λ answer. IfErr answer (λ failed. self.old.message ≡ Some failed)) }
+        ensures same { self.new.sender.now ≡ self.old.sender.now }
     {
         self.sender
             .channel

@@ -2,11 +2,13 @@
 //!
 //! The law of each side stands in the type. If a receiver waits, at least as many receivers are
 //! notified as there are messages, and if a sender waits, at least as many senders as there is room.
-ghost use Rattle.std.specs.Prelude.{◌≡◌, ◌≤◌, ◌<◌, ◌-◌, ◌==◌, [], None, Some, IfErr, IfOk, IfSome, IsTrue, OnErr, OnOk, false, true, length};
+ghost use Rattle.std.specs.Prelude.{◌≡◌, ◌≤◌, ◌<◌, ◌-◌, ◌==◌, [], None, Some, IfErr, IfOk, IfSome, IsTrue, OnErr, OnOk, false, if◌then◌else◌, length, true, vec_capacity, vec_len, ◌+◌};
 ghost use Rattle.std.specs.VecDeque.{deque_capacity};
 ghost use Rattle.async_utilities.specs.Channels.{AreGone};
 ghost use Rattle.async_utilities.specs.WaitQueue.{IsServed};
+ghost use Rattle.async_utilities.specs.declared.channels.receiver.NoMessage.TheVariants as none;
 
+use crate::channels::receiver::NoMessage;
 use crate::channels::side::Side;
 use crate::due::{AllDue, Due, Left};
 use crate::wait_queue::WaitQueue;
@@ -37,6 +39,14 @@ pub(crate) enum Received<T, S> {
     Closed,
 }
 
+/// What a receiver got of many messages. S is the waker of a sender.
+pub(crate) struct Batch<S> {
+    /// How many it took.
+    pub(crate) count: usize,
+    /// The sender that is to be woken. No more are taken until it is.
+    pub(crate) due: Due<S>,
+}
+
 /// Who waited at a channel that was closed.
 pub(crate) struct Closing<S, V> {
     pub(crate) senders: AllDue<S>,
@@ -44,7 +54,7 @@ pub(crate) struct Closing<S, V> {
 }
 
 impl<S: Wake, V: Wake> Closing<S, V> {
-    /// Wakes them, each once.
+    /// Wakes the ends of the channel that a change has told, each once.
     pub(crate) fn wake(self) {
         let Closing { senders, receivers } = self;
         senders.wake();
@@ -66,7 +76,7 @@ pub(crate) struct State<T, S, V> {
 }
 
 impl<T: Drop, S: Drop, V: Drop> State<T, S, V> {
-    ghost use Rattle.async_utilities.specs.ChannelSteps.{Closes, LeavesReceivers, LeavesSenders, Receives, Sends};
+    ghost use Rattle.async_utilities.specs.ChannelSteps.{Closes, LeavesReceivers, LeavesSenders, Receives, ReceivesMany, Sends};
     ghost use Rattle.async_utilities.specs.ChannelSteps.{WaitsToReceive, WaitsToSend};
 
     /// A channel with a sender and a receiver, that takes so many messages, and has memory for these
@@ -114,6 +124,51 @@ impl<T: Drop, S: Drop, V: Drop> State<T, S, V> {
             }
             None if self.is_closed => Received::Closed,
             None => Received::Empty,
+        }
+    }
+
+    /// Takes so many messages at most, the first one first, until there is none or a sender is to be
+    /// woken, and puts them behind those of the list, which has room for all.
+    pub(crate) fn receive_many(&mut self, messages: &mut Vec<T>, most: usize) -> Batch<S>
+        requires { vec_len messages.old + most ≤ vec_capacity messages.old }
+        ensures taken { ReceivesMany self.old messages.old.items most result messages.new.items self.new }
+        ensures room { vec_capacity messages.new ≡ vec_capacity messages.old }
+    {
+        for count in 0..most {
+            let due = match self.receive() {
+                Received::Message(message, due) => {
+                    messages.push_reserved(message);
+                    due
+                }
+                Received::Empty | Received::Closed => {
+                    let due = Due::Nobody;
+                    return Batch { count, due };
+                }
+            };
+            match due {
+                Due::Nobody => {}
+                Due::One(waker) => {
+                    return Batch {
+                        count: count + 1,
+                        due: Due::One(waker),
+                    };
+                }
+            }
+        }
+        Batch {
+            count: most,
+            due: Due::Nobody,
+        }
+    }
+
+    /// Why there is no message, if there is none.
+    pub(crate) fn no_message(&self) -> NoMessage
+        ensures { result ≡ (if self.now.is_closed then none.Closed else none.Empty) }
+    {
+        if self.is_closed {
+            NoMessage::Closed
+        } else {
+            NoMessage::Empty
         }
     }
 

@@ -1,6 +1,9 @@
 //! A barrier, at which so many wait until the last of them has come, again and again.
-ghost use Rattle.std.specs.Prelude.{◌≡◌, ◌<◌, None, IfOk};
+ghost use Rattle.std.specs.Prelude.{◌≡◌, ◌<◌, None, Some, IfOk, IsSome, true};
 ghost use Rattle.std.specs.Arc.{arc_value};
+ghost use Rattle.async_utilities.specs.Barriers.{Answers};
+ghost use Rattle.async_utilities.specs.Polls.{IfReady};
+ghost use Rattle.executor_core.specs.declared.task.future.Poll.TheVariants.{Pending as waits};
 
 pub(crate) mod state;
 
@@ -73,7 +76,9 @@ impl<W: Wake, R: Wait + Drop> Shared<W, R> {
     }
 
     // One comes, and waits unless it is the last.
-    fn come(&self, w: &W, arrival: &mut Option<Arrival>) -> bool {
+    fn come(&self, w: &W, arrival: &mut Option<Arrival>) -> bool
+        ensures last { result ≡ true → arrival.new ≡ arrival.old }
+    {
         let is_last = self.state().complete();
         if is_last {
             self.wake_all();
@@ -212,7 +217,14 @@ pub struct BarrierWait<W: Wake, R: Wait + Drop> {
 impl<W: Wake, R: Wait + Drop> Future<W> for BarrierWait<W, R> {
     type Output = BarrierWaitResult;
 
-    fn poll(&mut self, w: &W) -> Poll<BarrierWaitResult> {
+    fn poll(&mut self, w: &W) -> Poll<BarrierWaitResult>
+        ensures answers { Answers self.old.answer self.old.arrival result }
+        ensures kept { IfReady result (λ answer. self.new.answer ≡ Some answer) }
+        ensures left { IfReady result (λ _. self.old.answer ≡ None → self.new.arrival ≡ None) }
+        ensures waits { result ≡ waits → self.new.answer ≡ None }
+        ensures came { result ≡ waits → IsSome self.old.arrival → self.new.arrival ≡ self.old.arrival }
+        ensures same { arc_value self.new.shared ≡ arc_value self.old.shared }
+    {
         if let Some(answer) = self.answer {
             return Poll::Ready(answer);
         }

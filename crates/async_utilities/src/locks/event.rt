@@ -1,6 +1,8 @@
 //! An event that comes again and again, and that any number of tasks listen for.
-ghost use Rattle.std.specs.Prelude.{◌≡◌, ◌≤◌, IfOk, IsSome};
+ghost use Rattle.std.specs.Prelude.{◌≡◌, ◌≤◌, None, IfOk, IsSome};
 ghost use Rattle.std.specs.Arc.{arc_value};
+ghost use Rattle.async_utilities.specs.Polls.{IfReady};
+ghost use Rattle.executor_core.specs.declared.task.future.Poll.TheVariants.{Pending as waits, Ready as ready};
 
 pub(crate) mod state;
 
@@ -171,7 +173,12 @@ pub struct EventListener<W: Wake, R: Wait + Drop> {
 impl<W: Wake, R: Wait + Drop> Future<W> for EventListener<W, R> {
     type Output = ();
 
-    fn poll(&mut self, w: &W) -> Poll<()> {
+    fn poll(&mut self, w: &W) -> Poll<()>
+        ensures heard { IfReady result (λ _. self.new.place ≡ None) }
+        ensures again { self.old.place ≡ None → result ≡ ready tt }
+        ensures waits { result ≡ waits → self.new.place ≡ self.old.place }
+        ensures same { arc_value self.new.shared ≡ arc_value self.old.shared }
+    {
         let Some(place) = self.place else {
             return Poll::Ready(());
         };

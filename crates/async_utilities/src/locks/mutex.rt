@@ -1,6 +1,9 @@
 //! A value that one holder at a time may use, and that tasks wait for in order.
-ghost use Rattle.std.specs.Prelude.{◌≡◌, None, Some, IfOk, IfSome, IsSome};
+ghost use Rattle.std.specs.Prelude.{◌≡◌, None, Some, IfOk, OnSome};
 ghost use Rattle.std.specs.Arc.{arc_value};
+ghost use Rattle.async_utilities.specs.Polls.{IfReady};
+ghost use Rattle.async_utilities.specs.Values.{IsHeld};
+ghost use Rattle.executor_core.specs.declared.task.future.Poll.TheVariants.{Pending as waits};
 
 pub(crate) mod state;
 
@@ -38,7 +41,9 @@ impl<T: Drop, W: Wake, R: Wait + Drop> Shared<T, W, R> {
     }
 
     // Takes the value, or has one wait for it at this place.
-    fn poll(&self, w: &W, place: &mut Option<usize>) -> Option<T> {
+    fn poll(&self, w: &W, place: &mut Option<usize>) -> Option<T>
+        ensures taken { OnSome result (place.new ≡ None) }
+    {
         let taken = self.state().take(*place);
         if taken.is_some() {
             *place = None;
@@ -153,8 +158,8 @@ impl<T: Drop, W: Wake, R: Wait + Drop> Mutex<T, W, R> {
     /// let mut guard = block_on(rt, alloc, mutex.lock().ok()?).ok()?;
     /// ```
     pub fn lock(&self) -> Result<Lock<T, W, R>, OutOfMemory>
-        ensures same { IfOk result (λ lock. IfSome lock.shared (λ shared. arc_value shared ≡ arc_value self.now.shared)) }
-        ensures begun { IfOk result (λ lock. IsSome lock.shared) }
+        ensures same { IfOk result (λ lock. IsHeld lock.shared (arc_value self.now.shared)) }
+        ensures fresh { IfOk result (λ lock. lock.place ≡ None) }
     {
         let shared = Arc::try_clone(&self.shared)?;
         Ok(Lock {
@@ -221,7 +226,11 @@ pub struct Lock<T: Drop, W: Wake, R: Wait + Drop> {
 impl<T: Drop, W: Wake, R: Wait + Drop> Future<W> for Lock<T, W, R> {
     type Output = MutexGuard<T, W, R>;
 
-    fn poll(&mut self, w: &W) -> Poll<MutexGuard<T, W, R>> {
+    fn poll(&mut self, w: &W) -> Poll<MutexGuard<T, W, R>>
+        ensures same { IfReady result (λ guard. self.old.shared ≡ Some guard.shared) }
+        ensures ended { IfReady result (λ _. (self.new.shared ≡ None) × (self.new.place ≡ None)) }
+        ensures waits { result ≡ waits → self.new.shared ≡ self.old.shared }
+    {
         let Some(shared) = self.shared.take() else {
             return Poll::Pending;
         };

@@ -1,6 +1,8 @@
 //! A cell that is written once, and that any number of tasks wait for.
-ghost use Rattle.std.specs.Prelude.{◌≡◌, None, Some, IfErr, IfOk, IfSome, IsSome};
+ghost use Rattle.std.specs.Prelude.{◌≡◌, None, Some, IfErr, IfOk, IfSome, IsSome, false};
 ghost use Rattle.std.specs.Arc.{arc_value};
+ghost use Rattle.async_utilities.specs.Polls.{IfReady};
+ghost use Rattle.executor_core.specs.declared.task.future.Poll.TheVariants.{Ready as ready};
 
 use crate::locks::semaphore::{Acquire, Semaphore, SemaphoreGuard};
 use crate::signals::{Signal, Waiting};
@@ -146,7 +148,10 @@ impl<T: Drop, W: Wake, R: Wait + Clone + Drop> OnceCell<T, W, R> {
     /// ```text
     /// block_on(rt, alloc, cell.wait().ok()?).ok()?;
     /// ```
-    pub fn wait(&self) -> Result<Waiting<W, R>, OutOfMemory> {
+    pub fn wait(&self) -> Result<Waiting<W, R>, OutOfMemory>
+        ensures same { IfOk result
+            (λ w. arc_value w.shared ≡ arc_value (arc_value self.now.shared).is_there.shared) }
+    {
         self.shared.is_there.waiting()
     }
 
@@ -163,6 +168,9 @@ impl<T: Drop, W: Wake, R: Wait + Clone + Drop> OnceCell<T, W, R> {
     /// let is_own = block_on(rt, alloc, cell.get_or_init(Ready::new(1)).ok()?).ok()?;
     /// ```
     pub fn get_or_init<G>(&self, future: G) -> Result<OnceInit<G, T, W, R>, AllocFailed<G>>
+        ensures same { IfOk result (λ init. arc_value init.shared ≡ arc_value self.now.shared) }
+        ensures future { IfOk result (λ init. IfSome init.making (λ m. m.future ≡ future)) }
+        ensures begun { IfOk result (λ init. IsSome init.making) }
         ensures refused { IfErr result (λ failed. failed.value ≡ future) }
     {
         let Ok(shared) = Arc::try_clone(&self.shared) else {
@@ -227,7 +235,11 @@ where
 {
     type Output = bool;
 
-    fn poll(&mut self, w: &W) -> Poll<bool> {
+    fn poll(&mut self, w: &W) -> Poll<bool>
+        ensures ended { IfReady result (λ _. self.new.making ≡ None) }
+        ensures again { self.old.making ≡ None → result ≡ ready false }
+        ensures same { arc_value self.new.shared ≡ arc_value self.old.shared }
+    {
         let Some(making) = &mut self.making else {
             return Poll::Ready(false);
         };

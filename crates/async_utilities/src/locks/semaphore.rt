@@ -1,6 +1,9 @@
 //! A semaphore: permits that are taken, waited for in order, and given back.
-ghost use Rattle.std.specs.Prelude.{◌≡◌, ◌≤◌, ◌+◌, None, Some, IfOk, IfSome, IsSome};
+ghost use Rattle.std.specs.Prelude.{◌≡◌, None, Some, IfOk, true};
 ghost use Rattle.std.specs.Arc.{arc_value};
+ghost use Rattle.async_utilities.specs.Polls.{IfReady};
+ghost use Rattle.async_utilities.specs.Values.{IsHeld};
+ghost use Rattle.executor_core.specs.declared.task.future.Poll.TheVariants.{Pending as waits};
 
 pub(crate) mod given;
 pub(crate) mod state;
@@ -70,7 +73,9 @@ impl<W: Wake, R: Wait + Drop> Shared<W, R> {
     }
 
     // Takes so many permits, or has one wait for them at this place. Says whether it took them.
-    fn poll(&self, w: &W, place: &mut Option<usize>, permits: usize) -> bool {
+    fn poll(&self, w: &W, place: &mut Option<usize>, permits: usize) -> bool
+        ensures taken { result ≡ true → place.new ≡ None }
+    {
         if self.state().take(*place, permits) {
             *place = None;
             return true;
@@ -207,9 +212,8 @@ impl<W: Wake, R: Wait + Drop> Semaphore<W, R> {
     /// let one = block_on(rt, alloc, semaphore.acquire().ok()?).ok()?;
     /// ```
     pub fn acquire(&self) -> Result<Acquire<W, R>, OutOfMemory>
-        ensures same { IfOk result (λ acquire. IfSome acquire.shared (λ shared. arc_value shared ≡ arc_value self.now.shared)) }
-        ensures begun { IfOk result (λ acquire. IsSome acquire.shared) }
-        ensures one { IfOk result (λ acquire. acquire.permits ≡ 1) }
+        ensures same { IfOk result (λ acquire. IsHeld acquire.shared (arc_value self.now.shared)) }
+        ensures one { IfOk result (λ a. (a.permits ≡ 1) × (a.place ≡ None)) }
     {
         self.acquire_many(1)
     }
@@ -227,9 +231,8 @@ impl<W: Wake, R: Wait + Drop> Semaphore<W, R> {
     /// let both = block_on(rt, alloc, semaphore.acquire_many(2).ok()?).ok()?;
     /// ```
     pub fn acquire_many(&self, permits: usize) -> Result<Acquire<W, R>, OutOfMemory>
-        ensures same { IfOk result (λ acquire. IfSome acquire.shared (λ shared. arc_value shared ≡ arc_value self.now.shared)) }
-        ensures begun { IfOk result (λ acquire. IsSome acquire.shared) }
-        ensures many { IfOk result (λ acquire. acquire.permits ≡ permits) }
+        ensures same { IfOk result (λ acquire. IsHeld acquire.shared (arc_value self.now.shared)) }
+        ensures many { IfOk result (λ a. (a.permits ≡ permits) × (a.place ≡ None)) }
     {
         let shared = Arc::try_clone(&self.shared)?;
         Ok(Acquire {
@@ -314,7 +317,13 @@ pub struct Acquire<W: Wake, R: Wait + Drop> {
 impl<W: Wake, R: Wait + Drop> Future<W> for Acquire<W, R> {
     type Output = SemaphoreGuard<W, R>;
 
-    fn poll(&mut self, w: &W) -> Poll<SemaphoreGuard<W, R>> {
+    fn poll(&mut self, w: &W) -> Poll<SemaphoreGuard<W, R>>
+        ensures same { IfReady result (λ guard. self.old.shared ≡ Some guard.shared) }
+        ensures many { IfReady result (λ guard. guard.permits ≡ self.old.permits) }
+        ensures ended { IfReady result (λ _. (self.new.shared ≡ None) × (self.new.place ≡ None)) }
+        ensures waits { result ≡ waits → self.new.shared ≡ self.old.shared }
+        ensures wanted { self.new.permits ≡ self.old.permits }
+    {
         let Some(shared) = &self.shared else {
             return Poll::Pending;
         };

@@ -6,7 +6,7 @@
 //! the round under way, so it does no harm if they begin anew.
 ghost use Rattle.std.specs.Prelude.{◌≡◌, ◌+◌, ◌++◌, ◌∷◌, ◌^◌, ◌%◌, [], IfErr, IfOk, None, OnErr, Option, Some};
 ghost use Rattle.async_utilities.specs.Links.{without};
-ghost use Rattle.async_utilities.specs.Rounds.{Tells, due_first, waker_in_entry};
+ghost use Rattle.async_utilities.specs.Rounds.{Comes, Tells, WaitsOn, due_first, waker_in_entry};
 ghost use Rattle.async_utilities.specs.WaitQueue.{Moves, Stays, Steps, due_to, is_notified, place_at, waker_of};
 
 use crate::due::Due;
@@ -69,8 +69,7 @@ impl<W: Drop> Rounds<W> {
 
     // One comes in the round under way, behind all others, maybe with a waker.
     fn add(&mut self, waker: Option<W>) -> Result<usize, Option<W>>
-        ensures came { IfOk result (λ place. place_at self.old.waiters place ≡ None) }
-        ensures last { IfOk result (λ place. self.new.waiters.waiting ≡ self.old.waiters.waiting ++ place ∷ []) }
+        ensures came { IfOk result (λ place. Comes self.old waker place self.new) }
         ensures refused { OnErr result (Stays self.old.waiters self.new.waiters) }
         ensures back { IfErr result (λ back. back ≡ waker) }
         ensures round { self.new.round ≡ self.old.round }
@@ -90,8 +89,7 @@ impl<W: Drop> Rounds<W> {
 
     /// One comes in the round under way, behind all others, and has no waker yet. Gives its place.
     pub(crate) fn listen(&mut self) -> Result<usize, AllocError>
-        ensures came { IfOk result (λ place. place_at self.old.waiters place ≡ None) }
-        ensures last { IfOk result (λ place. self.new.waiters.waiting ≡ self.old.waiters.waiting ++ place ∷ []) }
+        ensures came { IfOk result (λ place. Comes self.old None place self.new) }
         ensures refused { OnErr result (Stays self.old.waiters self.new.waiters) }
         ensures round { self.new.round ≡ self.old.round }
     {
@@ -104,8 +102,7 @@ impl<W: Drop> Rounds<W> {
     /// One comes in the round under way, behind all others, and waits with this waker. Gives its place,
     /// or the waker if there is no memory for one.
     pub(crate) fn enter(&mut self, waker: W) -> Result<usize, W>
-        ensures came { IfOk result (λ place. place_at self.old.waiters place ≡ None) }
-        ensures last { IfOk result (λ place. self.new.waiters.waiting ≡ self.old.waiters.waiting ++ place ∷ []) }
+        ensures came { IfOk result (λ place. Comes self.old (Some waker) place self.new) }
         ensures refused { OnErr result (Stays self.old.waiters self.new.waiters) }
         ensures back { IfErr result (λ back. back ≡ waker) }
         ensures round { self.new.round ≡ self.old.round }
@@ -127,8 +124,7 @@ impl<W: Drop> Rounds<W> {
     /// Leaves a waker at a place, whose turn and whose round stay. Gives what is not kept: an earlier
     /// waker, or this one if nobody waits there.
     pub(crate) fn wait(&mut self, place: usize, waker: W) -> Option<W>
-        ensures turn { self.new.waiters.waiting ≡ self.old.waiters.waiting }
-        ensures round { self.new.round ≡ self.old.round }
+        ensures { WaitsOn self.old place waker result self.new }
     {
         let Some(&Entry { round, waker: _ }) = self.waiters.waiting_at(place) else {
             return Some(waker);

@@ -119,7 +119,7 @@ pub(crate) fn has_future<P>(entries: &Vec<TaskEntry<P>>, n: u64) -> bool
     }
 }
 
-// Whether the future of some task is out.
+// Whether one of these entries has its future out.
 pub(crate) fn some_out<P>(entries: &Vec<TaskEntry<P>>) -> bool
     ensures { result ≡ list_any (λ e. is_some e.out) entries.now.items }
 {

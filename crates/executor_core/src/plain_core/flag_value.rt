@@ -28,8 +28,8 @@ impl FlagValue {
         FlagValue { value: true }
     }
 
-    /// Spends the notice: the flag is true afterwards, and the pick is there exactly if it was
-    /// false.
+    /// `Flag::exchange` of a plain flag. It spends the notice: the flag is true afterwards, and the pick
+    /// is there exactly if it was false.
     pub fn exchange(&mut self, notice: Notice) -> Option<Pick>
         ensures flag { self.new ≡ true }
         ensures pick { is_some result ≡ not self.old }

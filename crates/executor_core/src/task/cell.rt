@@ -165,7 +165,7 @@ fn wakeup<W>(awaiter: Option<W>) -> Option<Wakeup<W>>
     }
 }
 
-// The end of a poll that gave this output: gives the awaiter, and the output if nobody wants it.
+// The end of a poll that gave an output, for one cell: gives the awaiter, and the output if nobody wants it.
 pub(crate) fn ready_cell<P, T, W>(
     cell: &mut Cell<P, T, W>,
     output: T,

@@ -101,7 +101,7 @@ impl<P, T, W> Cells<P, T, W> {
         Ok(())
     }
 
-    /// Makes a task of this future, scheduled at the global end, with its handle there.
+    /// Makes a cell of a new task, scheduled at the global end, with its handle there.
     ///
     /// # Errors
     ///
@@ -162,7 +162,7 @@ impl<P, T, W> Cells<P, T, W> {
         EndPending::Back(Some(self.queues.push(id)))
     }
 
-    /// The end of a poll that gave this output, whose future was dropped.
+    /// The end of a poll that gave an output, for the cell of its task, whose future was dropped.
     ///
     /// The output waits for the handle, or comes back if no handle will give it. It takes no
     /// memory.

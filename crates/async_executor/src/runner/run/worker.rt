@@ -15,8 +15,8 @@ use crate::machine::{
 use crate::runner::run::{Driver, Own, register};
 use crate::runner::words::Words;
 use crate::scheduler::ExecutorIn;
+use crate::sleeping::{announce_found, leave};
 use crate::state::announce;
-use crate::ticker::{announce_found, leave};
 use executor_core::limits::Limits;
 use executor_core::queue::{Ring, RunnerKey};
 

@@ -1,5 +1,5 @@
 //! What a barrier has under its lock: how many have come in the round under way, and who waits.
-ghost use Rattle.std.specs.Prelude.{◌≡◌, ◌==◌, ◌<◌, ◌+◌, ◌-◌, [], IfErr, OnErr, OnOk, false, not, true, if◌then◌else◌};
+ghost use Rattle.std.specs.Prelude.{◌≡◌, ◌==◌, ◌<◌, [], not};
 
 use crate::wait_queue::rounds::{Parted, Rounds};
 use std::alloc::Global;
@@ -21,11 +21,13 @@ pub(crate) struct State<W> {
 }
 
 impl<W: Drop> State<W> {
+    ghost use Rattle.async_utilities.specs.Barriers.{Arrives, Completes, Goes, WaitsStill};
+
     /// Nobody has come.
     pub(crate) fn new(alloc: Global, size: usize) -> State<W>
         requires { 0 < size }
         ensures size { result.size ≡ size }
-        ensures nobody { result.come ≡ 0 }
+        ensures nobody { (result.come ≡ 0) × (result.waiters.waiters.waiting ≡ []) }
     {
         State {
             size,
@@ -36,11 +38,7 @@ impl<W: Drop> State<W> {
 
     /// Ends the round, if one more is its last, and says whether it was.
     pub(crate) fn complete(&mut self) -> bool
-        ensures last { result ≡ (self.old.come + 1 == self.old.size) }
-        ensures come { self.new.come ≡ (if result then 0 else self.old.come) }
-        ensures size { self.new.size ≡ self.old.size }
-        ensures waiters { self.new.waiters.waiters ≡ self.old.waiters.waiters }
-        ensures under_way { result ≡ false → self.new.waiters.round ≡ self.old.waiters.round }
+        ensures { Completes self.old result self.new }
     {
         if self.size - self.come > 1 {
             return false;
@@ -53,9 +51,7 @@ impl<W: Drop> State<W> {
     /// One comes, which is not the last of its round, and waits with this waker. If it is the last, or
     /// there is no memory for its place, the waker comes back, and is to be woken.
     pub(crate) fn arrive(&mut self, waker: W) -> Result<Arrival, W>
-        ensures come { OnOk result (self.new.come ≡ self.old.come + 1) }
-        ensures size { self.new.size ≡ self.old.size }
-        ensures round { self.new.waiters.round ≡ self.old.waiters.round }
+        ensures { Arrives self.old waker result self.new }
     {
         if self.size - self.come <= 1 {
             return Err(waker);
@@ -68,8 +64,7 @@ impl<W: Drop> State<W> {
 
     /// Has one that came wait with this waker, if its round is under way. Gives what is not kept.
     pub(crate) fn wait(&mut self, place: usize, waker: W) -> Option<W>
-        ensures come { self.new.come ≡ self.old.come }
-        ensures size { self.new.size ≡ self.old.size }
+        ensures { WaitsStill self.old place waker result self.new }
     {
         self.waiters.wait(place, waker)
     }
@@ -83,9 +78,7 @@ impl<W: Drop> State<W> {
 
     /// Gives a place back, with its waker. If its round is under way, one fewer has come.
     pub(crate) fn leave(&mut self, arrival: Arrival) -> Option<W>
-        ensures come { self.new.come ≡ (if self.old.waiters.round == arrival.round then self.old.come - 1 else self.old.come) }
-        ensures size { self.new.size ≡ self.old.size }
-        ensures round { self.new.waiters.round ≡ self.old.waiters.round }
+        ensures { Goes self.old arrival result self.new }
     {
         if !self.is_over(arrival) {
             self.come = self.come.saturating_sub(1);

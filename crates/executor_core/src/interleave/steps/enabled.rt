@@ -101,7 +101,7 @@ impl<P: Drop, T: Copy> World<P, T> {
         matches!(ticker.phase, Phase::Rest) && self.is_new_run(ticker)
     }
 
-    // Whether the ticker may be polled.
+    // Whether the step that polls a ticker is enabled.
     fn may_poll(&self, k: usize) -> bool
         ensures { result ≡ (at_rest (ticker k self.now).phase && may_search self.now.locals (ticker k self.now)) }
     {

@@ -1,8 +1,0 @@
-use Rattle.std.proofs.Common.{◌≡◌, None, vec_len}
-use Rattle.std.specs.Prelude.{All, vec_capacity}
-use Rattle.priority_executor.proofs.executor.PriorityExecutor.tick.Given as goal
-
-abbrev pub invariant-loop-level : goal.invariant-loop-level
-invariant-loop-level g l =
-    (vec_len l.levels ≡ l.level-index) × (vec_capacity l.levels ≡ g.row.N)
-    × All (λ s. s.inner.number ≡ None) l.levels.items
