@@ -104,7 +104,7 @@ fi
 # The example of a page is a whole piece of the file that the page names above it.
 for page in $callings; do
     block "$page" rust "## Example" > "$copy/said"
-    file=$(sed -n '/^## Example/,/^```/s/.*(\([^()]*\.rs\)).*/\1/p' "$page" | head -n 1)
+    file=$(sed -n '/^## Example/,/^```/p' "$page" | grep -oE '\([^()]*\.rs\)' | head -n 1 | tr -d '()')
     if [ -s "$copy/said" ] && python3 -c 'import sys; sys.exit(open(sys.argv[1]).read() not in open(sys.argv[2]).read())' \
         "$copy/said" "$(dirname "$page")/$file"; then
         pass "$page, the example: in $file"
