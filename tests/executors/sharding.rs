@@ -210,20 +210,36 @@ fn a_second_notice_is_passed_on_before_a_task_is_polled(rt: HostRuntime) -> Resu
     Ok(())
 }
 
+// Leaves two tasks that count on the second shard.
+fn leave_two<R: Wait + AllocGlobal + Clone + Drop + Send + Sync>(
+    ex: &Shards<R>,
+    ran: &Arc<AtomicU64>,
+) -> Result<(), Fail> {
+    leave(ex, 1, digit(1, ran)?)?;
+    leave(ex, 1, digit(1, ran)?)
+}
+
 // How many tasks of the second shard ran while a run of the first had one that is never ready, and wakes
-// itself at each poll, in so many polls of the run.
+// itself at each poll, in so many polls of the run. Before one of them the second shard's own run may have
+// a turn, and then the tasks come after it.
 fn looked_around<R: Wait + AllocGlobal + Clone + Drop + Send + Sync>(
     rt: &R,
     polls: u64,
+    served_before: Option<u64>,
 ) -> Result<u64, Fail> {
     let ran = Arc::new(rt.alloc(), AtomicU64::new(0))?;
     let ex = shards(rt, 2)?;
     leave(&ex, 0, Job::Busy)?;
-    let (waker, _) = waker(rt.alloc())?;
-    let mut run = run_of(&ex, 0)?;
-    leave(&ex, 1, digit(1, &ran)?)?;
-    leave(&ex, 1, digit(1, &ran)?)?;
-    for _ in 0..polls {
+    let ((waker, _), (other, _)) = (waker(rt.alloc())?, waker(rt.alloc())?);
+    let (mut run, mut own) = (run_of(&ex, 0)?, run_of(&ex, 1)?);
+    if served_before.is_none() {
+        leave_two(&ex, &ran)?;
+    }
+    for poll in 0..polls {
+        if served_before == Some(poll) {
+            let _ = own.poll(&other);
+            leave_two(&ex, &ran)?;
+        }
         let _ = run.poll(&waker);
     }
     Ok(ran.load(Ordering::SeqCst))
@@ -231,7 +247,19 @@ fn looked_around<R: Wait + AllocGlobal + Clone + Drop + Send + Sync>(
 
 #[test]
 fn a_busy_run_looks_at_the_others(rt: HostRuntime) -> Result<(), Fail> {
-    assert_eq!(rt; [looked_around(&rt, 3)?, looked_around(&rt, 4)?, looked_around(&rt, 8)?], [0, 1, 11]);
+    let counts = [
+        looked_around(&rt, 7, None)?,
+        looked_around(&rt, 8, None)?,
+        looked_around(&rt, 12, None)?,
+    ];
+    assert_eq!(rt; counts, [0, 1, 11]);
+    Ok(())
+}
+
+#[test]
+fn a_busy_run_takes_nothing_of_a_shard_that_had_a_turn(rt: HostRuntime) -> Result<(), Fail> {
+    let counts = [looked_around(&rt, 8, Some(5))?, looked_around(&rt, 12, Some(5))?];
+    assert_eq!(rt; counts, [0, 1]);
     Ok(())
 }
 
