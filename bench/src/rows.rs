@@ -4,6 +4,7 @@ use crate::busy::Busy;
 use crate::closing::{close_idle, close_queued, drop_idle};
 use crate::crossing::Crossing;
 use crate::futures::{IdleWaker, Large, Yields};
+use crate::jobs::job_try_tick;
 use crate::locking::Locking;
 use crate::messaging::Messaging;
 use crate::parking::{one_spawner, parked_yield, wake_latency};
@@ -52,6 +53,8 @@ pub enum Row {
     WakeOneOf(usize),
     /// Spawn, detach and run a task, by a tick of its own.
     SpawnTick,
+    /// Hand in a job by a spawner, and run the task that a server has made of it.
+    JobTryTick,
     /// Run one task that wakes itself, by a tick for each of its polls.
     YieldTick,
     /// Put a tick to sleep, wake it by a spawn, and have it run the task.
@@ -132,7 +135,7 @@ pub enum Staying {
 }
 
 /// Each row whose tasks do not work, with its name on the command line.
-const ROWS: [(&str, Row); 115] = [
+const ROWS: [(&str, Row); 116] = [
     ("spawn_try_tick", Row::SpawnTryTick),
     ("spawn_drain", Row::SpawnDrain),
     ("yield_try_tick", Row::YieldTryTick),
@@ -144,6 +147,7 @@ const ROWS: [(&str, Row); 115] = [
     ("idle_thousand", Row::WakeOneOf(1_000)),
     ("idle_million", Row::WakeOneOf(1_000_000)),
     ("spawn_tick", Row::SpawnTick),
+    ("job_try_tick", Row::JobTryTick),
     ("yield_tick", Row::YieldTick),
     ("sleep_wake", Row::SleepWake),
     ("priority_try_tick", Row::PriorityTryTick),
@@ -436,6 +440,7 @@ impl Row {
             Row::Locking(row) => row.run(rt, alloc, operations),
             Row::WakeIdle => wake_idle(rt, alloc, operations),
             Row::SpawnTick => spawn_tick(rt, alloc, operations),
+            Row::JobTryTick => job_try_tick(rt, alloc, operations),
             Row::YieldTick => yield_tick(rt, alloc, operations),
             Row::SleepWake => sleep_wake(rt, alloc, operations),
             Row::PriorityTryTick => priority_try_tick(rt, alloc, operations),
