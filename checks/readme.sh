@@ -126,10 +126,6 @@ for page in $callings; do
     if [ -s "$copy/log" ]; then fail "$page, callers in other files:" "$copy/log"; else pass "$page: each caller is in its file"; fi
 done
 
-block docs/OWN_REPOSITORY.md rust "## A future" > "$copy/said"
-sed -n '/^\/\/\/ Gives the sum/,$p' uses/src/futures.rs > "$copy/wanted"
-same "OWN_REPOSITORY.md, the future and the folder uses"
-
 block docs/FROM_SMOL.md rust "## From an" > "$copy/said"
 sed -n '/^    fn poll/,/^    }/s/^    //p' uses/src/translating.rs > "$copy/wanted"
 same "FROM_SMOL.md, the poll and the folder uses"

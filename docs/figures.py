@@ -24,7 +24,7 @@ TOP = pathlib.Path(__file__).resolve().parent.parent
 PAGES = ("README.md", "docs/MEASURED.md", "docs/EXSIM.md")
 HEADS = {
     "beside": ("what", "async-executor 1.14.1", "tokio 1.24", "the kit's futures and tokio", "here"),
-    "bench": ("row", "one operation", "instructions", "the Rust crate", "nanoseconds"),
+    "bench": ("row", "one operation", "instructions (the Rust crate)", "nanoseconds"),
     "busy": ("work", "runs never park", "the Rust crate", "runs park", "the Rust crate", "tokio 1.24"),
     "shards": ("row", "one operation", "T", "shards", "one executor", "the Rust crate", "tokio 1.24"),
     "exsim": ("lines", "milliseconds", "million instructions", "peak memory, MB"),
@@ -66,7 +66,8 @@ def families(rows):
         (name, said, *_), *others = family = list(family)
         names = [f"`{name}`", *(re.search(r"\d+$", row[0])[0] for row in others)]
         cells = zip(*(row[2:] for row in family))
-        yield (", ".join(names), said, *("-" if set(cell) == {"-"} else ", ".join(cell) for cell in cells))
+        ours, theirs, times = ("-" if set(cell) == {"-"} else ", ".join(cell) for cell in cells)
+        yield ", ".join(names), said, ours if theirs == "-" else f"{ours} ({theirs})", times
 
 
 def medians(times):

@@ -23,7 +23,7 @@ use std::hint::spin_loop;
 use std::sync::atomic::{AtomicBool, AtomicU32, Ordering};
 use std::sync::{Mutex, MutexGuard, Wait};
 
-/// Waits for a lock. A macro: calling a function that may block costs the caller a check.
+/// Waits for a lock. It is no function, since each call that may wait costs its caller a test.
 macro_rules! lock {
     ($lock:expr, $rt:expr) => {{
         let lock = &$lock;
