@@ -58,7 +58,7 @@ impl<R: Wait + Clone + Drop> Future<TaskWaker<ThreadWaker, R>> for Customer<R> {
             };
             let from = self.number % ACCOUNTS;
             let to = self.number.wrapping_mul(visit) % ACCOUNTS;
-            if !accounts.transfer(from, to, 60) {
+            if !accounts.transfer(from, to, 20) {
                 self.refused = self.refused.saturating_add(1);
             }
         }

@@ -17,7 +17,7 @@ use std::thread::Threads;
 /// Example: `uses::sums_on_shards`.
 ///
 /// ```text
-/// let pool: ShardedPool<Sum, R> = ShardedPool::new(rt.clone()?, alloc, 2)?;
+/// let pool: ShardedPool<Sum, R> = ShardedPool::new(rt.clone()?, alloc, 4)?;
 /// ```
 #[derive(Drop)]
 pub struct ShardedPool<F, R>
@@ -71,7 +71,7 @@ where
     /// Example: `uses::sums_on_shards`.
     ///
     /// ```text
-    /// let pool: ShardedPool<Sum, R> = ShardedPool::new(rt.clone()?, alloc, 2)?;
+    /// let pool: ShardedPool<Sum, R> = ShardedPool::new(rt.clone()?, alloc, 4)?;
     /// ```
     pub fn new(rt: R, alloc: Global, count: usize) -> Result<ShardedPool<F, R>, PoolError>
         requires { 0 < count }
