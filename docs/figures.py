@@ -117,10 +117,11 @@ SAID = {
 
 
 def table(kind, found):
-    """What a page says of a kind: its text, or its rows as a table."""
+    """What a page says of a kind: its text, or its rows as a table. What was not measured is left empty."""
     if kind in SAID:
         return SAID[kind](found)
-    head, *lines = (" | ".join(line) for line in (HEADS[kind], *rows(kind, found)))
+    shown = (["" if cell == "-" else cell for cell in line] for line in rows(kind, found))
+    head, *lines = (" | ".join(line).rstrip() for line in (HEADS[kind], *shown))
     return "\n".join((head, "|".join(["---"] * len(HEADS[kind])), *lines))
 
 
