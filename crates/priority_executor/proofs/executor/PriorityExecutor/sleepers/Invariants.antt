@@ -6,4 +6,4 @@ abbrev pub invariant-loop-level : goal.invariant-loop-level
 invariant-loop-level g l =
     (vec_len l.levels ≡ l.level-index) × (vec_capacity l.levels ≡ g.row.N)
     × All (λ s. s.inner.number ≡ None) l.levels.items
-    × (map (λ s. s.inner.executor.now) l.levels.items ≡ map (λ level. level.inner) (take l.level-index l.self.now.levels.items))
+    × (map (λ s. s.inner.executor.now) l.levels.items ≡ map (λ level. level.inner) (take l.level-index l.self.levels.items))
