@@ -17,8 +17,8 @@ loop-level-preserved g c =
       c.push_reserved.ensures.capacity ∙ inv.1,
       rw c.push_reserved.ensures.items (All-push (λ s. s.inner.number ≡ None) c.loop-level.levels.items sleeper inv.2 c.in_ok-sleeper.ensures.awake),
       rw c.push_reserved.ensures.items (
-        map_push (λ s. s.inner.executor.now) c.loop-level.levels.items sleeper
-        ∙ ap (λ xs. xs ++ sleeper.inner.executor.now ∷ []) inv.3
-        ∙ ap (λ x. map (λ l. l.inner) (take at levels) ++ x ∷ []) (c.in_ok-sleeper.ensures.own ∙ ap (λ l. l.inner) found)
-        ∙ sym (ap (map (λ l. l.inner)) (take_more levels at level inside) ∙ map_push (λ l. l.inner) (take at levels) (get_or levels at level))),
+          map_push (λ s. s.inner.executor.now) c.loop-level.levels.items sleeper
+          ∙ ap (λ xs. xs ++ sleeper.inner.executor.now ∷ []) inv.3
+          ∙ ap (λ x. map (λ l. l.inner) (take at levels) ++ x ∷ []) (c.in_ok-sleeper.ensures.own ∙ ap (λ l. l.inner) found)
+          ∙ sym (ap (map (λ l. l.inner)) (take_more levels at level inside) ∙ map_push (λ l. l.inner) (take at levels) (get_or levels at level))),
     )
