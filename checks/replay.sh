@@ -48,6 +48,8 @@ lay_out() {
         add_sources "$recorder/$crate" "$copy/crates/$crate/src"
     done
     add_sources "$top/tests/support/running" "$program/support"
+    # What shards do is no step of a world.
+    rm "$program/support/shards.rt" "$program/support/shard_trial.rt"
     (cd "$program/support" && ls | sed 's/\(.*\)\.rt/pub mod \1;/') > "$program/support.rt"
     python3 -B "$top/checks/lib/tables.py" "$top/tests" "$program" > "$copy/tables"
     echo 'recorded: executor_core async_executor' >> "$copy/crates.txt"
