@@ -71,7 +71,7 @@ fn a_batch_of_a_closed_channel_is_what_is_inside(rt: HostRuntime) -> Result<(), 
     let mut taken = list(rt.alloc(), 4)?;
     assert_eq!(rt; receiver.try_receive_many(&mut taken, 4), Ok(2));
     assert_eq!(rt; receiver.try_receive_many(&mut taken, 4), Err(NoMessage::Closed));
-    assert_eq!(rt; taken.as_slice(), &[7, 0, 1]);
+    assert_eq!(rt; taken.as_slice(), [7, 0, 1].as_slice());
     Ok(())
 }
 
