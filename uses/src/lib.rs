@@ -58,9 +58,7 @@ pub use lasting::{keeps, lasts, prints, serves};
 pub use levelling::{runs_levels, serves_levels};
 pub use limiting::keeps_turns;
 pub use locking::{hears, makes_once, meets, takes_permits, takes_turns};
-pub use messaging::{
-    closes_a_channel, gives_up, runs_here, sends_to_a_task, takes_many, tries,
-};
+pub use messaging::{closes_a_channel, gives_up, runs_here, sends_to_a_task, takes_many, tries};
 pub use mixing::{boxes, mixes};
 pub use nesting::nests;
 pub use parking::{dozes, parks};

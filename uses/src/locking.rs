@@ -1,7 +1,7 @@
 //! What tasks and threads await each other by.
 use async_utilities::{
-    Barrier, Event, Mutex, OnceCell, Ready, Semaphore, ThreadWaker, TooManyPermits,
-    Unavailable, block_on,
+    Barrier, Event, Mutex, OnceCell, Ready, Semaphore, ThreadWaker, TooManyPermits, Unavailable,
+    block_on,
 };
 use std::alloc::Global;
 use std::sync::Wait;
@@ -14,8 +14,7 @@ pub fn takes_permits<R: Wait + Clone + Drop>(
     rt: &R,
     alloc: Global,
 ) -> Option<([usize; 4], Unavailable, TooManyPermits)> {
-    let semaphore: Semaphore<ThreadWaker, R> =
-        Semaphore::new(rt.clone().ok()?, alloc, 2).ok()?;
+    let semaphore: Semaphore<ThreadWaker, R> = Semaphore::new(rt.clone().ok()?, alloc, 2).ok()?;
     let permit = semaphore.try_acquire().ok()?;
     let first = semaphore.permits();
     let unavailable = semaphore.try_acquire_many(2).err()?;
@@ -28,7 +27,11 @@ pub fn takes_permits<R: Wait + Clone + Drop>(
     let one = block_on(rt, alloc, semaphore.acquire().ok()?).ok()?;
     let count = both.permits();
     drop((one, both));
-    Some(([first, second, count, semaphore.permits()], unavailable, too_many))
+    Some((
+        [first, second, count, semaphore.permits()],
+        unavailable,
+        too_many,
+    ))
 }
 
 /// Adds to a number from two threads, each of which waits for its turn. Gives the sum, and why a try did
@@ -100,10 +103,7 @@ pub fn meets<R: Wait + Threads + Clone + Drop + Send + Sync>(
 
 /// Has the value of a cell made by a future. Gives it, whether it was there before, whether that future
 /// made it, and the value that came too late.
-pub fn makes_once<R: Wait + Clone + Drop>(
-    rt: &R,
-    alloc: Global,
-) -> Option<(u64, [bool; 2], u64)> {
+pub fn makes_once<R: Wait + Clone + Drop>(rt: &R, alloc: Global) -> Option<(u64, [bool; 2], u64)> {
     let cell: OnceCell<u64, ThreadWaker, R> = OnceCell::new(rt, alloc).ok()?;
     let was_set = cell.is_initialized();
     let is_own = block_on(rt, alloc, cell.get_or_init(Ready::new(1)).ok()?).ok()?;

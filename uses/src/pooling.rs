@@ -3,7 +3,8 @@ use crate::common::{added, executor, total_of, two_tasks};
 use crate::futures::Sum;
 use async_executor::{Executor, Limits, Run};
 use async_utilities::{
-    Done, Driven, JoinAll, Pool, PoolError, PoolOf, PoolThread, Signal, ThreadWaker, Waiting, Zip, block_on,
+    Done, Driven, JoinAll, Pool, PoolError, PoolOf, PoolThread, Signal, ThreadWaker, Waiting, Zip,
+    block_on,
 };
 use std::alloc::Global;
 use std::io;
