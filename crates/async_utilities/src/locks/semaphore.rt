@@ -24,8 +24,7 @@ use std::sync::{Arc, Mutex, MutexGuard, Wait};
 /// Example: `uses::takes_permits`.
 ///
 /// ```text
-/// let semaphore: Semaphore<ThreadWaker, R> =
-///     Semaphore::new(rt.clone().ok()?, alloc, 2).ok()?;
+/// let semaphore: Semaphore<ThreadWaker, R> = Semaphore::new(rt.clone().ok()?, alloc, 2).ok()?;
 /// ```
 #[derive(Drop)]
 pub struct Semaphore<W: Wake, R: Wait + Drop> {
@@ -117,8 +116,7 @@ impl<W: Wake, R: Wait + Drop> Semaphore<W, R> {
     /// Example: `uses::takes_permits`.
     ///
     /// ```text
-    /// let semaphore: Semaphore<ThreadWaker, R> =
-    ///     Semaphore::new(rt.clone().ok()?, alloc, 2).ok()?;
+    /// let semaphore: Semaphore<ThreadWaker, R> = Semaphore::new(rt.clone().ok()?, alloc, 2).ok()?;
     /// ```
     pub fn new(rt: R, alloc: Global, permits: usize) -> Result<Semaphore<W, R>, OutOfMemory> {
         let state = Mutex::new(State::new(alloc, permits));
