@@ -11,10 +11,7 @@
 pub mod awaiting;
 pub mod busy;
 pub mod closing;
-pub mod crossing;
 pub mod futures;
-pub mod jobs;
-pub mod locking;
 pub mod messaging;
 pub mod parking;
 pub mod priorities;

@@ -2,10 +2,7 @@
 use crate::awaiting::{spawn_all_await_run, spawn_await_run, spawn_many_run};
 use crate::busy::Busy;
 use crate::closing::{close_idle, close_queued, drop_idle};
-use crate::crossing::Crossing;
 use crate::futures::{IdleWaker, Large, Yields};
-use crate::jobs::job_try_tick;
-use crate::locking::Locking;
 use crate::messaging::Messaging;
 use crate::parking::{one_spawner, parked_yield, wake_latency};
 use crate::priorities::priority_try_tick;
@@ -53,8 +50,6 @@ pub enum Row {
     WakeOneOf(usize),
     /// Spawn, detach and run a task, by a tick of its own.
     SpawnTick,
-    /// Hand in a job by a spawner, and run the task that a server has made of it.
-    JobTryTick,
     /// Run one task that wakes itself, by a tick for each of its polls.
     YieldTick,
     /// Put a tick to sleep, wake it by a spawn, and have it run the task.
@@ -113,10 +108,6 @@ pub enum Row {
     Sharded(Sharded),
     /// A row of a channel.
     Messaging(Messaging),
-    /// A row of a channel between threads.
-    Crossing(Crossing),
-    /// A row of a lock, or of a signal.
-    Locking(Locking),
 }
 
 /// A row of a local or static executor, of the shape of one of a shared executor, or that one.
@@ -135,7 +126,7 @@ pub enum Staying {
 }
 
 /// Each row whose tasks do not work, with its name on the command line.
-const ROWS: [(&str, Row); 116] = [
+const ROWS: [(&str, Row); 105] = [
     ("spawn_try_tick", Row::SpawnTryTick),
     ("spawn_drain", Row::SpawnDrain),
     ("yield_try_tick", Row::YieldTryTick),
@@ -147,7 +138,6 @@ const ROWS: [(&str, Row); 116] = [
     ("idle_thousand", Row::WakeOneOf(1_000)),
     ("idle_million", Row::WakeOneOf(1_000_000)),
     ("spawn_tick", Row::SpawnTick),
-    ("job_try_tick", Row::JobTryTick),
     ("yield_tick", Row::YieldTick),
     ("sleep_wake", Row::SleepWake),
     ("priority_try_tick", Row::PriorityTryTick),
@@ -308,46 +298,6 @@ const ROWS: [(&str, Row); 116] = [
         "channel_waits_10000",
         Row::Messaging(Messaging::Waits(10_000)),
     ),
-    (
-        "channel_threads_2",
-        Row::Crossing(Crossing {
-            four: false,
-            keeps: false,
-        }),
-    ),
-    (
-        "channel_threads_4",
-        Row::Crossing(Crossing {
-            four: true,
-            keeps: false,
-        }),
-    ),
-    (
-        "channel_kept_threads_2",
-        Row::Crossing(Crossing {
-            four: false,
-            keeps: true,
-        }),
-    ),
-    (
-        "channel_kept_threads_4",
-        Row::Crossing(Crossing {
-            four: true,
-            keeps: true,
-        }),
-    ),
-    ("semaphore_16", Row::Locking(Locking::Semaphore(16))),
-    ("mutex_alone", Row::Locking(Locking::MutexAlone)),
-    ("mutex_tasks_4", Row::Locking(Locking::MutexTasks(4))),
-    ("signal_waits_1", Row::Locking(Locking::SignalWaits(1))),
-    (
-        "signal_waits_1000",
-        Row::Locking(Locking::SignalWaits(1_000)),
-    ),
-    (
-        "signal_waits_10000",
-        Row::Locking(Locking::SignalWaits(10_000)),
-    ),
 ];
 
 impl Staying {
@@ -393,7 +343,6 @@ impl Row {
             Row::WakeOneOf(_) => Row::WakeOneOf(1_000),
             Row::Times(row) => Row::Times(row.small()),
             Row::Messaging(Messaging::Waits(_)) => Row::Messaging(Messaging::Waits(10)),
-            Row::Locking(Locking::SignalWaits(_)) => Row::Locking(Locking::SignalWaits(10)),
             row => row,
         }
     }
@@ -436,11 +385,8 @@ impl Row {
         match self {
             Row::Staying(row) => row.run(rt, alloc, operations),
             Row::Messaging(row) => row.run(rt, alloc, operations),
-            Row::Crossing(row) => row.run(rt, alloc, operations),
-            Row::Locking(row) => row.run(rt, alloc, operations),
             Row::WakeIdle => wake_idle(rt, alloc, operations),
             Row::SpawnTick => spawn_tick(rt, alloc, operations),
-            Row::JobTryTick => job_try_tick(rt, alloc, operations),
             Row::YieldTick => yield_tick(rt, alloc, operations),
             Row::SleepWake => sleep_wake(rt, alloc, operations),
             Row::PriorityTryTick => priority_try_tick(rt, alloc, operations),
