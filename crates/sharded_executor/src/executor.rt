@@ -13,6 +13,7 @@ use async_executor::{
 use std::alloc::Global;
 use std::fmt::{self, Debug, Formatter, Write};
 use std::sync::Wait;
+use std::sync::atomic::Ordering;
 
 /// So many words lie unused before and behind what each shard allocates as it is made, so that no two shards
 /// have parts on neighbouring cache lines.
@@ -136,7 +137,7 @@ where
         ensures refused { IfErr result (λ e. refused_future e ≡ future) }
     {
         // One count for all: one for each thread would need a place for it.
-        let shard = self.next.one_more() % self.shards.len() as u64;
+        let shard = self.next.count.fetch_add(1, Ordering::SeqCst) % self.shards.len() as u64;
         self.shards[shard as usize].spawn(future)
     }
 }

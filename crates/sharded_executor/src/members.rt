@@ -8,6 +8,7 @@ use async_executor::{
 };
 use std::alloc::Global;
 use std::sync::Wait;
+use std::sync::atomic::Ordering;
 
 /// How many tasks a run takes of another shard, one after another, before it looks at its own again.
 const HANDFUL: u32 = 16;
@@ -135,7 +136,7 @@ where
         ensures count { vec_len self.new.sleepers ≡ vec_len self.old.sleepers }
     {
         let has_task = if at == 0 {
-            self.turns.0[0].one_more();
+            self.turns.0[0].count.fetch_add(1, Ordering::SeqCst);
             self.worker.turn()
         } else {
             self.help(at)
@@ -169,8 +170,8 @@ where
     {
         let (from_own, before) = self.turns;
         match from_own.get(at) {
-            Some(turns) => turns.get(),
-            None => before[at - from_own.len()].get(),
+            Some(turns) => turns.count.load(Ordering::SeqCst),
+            None => before[at - from_own.len()].count.load(Ordering::SeqCst),
         }
     }
 

@@ -1,17 +1,17 @@
 //! How far the run of each shard has come, which busy runs look at before they help one another.
 
-use std::sync::atomic::{AtomicU64, Ordering};
+use std::sync::atomic::AtomicU64;
 
 /// As many bytes as two cache lines have: a processor fetches the line beside the one that it needs.
 type Apart = [u64; 16];
 
 const APART: Apart = [0; 16];
 
-/// A count that stands alone on its cache lines.
+/// A count, modulo 2^64, that stands alone on its cache lines.
 #[derive(Drop)]
 pub(crate) struct Count {
     before: Apart,
-    count: AtomicU64,
+    pub(crate) count: AtomicU64,
     behind: Apart,
 }
 
@@ -23,15 +23,5 @@ impl Count {
             count: AtomicU64::new(0),
             behind: APART,
         }
-    }
-
-    /// Counts one more, modulo 2^64, and gives the count before it.
-    pub(crate) fn one_more(&self) -> u64 {
-        self.count.fetch_add(1, Ordering::SeqCst)
-    }
-
-    /// How many were counted.
-    pub(crate) fn get(&self) -> u64 {
-        self.count.load(Ordering::SeqCst)
     }
 }
