@@ -123,7 +123,9 @@ def owner_of(block):
     given, rest = brackets(block.removeprefix("impl"))
     type_name, rest = re.match(r"(?:\w+::)*(\w+)(.*)", rest.split(" for ")[-1].strip(), re.S).groups()
     is_of_trait = " for " in block
-    return type_name, not is_of_trait and [it.split(":")[0] for it in given] == brackets(rest)[0]
+    # A lifetime that the block leaves open is any.
+    taken = [it for it in brackets(rest)[0] if it != "'_"]
+    return type_name, not is_of_trait and [it.split(":")[0] for it in given] == taken
 
 
 def brackets(text):
