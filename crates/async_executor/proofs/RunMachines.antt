@@ -33,7 +33,7 @@ use Rattle.async_executor.specs.declared.machine.waiting.Came.{Came}
 use Rattle.async_executor.specs.declared.machine.waiting.Came.TheVariants.{Act, Rest, Run, End}
 use Rattle.async_executor.specs.declared.machine.waiting.Spending.{Spending}
 use Rattle.async_executor.specs.declared.machine.waiting.TickAction.{TickAction}
-use Rattle.async_executor.specs.declared.machine.waiting.TickAction.TheVariants.{Search, Insert, Update, FutureTable, Remove, StoreRemoved, Exchange, Notify, Wake}
+use Rattle.async_executor.specs.declared.machine.waiting.TickAction.TheVariants.{Search, Insert, Update, Store, Remove, StoreRemoved, Exchange, Notify, Wake}
 use Rattle.async_executor.specs.declared.machine.waiting.TickAction.TheVariants as action
 use Rattle.async_executor.specs.declared.machine.waiting.TickEnd.TheVariants.{Park, Yield, Return}
 use Rattle.async_executor.specs.declared.machine.waiting.TickReply.{TickReply}
@@ -62,7 +62,7 @@ module _ {W : Type 0} where
   go_on_act asked k (Search again) kept step none = refl
   go_on_act asked k Insert kept step none = refl
   go_on_act asked k (Update number) kept step none = refl
-  go_on_act asked k (FutureTable change) kept step none = refl
+  go_on_act asked k (Store change) kept step none = refl
   go_on_act asked k (Remove number) kept step none = refl
   go_on_act asked k (StoreRemoved change) kept step none = refl
   go_on_act asked k (Exchange notice) kept step none = refl
@@ -74,7 +74,7 @@ module _ {W : Type 0} where
   runs_in_none (Search again) none = refl
   runs_in_none Insert none = refl
   runs_in_none (Update number) none = refl
-  runs_in_none (FutureTable change) none = refl
+  runs_in_none (Store change) none = refl
   runs_in_none (Remove number) none = refl
   runs_in_none (StoreRemoved change) none = refl
   runs_in_none (Exchange notice) none = refl
@@ -86,7 +86,7 @@ module _ {W : Type 0} where
   finds_none fair n machine (Search again) none before = before
   finds_none fair n machine Insert none before = before
   finds_none fair n machine (Update number) none before = before
-  finds_none fair n machine (FutureTable change) none before = before
+  finds_none fair n machine (Store change) none before = before
   finds_none fair n machine (Remove number) none before = before
   finds_none fair n machine (StoreRemoved change) none before = before
   finds_none fair n machine (Exchange notice) none before = before

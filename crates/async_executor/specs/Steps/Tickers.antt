@@ -97,7 +97,7 @@ module _ {A : Type 0} where
   of_removing removing runner = ticker_at runner phase.Wake removing.number
 
   abbrev pub of_storing_removed : StoringRemoved A → Bool → Option ℕ → Ticker
-  of_storing_removed storing notified runner = ticker_at runner (phase.FutureTable (Woke notified)) 0
+  of_storing_removed storing notified runner = ticker_at runner (phase.Store (Woke notified)) 0
 
   -- its task is announced and run
   abbrev pub of_announcing : Announcing A → Option ℕ → Ticker
@@ -122,7 +122,7 @@ module _ {A : Type 0} where
   of_going (Update updating) runner = of_updating updating runner
 
   abbrev pub of_storing : Storing A → Option ℕ → Ticker
-  of_storing storing runner = ticker_at runner (phase.FutureTable Slept) storing.number
+  of_storing storing runner = ticker_at runner (phase.Store Slept) storing.number
 
   -- it could not, and rests
   abbrev pub of_yielding : Yielding A → Option ℕ → Ticker
@@ -136,7 +136,7 @@ module _ {A : Type 0} where
   of_leaving leaving runner = ticker_at runner (dropped_phase runner) leaving.number
 
   abbrev pub of_storing_left : StoringLeft A → Bool → Option ℕ → Ticker
-  of_storing_left storing notified runner = ticker_at runner (phase.FutureTable (Dropped notified)) 0
+  of_storing_left storing notified runner = ticker_at runner (phase.Store (Dropped notified)) 0
 
   abbrev pub of_departed : Departed A → Option ℕ → Ticker
   of_departed departed runner = ticker_at runner phase.Ended 0
