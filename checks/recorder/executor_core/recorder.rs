@@ -96,7 +96,7 @@ pub enum Word {
     Leave,
     NoCopy,
     Yield,
-    Store,
+    FutureTable,
     ExchangeBegins,
     Exchange,
     Notify,

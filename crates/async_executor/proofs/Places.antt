@@ -1,12 +1,12 @@
--- What the places of a store have at a slot.
+-- What the places of a table of futures have at a slot.
 use Rattle.std.proofs.Common.{◌≡◌, ℕ, ◌<◌, ◌≤◌, Bool, true, false, cond, inl, inr, List, length, set, get_or, Option, Some, None, IsTrue, is_some, refl, sym, ap, subst, ◌∙◌}
 use Rattle.std.proofs.lemmas.Bool.{cases_Bool, eqb-true, eq-eqb, ne_eqb}
 use Rattle.std.proofs.lemmas.Option.{slice_get_read, slice_get_past, slice_get_within, get_or_from_slice_get}
 use Rattle.std.specs.Prelude.{◌==◌, slice_get}
-use Rattle.async_executor.specs.Store.{kept_of, future_in, output_in}
-use Rattle.async_executor.specs.declared.store.Kept.{Kept}
-use Rattle.async_executor.specs.declared.store.Kept.TheVariants.{Nothing, Future, Output}
-use Rattle.async_executor.specs.declared.store.Place.{Place}
+use Rattle.async_executor.specs.FutureTable.{kept_of, future_in, output_in}
+use Rattle.async_executor.specs.declared.futures.Kept.{Kept}
+use Rattle.async_executor.specs.declared.futures.Kept.TheVariants.{Nothing, Future, Output}
+use Rattle.async_executor.specs.declared.futures.Place.{Place}
 
 module _ {F S T : Type 0} where
   pub kept_here : (xs places : List (Place F S T)) (k slot n number : ℕ) (place : Place F S T) → xs ≡ places → k ≡ slot → n ≡ number

@@ -1,10 +1,10 @@
 pub use Rattle.executor_core.specs.SpawnError
 pub mod Answers
-pub mod LeftOver
+pub mod Deferred
 pub mod Poller
 pub mod RunError
 pub mod Runs
 pub mod SpawnMany
 pub mod Steps
-pub mod Store
+pub mod FutureTable
 pub mod Ticks

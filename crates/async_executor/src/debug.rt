@@ -10,7 +10,7 @@ ghost use Rattle.executor_core.specs.Cells.Calls.{undropped_count};
 mod queue_lens;
 
 use crate::executor::{Executor, TaskWaker};
-use crate::home::Home;
+use crate::futures::storage::Storage;
 use crate::local_executor::LocalExecutor;
 use crate::scheduler::ExecutorIn;
 use crate::state::ExecutorState;
@@ -94,7 +94,7 @@ enum Active {
     Zero,
 }
 
-impl<H: Home> ExecutorIn<H> {
+impl<S: Storage> ExecutorIn<S> {
     fn write_text<O: Write>(
         &self,
         name: &str,

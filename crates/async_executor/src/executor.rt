@@ -1,7 +1,7 @@
 //! The executor whose tasks any thread may run, with its handles, ticks and runs.
 //!
-//! Each of them has what is written once for every home, at the shared one. It is a type of its own,
-//! so that a caller meets the bounds of its future, its waker and its right to wait, and no home.
+//! Each of them has what is written once for both kinds of storage, of the shared kind. It is a type of its own,
+//! so that a caller meets the bounds of its future, its waker and its right to wait, and no storage.
 //!
 //! An example at a type or a call is the whole body of a caller in `uses/src/executor_calls.rs` or
 //! `handle_calls.rs`. There rt is the right to wait and alloc the allocator, as `main` hands them on.
@@ -18,7 +18,7 @@ mod handles;
 mod tickers;
 mod workers;
 
-use crate::home::SharedHome;
+use crate::futures::shared::SharedStorage;
 pub use crate::runner::RunError;
 use crate::scheduler::ExecutorIn;
 pub use crate::scheduler::SpawnMany;
@@ -58,7 +58,7 @@ where
     W: Wake,
     R: Wait + Clone + Drop,
 {
-    pub(crate) inner: ExecutorIn<SharedHome<F, W, R>>,
+    pub(crate) inner: ExecutorIn<SharedStorage<F, W, R>>,
 }
 
 // `Send` and `Sync` are asked where an executor is made and where it spawns. Without an executor there is

@@ -2,24 +2,23 @@
 //!
 //! An executor, its handles and the wakers of its tasks share one `ExecutorState`: the table of tasks
 //! of `executor_core` behind a lock, and the right to wait for that lock. The table holds no futures.
-//! The futures and the outputs of the tasks stand in a `Store`, each under the number of its task.
+//! The futures and the outputs of the tasks stand in a `FutureTable`, each under the number of its task.
 //! There are two tables since a waker has a share of the state, and a future may keep its waker: a
 //! table with futures in it would be a part of itself.
 //!
-//! A `Home` is where the store is kept. `ExecutorIn`, `TaskIn`, `TickIn` and `RunIn` are written once
-//! for every home. Each public type has one of them, at one home.
+//! A `Storage` keeps that table, behind a lock or in a cell. `ExecutorIn`, `TaskIn`, `TickIn` and `RunIn`
+//! are written once for both. Each public type has one of them, of one storage.
 //!
-//! If both are locked, the store is locked first and the table second. Neither is locked while a
+//! If both are locked, the futures are locked first and the table second. Neither is locked while a
 //! future is polled or dropped, an output is dropped, or a waker is copied, woken or dropped.
 #![tactic(auto)]
 
-pub(crate) mod changes;
 pub(crate) mod debug;
+pub(crate) mod deferred;
 pub(crate) mod dropper;
 pub mod executor;
-pub(crate) mod home;
+pub(crate) mod futures;
 pub(crate) mod io_errors;
-pub(crate) mod left_over;
 pub mod local_executor;
 pub(crate) mod lock;
 pub(crate) mod machine;
@@ -30,7 +29,6 @@ pub(crate) mod sleeper;
 pub(crate) mod sleeping;
 pub(crate) mod state;
 pub mod static_executors;
-pub(crate) mod store;
 pub(crate) mod task;
 pub mod ticker;
 pub(crate) mod waker;

@@ -1,6 +1,6 @@
 //! The executor that stays on the thread that made it, with its handles, ticks and runs.
 //!
-//! Each of them has what is written once for every home, at the local one. It is a type of its own,
+//! Each of them has what is written once for both kinds of storage, of the local kind. It is a type of its own,
 //! for the reason that the shared ones are. The examples stand in `uses/src/local_calls.rs`.
 ghost use Rattle.std.specs.Prelude.{◌≡◌, ◌↔◌, false, IfOk, IfErr, IsErr, IfNone, vec_len, vec_capacity};
 ghost use Rattle.std.specs.Iterator.{IsFinite};
@@ -15,7 +15,7 @@ mod handles;
 mod tickers;
 
 use crate::executor::{RunError, SpawnMany, TaskWaker};
-use crate::home::LocalHome;
+use crate::futures::local::LocalStorage;
 use crate::scheduler::ExecutorIn;
 use crate::static_executors::StaticLocalExecutor;
 use executor_core::limits::{Limits, NewError};
@@ -50,7 +50,7 @@ where
     W: Wake,
     R: Wait + Clone + Drop,
 {
-    pub(crate) inner: ExecutorIn<LocalHome<F, W, R>>,
+    pub(crate) inner: ExecutorIn<LocalStorage<F, W, R>>,
 }
 
 impl<F, W, R> LocalExecutor<F, W, R>

@@ -2,7 +2,7 @@
 ghost use Rattle.std.specs.Prelude.{◌≡◌};
 ghost use Rattle.async_executor.specs.Poller.{AnswersOwn, DisposesOwn};
 
-use crate::changes::Out;
+use crate::futures::Out;
 use crate::waker::TaskWaker;
 use executor_core::task::{Future, Poll, Polled, Poller, TaskId};
 

@@ -1,25 +1,24 @@
 //! Spawns tasks and runs them.
 //!
-//! A task that is run goes this way: its id is taken from the table and its future from the store,
-//! and the future is polled or dropped with no lock held. A future that is not ready goes back into
-//! the store, and then its task is ended in the table. A task with an output is ended in the table
-//! first, and the output goes into the store if a handle wants it. What neither keeps is dropped
-//! after that.
+//! A task that is run goes this way: its id is taken from the table and its future from the futures'
+//! table, and the future is polled or dropped with no lock held. A future that is not ready goes back
+//! there, and then its task is ended in the table. A task with an output is ended in the table first, and
+//! the output goes to the futures if a handle wants it. What neither keeps is dropped after that.
 ghost use Rattle.std.specs.Prelude.{◌≡◌, ◌↔◌, true, false, IfOk, IfErr, IsErr};
 ghost use Rattle.executor_core.specs.Limits.{is_lawful};
 ghost use Rattle.executor_core.specs.SpawnError.{refused_future};
 ghost use Rattle.async_executor.specs.RunError.{run_future};
 ghost use Rattle.async_executor.specs.Runs.{has_ended, IsNewRun};
 ghost use Rattle.executor_core.specs.declared.limits.NewError.TheVariants as NewError;
-ghost use Rattle.async_executor.specs.LeftOver.{IsHeldRight, IsLeftRight};
+ghost use Rattle.async_executor.specs.Deferred.{IsHeldRight, IsDeferredRight};
 
 mod closing;
 mod many;
 mod workers;
 
-use crate::changes;
-use crate::home::{Home, OutIn, OutputIn, Shareable};
-use crate::left_over::LeftOver;
+use crate::deferred::Deferred;
+use crate::futures::storage::{OutIn, OutputIn, Shareable, Storage};
+use crate::futures::transactions;
 use crate::poller::TaskPoller;
 use crate::runner::{RunError, RunIn};
 use crate::state::{ExecutorState, announce, cells};
@@ -38,7 +37,7 @@ use std::alloc::Global;
 // the same reason as `lock!`.
 macro_rules! take_and_run {
     ($executor:expr, $take:ident) => {{
-        let state = $executor.home.state();
+        let state = $executor.storage.state();
         let mut cells = cells!(state);
         let Some((taken, notice)) = cells.$take(None) else {
             return false;
@@ -53,19 +52,19 @@ macro_rules! take_and_run {
 
 /// A share of an executor, which spawns tasks and runs them.
 #[derive(Drop)]
-pub struct ExecutorIn<H: Home> {
-    home: H,
+pub struct ExecutorIn<S: Storage> {
+    storage: S,
     limits: Limits,
     ghost lawful: { is_lawful limits ≡ true },
 }
 
-impl<H: Shareable> ExecutorIn<H> {
+impl<S: Shareable> ExecutorIn<S> {
     /// An executor without tasks, with these limits, if they are lawful.
     pub(crate) fn new_with(
-        rt: H::Runtime,
+        rt: S::Runtime,
         alloc: Global,
         limits: Limits,
-    ) -> Result<ExecutorIn<H>, NewError>
+    ) -> Result<ExecutorIn<S>, NewError>
         ensures ok { IfOk result (λ executor. executor.limits ≡ limits) }
         ensures cause { IfErr result (λ error. (error ≡ NewError.BadLimits) ↔ (is_lawful limits ≡ false)) }
         ensures bad { is_lawful limits ≡ false → IsErr result }
@@ -73,30 +72,30 @@ impl<H: Shareable> ExecutorIn<H> {
         if !limits.is_lawful() {
             return Err(NewError::BadLimits);
         }
-        match H::new(rt, alloc) {
-            Ok(home) => Ok(ExecutorIn { home, limits }),
+        match S::new(rt, alloc) {
+            Ok(storage) => Ok(ExecutorIn { storage, limits }),
             Err(OutOfMemory) => Err(NewError::OutOfMemory),
         }
     }
 
     /// Schedules the future as a new task, behind all that are scheduled.
-    pub(crate) fn spawn(&self, future: H::Future) -> Result<TaskIn<H>, SpawnError<H::Future>>
+    pub(crate) fn spawn(&self, future: S::Future) -> Result<TaskIn<S>, SpawnError<S::Future>>
         ensures ok { IfOk result (λ task. task.answered ≡ false) }
         ensures refused { IfErr result (λ e. refused_future e ≡ future) }
     {
-        let Ok(home) = self.home.share() else {
+        let Ok(storage) = self.storage.share() else {
             return Err(SpawnError::OutOfMemory(future));
         };
-        let (id, notice) = changes::spawn(&self.home, future)?;
-        announce!(self.home.state(), notice);
-        Ok(TaskIn::new(home, id))
+        let (id, notice) = transactions::spawn(&self.storage, future)?;
+        announce!(self.storage.state(), notice);
+        Ok(TaskIn::new(storage, id))
     }
 }
 
-impl<H: Home> ExecutorIn<H> {
+impl<S: Storage> ExecutorIn<S> {
     /// Whether the future of every task was dropped.
     pub(crate) fn is_empty(&self) -> bool {
-        self.home.state().cells().is_empty()
+        self.storage.state().cells().is_empty()
     }
 
     /// Wakes every task, and spends the notice of those that were queued.
@@ -120,7 +119,7 @@ impl<H: Home> ExecutorIn<H> {
     }
 
     /// A future that runs one task, for which a sleeper's place is reserved here.
-    pub(crate) fn tick(&self) -> Result<TickIn<'_, H>, OutOfMemory>
+    pub(crate) fn tick(&self) -> Result<TickIn<'_, S>, OutOfMemory>
         ensures { IfOk result (λ tick. tick.rest ≡ record { number = 0; ended = false }) }
     {
         self.state().reserve_sleeper()?;
@@ -129,7 +128,7 @@ impl<H: Home> ExecutorIn<H> {
 
     /// A future that runs tasks beside this one. The queue of its runner is made here, and a
     /// sleeper's and a runner's place are reserved. What was made before a refusal is given back.
-    pub(crate) fn run<G: Future<H::Waker>>(&self, future: G) -> Result<RunIn<'_, H, G>, RunError<G>>
+    pub(crate) fn run<G: Future<S::Waker>>(&self, future: G) -> Result<RunIn<'_, S, G>, RunError<G>>
         ensures ok { IfOk result (λ run. has_ended run.rest ≡ false) }
         ensures limits { IfOk result (λ run. IsNewRun self.now.limits run.rest run.own.ring) }
         ensures refused { IfErr result (λ e. run_future e ≡ future) }
@@ -153,37 +152,37 @@ impl<H: Home> ExecutorIn<H> {
     }
 
     /// What the executor shares with its handles and its wakers.
-    pub(crate) fn state(&self) -> &ExecutorState<H::Waker, H::Runtime> {
-        self.home.state()
+    pub(crate) fn state(&self) -> &ExecutorState<S::Waker, S::Runtime> {
+        self.storage.state()
     }
 
     /// What keeps the futures of its tasks.
-    pub(crate) fn home(&self) -> &H {
-        &self.home
+    pub(crate) fn storage(&self) -> &S {
+        &self.storage
     }
 
     /// Polls the future of a taken task once, or drops it if the task was cancelled, and ends
     /// the task. No lock may be held.
     pub(crate) fn run_task(&self, taken: Taken<()>) {
         let id = taken.id();
-        let mut out = changes::take(&self.home, id);
-        let ran = poll_taken::<H>(taken, &mut out);
+        let mut out = transactions::take(&self.storage, id);
+        let ran = poll_taken::<S>(taken, &mut out);
         self.end(id, ran, &mut out);
     }
 
     /// Ends a task that was run. No lock may be held.
     #[inline(always)]
-    pub(crate) fn end(&self, id: TaskId, ran: Ran<(), OutputIn<H>>, out: &mut OutIn<H>)
+    pub(crate) fn end(&self, id: TaskId, ran: Ran<(), OutputIn<S>>, out: &mut OutIn<S>)
         requires { IsHeldRight ran }
     {
         match ran {
             Ran::Dropped(held) => self.end_dropped(held),
-            ran => match changes::end(&self.home, id, ran, out) {
+            ran => match transactions::end(&self.storage, id, ran, out) {
                 Ok(None) => {}
-                Ok(Some(notice)) => announce!(self.home.state(), notice),
-                Err(left) => {
+                Ok(Some(notice)) => announce!(self.storage.state(), notice),
+                Err(deferred) => {
                     *out = None;
-                    self.finish(id, left);
+                    self.finish(id, deferred);
                 }
             },
         }
@@ -191,22 +190,22 @@ impl<H: Home> ExecutorIn<H> {
 
     /// Does what the end of a task has left to do. A future that was refused is dropped. No lock
     /// may be held.
-    pub(crate) fn finish(&self, id: TaskId, left: LeftOver<H::Waker, OutputIn<H>>)
-        requires { IsLeftRight left }
+    pub(crate) fn finish(&self, id: TaskId, deferred: Deferred<S::Waker, OutputIn<S>>)
+        requires { IsDeferredRight deferred }
     {
-        match left {
-            LeftOver::Finished(unwanted, awaiter) => {
+        match deferred {
+            Deferred::Finished(unwanted, awaiter) => {
                 // Before the awaiter is woken.
                 drop(unwanted);
                 if let Some(awaiter) = awaiter {
                     awaiter.wake();
                 }
             }
-            LeftOver::ToDrop(held) => self.drop_pending(id, held),
-            LeftOver::Refused(held) => self.end_pending(id, held),
-            LeftOver::Woken(held, notice) => {
+            Deferred::ToDrop(held) => self.drop_pending(id, held),
+            Deferred::Refused(held) => self.end_pending(id, held),
+            Deferred::Woken(held, notice) => {
                 // A held task gives none. What the type says may be there is spent all the same.
-                announce!(self.home.state(), notice);
+                announce!(self.storage.state(), notice);
                 self.end_pending(id, held);
             }
         }
@@ -216,7 +215,7 @@ impl<H: Home> ExecutorIn<H> {
     fn drop_pending(&self, id: TaskId, held: Held)
         requires { held.to_drop ≡ true }
     {
-        drop(changes::take(&self.home, id));
+        drop(transactions::take(&self.storage, id));
         self.end_dropped(held);
     }
 
@@ -229,7 +228,7 @@ impl<H: Home> ExecutorIn<H> {
         let ended = self.state().cells().end_pending(held, ());
         match ended {
             EndPending::Back(None) => {}
-            EndPending::Back(Some(notice)) => announce!(self.home.state(), notice),
+            EndPending::Back(Some(notice)) => announce!(self.storage.state(), notice),
             EndPending::Drop((), held) => self.drop_pending(id, held),
         }
     }
@@ -239,7 +238,7 @@ impl<H: Home> ExecutorIn<H> {
     fn end_dropped(&self, held: Held)
         requires { held.to_drop ≡ true }
     {
-        let awaiter = cells!(self.home.state()).end_dropped(held);
+        let awaiter = cells!(self.storage.state()).end_dropped(held);
         if let Some(awaiter) = awaiter {
             awaiter.wake();
         }
@@ -249,7 +248,7 @@ impl<H: Home> ExecutorIn<H> {
 /// Polls the future of a taken task once, or drops it if the task was cancelled. No lock may be
 /// held.
 #[inline(always)]
-pub(crate) fn poll_taken<H: Home>(taken: Taken<()>, out: &mut OutIn<H>) -> Ran<(), OutputIn<H>>
+pub(crate) fn poll_taken<S: Storage>(taken: Taken<()>, out: &mut OutIn<S>) -> Ran<(), OutputIn<S>>
     ensures { IsHeldRight result }
 {
     let mut poller = TaskPoller::new(taken.id(), out);

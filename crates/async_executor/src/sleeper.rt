@@ -20,7 +20,7 @@
 //! `Notice` can be neither copied nor dropped, so a path that forgets one does not compile.
 ghost use Rattle.std.specs.Prelude.{◌≡◌, None, true, is_some, MatchResult};
 
-use crate::home::Home;
+use crate::futures::storage::Storage;
 use crate::scheduler::ExecutorIn;
 use crate::state::{ExecutorState, announce, cells, sleepers};
 use executor_core::sleepers::Removed;
@@ -28,8 +28,8 @@ use executor_core::task::{Again, Notice, OutOfMemory, Wake};
 use std::sync::Wait;
 
 /// A sleeper of an executor, which it borrows.
-pub struct SleeperIn<'a, H: Home> {
-    executor: &'a ExecutorIn<H>,
+pub struct SleeperIn<'a, S: Storage> {
+    executor: &'a ExecutorIn<S>,
     // Under which it sleeps. One that is awake has none.
     number: Option<usize>,
     // What it was notified of, or saw, until it searches.
@@ -64,9 +64,9 @@ fn insert<W: Wake, R: Wait + Clone + Drop>(
     }
 }
 
-impl<'a, H: Home> SleeperIn<'a, H> {
+impl<'a, S: Storage> SleeperIn<'a, S> {
     /// One that is awake. It has a reserved place among the sleepers.
-    pub(crate) fn new(executor: &'a ExecutorIn<H>) -> SleeperIn<'a, H>
+    pub(crate) fn new(executor: &'a ExecutorIn<S>) -> SleeperIn<'a, S>
         ensures awake { result.number ≡ None }
         ensures own { result.executor.now ≡ executor.now }
     {
@@ -78,9 +78,9 @@ impl<'a, H: Home> SleeperIn<'a, H> {
     }
 }
 
-impl<H: Home> SleeperIn<'_, H> {
+impl<S: Storage> SleeperIn<'_, S> {
     /// Puts a copy of the waker into the list, and looks for a task after that.
-    pub(crate) fn sleep(&mut self, w: &H::Waker) -> Result<bool, OutOfMemory>
+    pub(crate) fn sleep(&mut self, w: &S::Waker) -> Result<bool, OutOfMemory>
         ensures asleep { MatchResult result (λ asleep. is_some self.new.number ≡ asleep) (λ _. self.new.number ≡ None) }
     {
         self.leave();
@@ -194,7 +194,7 @@ impl<H: Home> SleeperIn<'_, H> {
     }
 }
 
-impl<H: Home> Drop for SleeperIn<'_, H> {
+impl<S: Storage> Drop for SleeperIn<'_, S> {
     fn drop(self) {
         let SleeperIn {
             executor,

@@ -1,13 +1,13 @@
 //! What the handles of an executor's tasks are made of.
 //!
-//! What a handle does to a task that has ended is one change of the store and of the table, since
+//! What a handle does to a task that has ended is one change of the futures and of the table, since
 //! the task may have to leave its slot and its place to a new one. What it does before is a change
 //! of the table alone.
 ghost use Rattle.std.specs.Prelude.{◌≡◌, true, false, IsTrue};
 ghost use Rattle.async_executor.specs.Answers.{is_ready, IsReadyErr, IsReadyNone};
 
-use crate::changes::{await_handle, take_ended, wait_and_take_ended};
-use crate::home::{Home, OutputIn};
+use crate::futures::storage::{OutputIn, Storage};
+use crate::futures::transactions::{await_handle, take_ended, wait_and_take_ended};
 use crate::state::{announce, cells};
 use executor_core::task::{Future, Poll, TaskId, Wake};
 use thiserror::Error;
@@ -26,19 +26,19 @@ use thiserror::Error;
 pub struct Cancelled;
 
 /// A share of an executor, and one of its tasks. Its drop cancels the task if it has not answered.
-pub struct TaskIn<H: Home> {
-    home: H,
+pub struct TaskIn<S: Storage> {
+    storage: S,
     id: TaskId,
     answered: bool,
 }
 
-impl<H: Home> TaskIn<H> {
+impl<S: Storage> TaskIn<S> {
     /// The handle of a new task.
-    pub(crate) fn new(home: H, id: TaskId) -> TaskIn<H>
+    pub(crate) fn new(storage: S, id: TaskId) -> TaskIn<S>
         ensures { result.answered ≡ false }
     {
         TaskIn {
-            home,
+            storage,
             id,
             answered: false,
         }
@@ -46,14 +46,18 @@ impl<H: Home> TaskIn<H> {
 
     /// Lets the task run on without a handle.
     pub(crate) fn detach(self) {
-        let TaskIn { home, id, answered } = self;
+        let TaskIn {
+            storage,
+            id,
+            answered,
+        } = self;
         if answered {
             return;
         }
-        let mut cells = cells!(home.state());
+        let mut cells = cells!(storage.state());
         if cells.is_ended(id) {
             drop(cells);
-            detach_ended(&home, id);
+            detach_ended(&storage, id);
             return;
         }
         let (_, awaiter) = cells.detach(id);
@@ -64,7 +68,7 @@ impl<H: Home> TaskIn<H> {
     /// Cancels the task at once: it is scheduled, and its future is dropped in place of its next
     /// poll.
     pub(crate) fn cancel(&self) {
-        let state = self.home.state();
+        let state = self.storage.state();
         let notice = cells!(state).cancel(self.id);
         if let Some(notice) = notice {
             announce!(state, notice);
@@ -75,18 +79,18 @@ impl<H: Home> TaskIn<H> {
     pub(crate) fn is_finished(&self) -> bool
         ensures { IsTrue self.now.answered → IsTrue result }
     {
-        self.answered || cells!(self.home.state()).is_finished(self.id)
+        self.answered || cells!(self.storage.state()).is_finished(self.id)
     }
 
     // Answers for a task that ended while its handle was polled. It is inline around the call, so that
     // the room of what that gives is cleared on this path alone.
     #[inline(always)]
-    fn answer_late(&mut self) -> Poll<Result<OutputIn<H>, Cancelled>>
+    fn answer_late(&mut self) -> Poll<Result<OutputIn<S>, Cancelled>>
         ensures answered { self.new.answered ≡ true }
         ensures ready { is_ready result ≡ true }
     {
         self.answered = true;
-        let (output, _) = wait_and_take_ended(&self.home, self.id);
+        let (output, _) = wait_and_take_ended(&self.storage, self.id);
         Poll::Ready(output.ok_or(Cancelled))
     }
 }
@@ -94,23 +98,23 @@ impl<H: Home> TaskIn<H> {
 // Ends the handle of a task that has ended.
 #[cold]
 #[inline(never)]
-fn detach_ended<H: Home>(home: &H, id: TaskId) {
-    drop(take_ended(home, id));
+fn detach_ended<S: Storage>(storage: &S, id: TaskId) {
+    drop(take_ended(storage, id));
 }
 
-impl<H: Home> Future<H::Waker> for TaskIn<H> {
-    type Output = Result<OutputIn<H>, Cancelled>;
+impl<S: Storage> Future<S::Waker> for TaskIn<S> {
+    type Output = Result<OutputIn<S>, Cancelled>;
 
     /// Gives the output once, or leaves a copy of the waker.
     #[inline(always)]
-    fn poll(&mut self, w: &H::Waker) -> Poll<Result<OutputIn<H>, Cancelled>>
+    fn poll(&mut self, w: &S::Waker) -> Poll<Result<OutputIn<S>, Cancelled>>
         ensures answered { self.new.answered ≡ is_ready result }
         ensures again { IsTrue self.old.answered → IsReadyErr result }
     {
         if self.answered {
             return Poll::Ready(Err(Cancelled));
         }
-        if let Some((output, _)) = take_ended(&self.home, self.id) {
+        if let Some((output, _)) = take_ended(&self.storage, self.id) {
             self.answered = true;
             return Poll::Ready(output.ok_or(Cancelled));
         }
@@ -119,7 +123,7 @@ impl<H: Home> Future<H::Waker> for TaskIn<H> {
             w.wake();
             return Poll::Pending;
         };
-        match await_handle(&self.home, self.id, waker) {
+        match await_handle(&self.storage, self.id, waker) {
             Ok(_) => Poll::Pending,
             // It has ended since.
             Err(_) => self.answer_late(),
@@ -127,24 +131,28 @@ impl<H: Home> Future<H::Waker> for TaskIn<H> {
     }
 }
 
-impl<H: Home> Drop for TaskIn<H> {
+impl<S: Storage> Drop for TaskIn<S> {
     #[inline(always)]
     fn drop(self) {
-        let TaskIn { home, id, answered } = self;
+        let TaskIn {
+            storage,
+            id,
+            answered,
+        } = self;
         if !answered {
-            drop_unanswered(&home, id);
+            drop_unanswered(&storage, id);
         }
     }
 }
 
 // Cancels the task of a handle that has not answered, and ends the handle.
 #[inline(never)]
-fn drop_unanswered<H: Home>(home: &H, id: TaskId) {
-    let state = home.state();
+fn drop_unanswered<S: Storage>(storage: &S, id: TaskId) {
+    let state = storage.state();
     let mut cells = cells!(state);
     if cells.is_ended(id) {
         drop(cells);
-        detach_ended(home, id);
+        detach_ended(storage, id);
         return;
     }
     let (notice, _, awaiter) = cells.drop_handle(id);

@@ -3,7 +3,7 @@ ghost use Rattle.std.specs.Prelude.{◌≡◌, IsTrue};
 ghost use Rattle.async_executor.specs.Answers.{is_ready, IsReadyErr, IsReadyNone};
 
 use crate::executor::TaskWaker;
-use crate::home::SharedHome;
+use crate::futures::shared::SharedStorage;
 use crate::scheduler::Handle;
 use crate::task::{Cancelled, TaskIn, some_if_ok};
 use executor_core::task::{Future, Poll, Wake};
@@ -31,7 +31,7 @@ where
     W: Wake,
     R: Wait + Clone + Drop,
 {
-    pub(crate) inner: TaskIn<SharedHome<F, W, R>>,
+    pub(crate) inner: TaskIn<SharedStorage<F, W, R>>,
 }
 
 impl<F, W, R> Task<F, W, R>
@@ -114,7 +114,7 @@ where
     }
 }
 
-impl<F, W, R> Handle<SharedHome<F, W, R>> for Task<F, W, R>
+impl<F, W, R> Handle<SharedStorage<F, W, R>> for Task<F, W, R>
 where
     F: Future<TaskWaker<W, R>>,
     W: Wake,
@@ -122,7 +122,7 @@ where
 {
     ghost answered = { λ task. task.inner.answered };
 
-    fn of(inner: TaskIn<SharedHome<F, W, R>>) -> Self
+    fn of(inner: TaskIn<SharedStorage<F, W, R>>) -> Self
         ensures { result.inner.answered ≡ inner.answered }
     {
         Task { inner }

@@ -5,7 +5,7 @@ ghost use Rattle.async_executor.specs.Runs.{has_ended};
 ghost use Rattle.async_executor.specs.Runs.Fixed.{fixed};
 
 use crate::executor::TaskWaker;
-use crate::home::SharedHome;
+use crate::futures::shared::SharedStorage;
 use crate::runner::RunIn;
 use crate::ticker::TickIn;
 use executor_core::task::{Future, Poll, Wake};
@@ -23,7 +23,7 @@ where
     W: Wake,
     R: Wait + Clone + Drop,
 {
-    pub(crate) inner: TickIn<'a, SharedHome<F, W, R>>,
+    pub(crate) inner: TickIn<'a, SharedStorage<F, W, R>>,
 }
 
 impl<F, W, R> Future<W> for Tick<'_, F, W, R>
@@ -76,7 +76,7 @@ where
     R: Wait + Clone + Drop,
     G: Future<W>,
 {
-    pub(crate) inner: RunIn<'a, SharedHome<F, W, R>, G>,
+    pub(crate) inner: RunIn<'a, SharedStorage<F, W, R>, G>,
 }
 
 impl<F, W, R, G> Future<W> for Run<'_, F, W, R, G>

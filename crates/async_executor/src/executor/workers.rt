@@ -5,7 +5,7 @@ ghost use Rattle.async_executor.specs.Runs.{has_ended};
 ghost use Rattle.async_executor.specs.Runs.Fixed.{fixed};
 
 use crate::executor::{Executor, TaskWaker};
-use crate::home::SharedHome;
+use crate::futures::shared::SharedStorage;
 use crate::runner::WorkerIn;
 use crate::sleeper::SleeperIn;
 use executor_core::queue::RunnerError;
@@ -86,7 +86,7 @@ where
     W: Wake,
     R: Wait + Clone + Drop,
 {
-    pub(crate) inner: WorkerIn<'a, SharedHome<F, W, R>>,
+    pub(crate) inner: WorkerIn<'a, SharedStorage<F, W, R>>,
     ghost goes_on: { has_ended inner.rest ≡ false },
 }
 
@@ -138,7 +138,7 @@ where
     W: Wake,
     R: Wait + Clone + Drop,
 {
-    pub(crate) inner: SleeperIn<'a, SharedHome<F, W, R>>,
+    pub(crate) inner: SleeperIn<'a, SharedStorage<F, W, R>>,
 }
 
 impl<F, W, R> Sleeper<'_, F, W, R>

@@ -3,7 +3,7 @@ ghost use Rattle.std.specs.Prelude.{◌≡◌, IsTrue};
 ghost use Rattle.async_executor.specs.Answers.{is_ready, IsReadyErr, IsReadyNone};
 
 use crate::executor::TaskWaker;
-use crate::home::LocalHome;
+use crate::futures::local::LocalStorage;
 use crate::scheduler::Handle;
 use crate::task::{Cancelled, TaskIn, some_if_ok};
 use executor_core::task::{Future, Poll, Wake};
@@ -28,7 +28,7 @@ where
     W: Wake,
     R: Wait + Clone + Drop,
 {
-    pub(crate) inner: TaskIn<LocalHome<F, W, R>>,
+    pub(crate) inner: TaskIn<LocalStorage<F, W, R>>,
 }
 
 impl<F, W, R> LocalTask<F, W, R>
@@ -93,7 +93,7 @@ where
     }
 }
 
-impl<F, W, R> Handle<LocalHome<F, W, R>> for LocalTask<F, W, R>
+impl<F, W, R> Handle<LocalStorage<F, W, R>> for LocalTask<F, W, R>
 where
     F: Future<TaskWaker<W, R>>,
     W: Wake,
@@ -101,7 +101,7 @@ where
 {
     ghost answered = { λ task. task.inner.answered };
 
-    fn of(inner: TaskIn<LocalHome<F, W, R>>) -> Self
+    fn of(inner: TaskIn<LocalStorage<F, W, R>>) -> Self
         ensures { result.inner.answered ≡ inner.answered }
     {
         LocalTask { inner }

@@ -5,7 +5,7 @@ ghost use Rattle.async_executor.specs.Runs.{has_ended};
 ghost use Rattle.async_executor.specs.Runs.Fixed.{fixed};
 
 use crate::executor::TaskWaker;
-use crate::home::LocalHome;
+use crate::futures::local::LocalStorage;
 use crate::runner::RunIn;
 use crate::ticker::TickIn;
 use executor_core::task::{Future, Poll, Wake};
@@ -20,7 +20,7 @@ where
     W: Wake,
     R: Wait + Clone + Drop,
 {
-    pub(crate) inner: TickIn<'a, LocalHome<F, W, R>>,
+    pub(crate) inner: TickIn<'a, LocalStorage<F, W, R>>,
 }
 
 impl<F, W, R> Future<W> for LocalTick<'_, F, W, R>
@@ -63,7 +63,7 @@ where
     R: Wait + Clone + Drop,
     G: Future<W>,
 {
-    pub(crate) inner: RunIn<'a, LocalHome<F, W, R>, G>,
+    pub(crate) inner: RunIn<'a, LocalStorage<F, W, R>, G>,
 }
 
 impl<F, W, R, G> Future<W> for LocalRun<'_, F, W, R, G>

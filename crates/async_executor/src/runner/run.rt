@@ -11,13 +11,13 @@ ghost use Rattle.async_executor.specs.Answers.{is_ready};
 ghost use Rattle.async_executor.specs.Runs.{has_ended, ids_in, new_rest};
 ghost use Rattle.async_executor.specs.Runs.Fixed.{fixed, runner_worked};
 ghost use Rattle.async_executor.specs.Steps.{actor_going};
-ghost use Rattle.async_executor.specs.LeftOver.{IsHeldRight, IsLeftRight};
+ghost use Rattle.async_executor.specs.Deferred.{IsHeldRight, IsDeferredRight};
 
 mod worker;
 
-use crate::changes;
-use crate::home::{Home, OutIn, OutputIn, store};
-use crate::left_over::{EndThenSearch, LeftOver};
+use crate::deferred::{Deferred, EndThenSearch};
+use crate::futures::storage::{OutIn, OutputIn, Storage, futures};
+use crate::futures::transactions;
 use crate::machine::{
     Begun, Dropped, GoingToSleep, NextTask, NotRegistered, OwnPolled, PollingOwn, Registering,
     RunMachine, RunRest, Runner, Running, Search, Searching, Started, TurnOver, Unregistering,
@@ -81,8 +81,8 @@ impl<G> RunError<G> {
 }
 
 /// A run of an executor, which it borrows. Between its polls it keeps its rest and what is its own.
-pub struct RunIn<'a, H: Home, G: Future<H::Waker>> {
-    executor: &'a ExecutorIn<H>,
+pub struct RunIn<'a, S: Storage, G: Future<S::Waker>> {
+    executor: &'a ExecutorIn<S>,
     rest: RunRest,
     own: Own<G>,
 }
@@ -97,16 +97,16 @@ struct Own<G> {
     ghost empty: { ids_in ring ≡ [] },
 }
 
-impl<'a, H: Home, G: Future<H::Waker>> RunIn<'a, H, G> {
+impl<'a, S: Storage, G: Future<S::Waker>> RunIn<'a, S, G> {
     /// A run that was never polled, with these limits. It has reserved places among the sleepers and
     /// the runners, and the empty queue of its runner.
     pub(crate) fn new(
-        executor: &'a ExecutorIn<H>,
+        executor: &'a ExecutorIn<S>,
         key: RunnerKey,
         limits: Limits,
         ring: Ring,
         future: G,
-    ) -> RunIn<'a, H, G>
+    ) -> RunIn<'a, S, G>
         requires empty { ring.ids ≡ [] }
         requires lawful { is_lawful limits ≡ true }
         ensures rest { result.rest ≡ new_rest key limits }
@@ -127,28 +127,28 @@ impl<'a, H: Home, G: Future<H::Waker>> RunIn<'a, H, G> {
 
 // What a poll of a run works with, and the future of a task that was found.
 #[derive(Drop)]
-struct Driver<'x, 'y, H: Home, G: Drop> {
-    executor: &'x ExecutorIn<H>,
+struct Driver<'x, 'y, S: Storage, G: Drop> {
+    executor: &'x ExecutorIn<S>,
     // The executor's state, kept here to save an indirection.
-    state: &'x ExecutorState<H::Waker, H::Runtime>,
+    state: &'x ExecutorState<S::Waker, S::Runtime>,
     search: Search,
     own: &'y mut Own<G>,
-    out: OutIn<H>,
+    out: OutIn<S>,
 }
 
-impl<'x, 'y, H: Home, G: Drop> Driver<'x, 'y, H, G> {
+impl<'x, 'y, S: Storage, G: Drop> Driver<'x, 'y, S, G> {
     // Searches for a task, and takes its future out. Each search takes one word. One in vain does not
-    // ask for the store.
+    // ask for the futures.
     #[inline(always)]
     fn search(&mut self, again: Option<Again>) -> Option<NextTask> {
         let own = &mut *self.own;
-        // The table's lock alone: the store's is taken once there is a task.
+        // The table's lock alone: that of the futures is taken once there is a task.
         let word = own.words.next();
         let found = self.search.make(&mut *cells!(self.state), word, again);
         if let Some(next) = &found {
             // Nobody else takes the future of a task that was taken, and no other one is out.
-            let mut store = store!(self.executor.home());
-            self.out = store.get().take(next.id());
+            let mut futures = futures!(self.executor.storage());
+            self.out = futures.get().take(next.id());
         }
         found
     }
@@ -168,7 +168,7 @@ impl<'x, 'y, H: Home, G: Drop> Driver<'x, 'y, H, G> {
                 }
             };
             let id = taken.id();
-            let ran = poll_taken::<H>(taken, &mut self.out);
+            let ran = poll_taken::<S>(taken, &mut self.out);
             let searching = match under_way.ran() {
                 Ok(searching) => searching,
                 // The task is ended, and none is taken that would wait until the next poll.
@@ -189,12 +189,20 @@ impl<'x, 'y, H: Home, G: Drop> Driver<'x, 'y, H, G> {
 
     // Ends the task and searches for the next one.
     #[inline(always)]
-    fn end_then_search(&mut self, id: TaskId, ran: Ran<(), OutputIn<H>>) -> Option<NextTask>
+    fn end_then_search(&mut self, id: TaskId, ran: Ran<(), OutputIn<S>>) -> Option<NextTask>
         requires { IsHeldRight ran }
     {
         let own = &mut *self.own;
-        let (home, out, words) = (self.executor.home(), &mut self.out, &mut own.words);
-        match changes::end_then_search(home, self.state, id, ran, out, &self.search, words) {
+        let (storage, out, words) = (self.executor.storage(), &mut self.out, &mut own.words);
+        match transactions::end_then_search(
+            storage,
+            self.state,
+            id,
+            ran,
+            out,
+            &self.search,
+            words,
+        ) {
             EndThenSearch::Searched(None, found) => found,
             EndThenSearch::Searched(Some(notice), found) => {
                 announce!(self.state, notice);
@@ -205,7 +213,7 @@ impl<'x, 'y, H: Home, G: Drop> Driver<'x, 'y, H, G> {
                 awaiter.wake();
                 None
             }
-            EndThenSearch::Left(left) => self.finish_then_search(id, left),
+            EndThenSearch::Unfinished(deferred) => self.finish_then_search(id, deferred),
         }
     }
 
@@ -215,24 +223,24 @@ impl<'x, 'y, H: Home, G: Drop> Driver<'x, 'y, H, G> {
     fn finish_then_search(
         &mut self,
         id: TaskId,
-        left: LeftOver<H::Waker, OutputIn<H>>,
+        deferred: Deferred<S::Waker, OutputIn<S>>,
     ) -> Option<NextTask>
-        requires { IsLeftRight left }
+        requires { IsDeferredRight deferred }
     {
         // Its drop and its wake come before the search: they may queue something for it, and while they run
         // others can still steal what it would take.
-        self.finish(id, left);
+        self.finish(id, deferred);
         self.search_anew()
     }
 
     // Does what the end of a task has left to do.
     #[cold]
     #[inline(never)]
-    fn finish(&mut self, id: TaskId, left: LeftOver<H::Waker, OutputIn<H>>)
-        requires { IsLeftRight left }
+    fn finish(&mut self, id: TaskId, deferred: Deferred<S::Waker, OutputIn<S>>)
+        requires { IsDeferredRight deferred }
     {
         self.out = None;
-        self.executor.finish(id, left);
+        self.executor.finish(id, deferred);
     }
 
     // Searches for a task, which it seldom does apart from the end of the last one.
@@ -246,17 +254,19 @@ impl<'x, 'y, H: Home, G: Drop> Driver<'x, 'y, H, G> {
 // The table, for the fair part that is due, which it seldom is.
 #[cold]
 #[inline(never)]
-fn cells_for_a_share<H: Home>(executor: &ExecutorIn<H>) -> MutexGuard<'_, Cells<(), (), H::Waker>> {
+fn cells_for_a_share<S: Storage>(
+    executor: &ExecutorIn<S>,
+) -> MutexGuard<'_, Cells<(), (), S::Waker>> {
     cells!(executor.state())
 }
 
 // Runs tasks until none is found and the run sleeps, or its turn is over.
-fn work<H: Home, G: Drop>(
-    executor: &ExecutorIn<H>,
+fn work<S: Storage, G: Drop>(
+    executor: &ExecutorIn<S>,
     search: Search,
     own: &mut Own<G>,
     searching: Searching<Runner>,
-    w: &H::Waker,
+    w: &S::Waker,
 ) -> RunRest
     ensures fixed { fixed result.runner ≡ fixed searching.actor }
     ensures goes_on { has_ended result ≡ false }
@@ -297,8 +307,8 @@ fn work<H: Home, G: Drop>(
 }
 
 // Makes the run's queue that of its runner. A queue that is refused is kept.
-fn register<H: Home, G: Drop>(
-    executor: &ExecutorIn<H>,
+fn register<S: Storage, G: Drop>(
+    executor: &ExecutorIn<S>,
     own: &mut Own<G>,
     registering: Registering,
 ) -> Result<PollingOwn, NotRegistered>
@@ -319,7 +329,7 @@ fn register<H: Home, G: Drop>(
 
 // Ends the queue of a runner, passes on what stood in it and what the run was notified of, and gives
 // its places back. The own future was dropped before.
-fn end<H: Home>(executor: &ExecutorIn<H>, unregistering: Unregistering) -> RunRest
+fn end<S: Storage>(executor: &ExecutorIn<S>, unregistering: Unregistering) -> RunRest
     ensures runner { result.runner ≡ unregistering.runner }
     ensures ended { has_ended result ≡ true }
 {
@@ -336,9 +346,9 @@ fn end<H: Home>(executor: &ExecutorIn<H>, unregistering: Unregistering) -> RunRe
     departed.end()
 }
 
-impl<H: Home, G: Future<H::Waker>> RunIn<'_, H, G> {
+impl<S: Storage, G: Future<S::Waker>> RunIn<'_, S, G> {
     // Polls a run that has not ended.
-    fn poll_once(&mut self, w: &H::Waker) -> Poll<G::Output>
+    fn poll_once(&mut self, w: &S::Waker) -> Poll<G::Output>
         requires { has_ended self.old.rest ≡ false }
         ensures fixed { fixed self.new.rest.runner ≡ fixed self.old.rest.runner }
         ensures ended { has_ended self.new.rest ≡ is_ready result }
@@ -379,7 +389,7 @@ impl<H: Home, G: Future<H::Waker>> RunIn<'_, H, G> {
     }
 }
 
-impl<H: Home, G: Future<H::Waker>> Future<H::Waker> for RunIn<'_, H, G> {
+impl<S: Storage, G: Future<S::Waker>> Future<S::Waker> for RunIn<'_, S, G> {
     type Output = G::Output;
 
     /// Polls the own future, and if that is ready, is ready with its output. Otherwise runs tasks until
@@ -387,7 +397,7 @@ impl<H: Home, G: Future<H::Waker>> Future<H::Waker> for RunIn<'_, H, G> {
     /// waker is kept, in place of an earlier one, and is woken once there may be a task. After a
     /// turn, or if the copy is refused, the waker itself is woken. A run that was ready wakes it
     /// and is pending, and does nothing more.
-    fn poll(&mut self, w: &H::Waker) -> Poll<G::Output>
+    fn poll(&mut self, w: &S::Waker) -> Poll<G::Output>
         ensures fixed { fixed self.new.rest.runner ≡ fixed self.old.rest.runner }
         ensures ended { has_ended self.old.rest ≡ false → has_ended self.new.rest ≡ is_ready result }
         ensures again { IsTrue (has_ended self.old.rest) → (self.new.rest ≡ self.old.rest) × (is_ready result ≡ false) }
@@ -401,7 +411,7 @@ impl<H: Home, G: Future<H::Waker>> Future<H::Waker> for RunIn<'_, H, G> {
     }
 }
 
-impl<H: Home, G: Future<H::Waker>> Drop for RunIn<'_, H, G> {
+impl<S: Storage, G: Future<S::Waker>> Drop for RunIn<'_, S, G> {
     fn drop(self) {
         let RunIn {
             executor,

@@ -1,15 +1,15 @@
 //! Drops what is left of an executor's tasks.
-ghost use Rattle.async_executor.specs.LeftOver.{IsHeldRight};
+ghost use Rattle.async_executor.specs.Deferred.{IsHeldRight};
 
-use crate::changes;
 use crate::dropper::TaskDropper;
-use crate::home::{Home, OutIn, OutputIn};
+use crate::futures::storage::{OutIn, OutputIn, Storage};
+use crate::futures::transactions;
 use crate::scheduler::ExecutorIn;
 use crate::state::announce;
 use executor_core::task::{Ran, Taken, run_taken};
 use std::sync::Wait;
 
-impl<H: Home> ExecutorIn<H> {
+impl<S: Storage> ExecutorIn<S> {
     /// Cancels every task, and drops the futures of all. No future may be out to be polled, and no
     /// lock may be held.
     ///
@@ -35,8 +35,8 @@ impl<H: Home> ExecutorIn<H> {
     // Drops the future of a taken task, and ends the task. No lock may be held.
     fn drop_task(&self, taken: Taken<()>) {
         let id = taken.id();
-        let mut out = changes::take(&self.home, id);
-        match drop_taken::<H>(taken, &mut out) {
+        let mut out = transactions::take(&self.storage, id);
+        match drop_taken::<S>(taken, &mut out) {
             Ran::Dropped(held) => self.end_dropped(held),
             // No other is left: every task was cancelled as the table was closed.
             Ran::Pending(held, ()) | Ran::Ready(held, _) => self.end_pending(id, held),
@@ -45,7 +45,7 @@ impl<H: Home> ExecutorIn<H> {
 }
 
 // Drops the future of a taken task that was cancelled. No lock may be held.
-fn drop_taken<H: Home>(taken: Taken<()>, out: &mut OutIn<H>) -> Ran<(), OutputIn<H>>
+fn drop_taken<S: Storage>(taken: Taken<()>, out: &mut OutIn<S>) -> Ran<(), OutputIn<S>>
     ensures { IsHeldRight result }
 {
     let mut dropper = TaskDropper::new(out);

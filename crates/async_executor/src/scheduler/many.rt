@@ -4,8 +4,8 @@ ghost use Rattle.std.specs.Iterator.{IsFinite};
 ghost use Rattle.executor_core.specs.SpawnError.{refused_future};
 ghost use Rattle.async_executor.specs.SpawnMany.{spawn_cause, spawned, SpawnsInTurn, AddsHandles, HasPlace};
 
-use crate::changes;
-use crate::home::{Home, Shareable};
+use crate::futures::storage::{Shareable, Storage};
+use crate::futures::transactions;
 use crate::scheduler::ExecutorIn;
 use crate::task::TaskIn;
 use executor_core::queue::RunnerError;
@@ -66,12 +66,12 @@ impl<F> SpawnMany<F> {
     }
 }
 
-/// A handle that callers see, which is made of what is written once for every home.
-pub trait Handle<H: Home>: Drop {
+/// A handle that callers see, which is made of what is written once for both kinds of storage.
+pub trait Handle<S: Storage>: Drop {
     ghost answered: { Self → Bool };
 
     /// The handle of this task.
-    fn of(task: TaskIn<H>) -> Self
+    fn of(task: TaskIn<S>) -> Self
         ensures { answered result ≡ task.answered };
 }
 
@@ -86,14 +86,14 @@ fn expect_handles<T, I: Iterator>(handles: &mut Vec<T>, futures: &I) -> usize
     tasks
 }
 
-impl<H: Shareable> ExecutorIn<H> {
+impl<S: Shareable> ExecutorIn<S> {
     /// Schedules each future that the iterator gives as a new task, and puts its handle at the end
     /// of the Vec. No lock is held while the iterator is asked.
-    pub(crate) fn spawn_many<T: Handle<H>, I: Iterator<Item = H::Future>>(
+    pub(crate) fn spawn_many<T: Handle<S>, I: Iterator<Item = S::Future>>(
         &self,
         mut futures: I,
         handles: &mut Vec<T>,
-    ) -> Result<usize, SpawnMany<H::Future>>
+    ) -> Result<usize, SpawnMany<S::Future>>
         requires can { I.can_next futures }
         requires ends { IsFinite (I.remaining futures) }
         ensures futures { SpawnsInTurn I.next_gives futures result }
@@ -103,7 +103,7 @@ impl<H: Shareable> ExecutorIn<H> {
     {
         // No table is then copied as it grows. If this is refused, each spawn makes its own room.
         let tasks = expect_handles(handles, &futures);
-        changes::reserve(self.home(), tasks);
+        transactions::reserve(self.storage(), tasks);
         let before = handles.len();
         // One `spawn` each: a hold of the locks over several would keep others out, and the iterator
         // could not use the executor.

@@ -2,7 +2,7 @@
 ghost use Rattle.std.specs.Prelude.{◌≡◌, false, is_some, None, IfOk};
 ghost use Rattle.async_executor.specs.Runs.{has_ended};
 
-use crate::home::Home;
+use crate::futures::storage::Storage;
 use crate::runner::WorkerIn;
 use crate::scheduler::ExecutorIn;
 use crate::sleeper::SleeperIn;
@@ -10,9 +10,9 @@ use crate::state::announce;
 use executor_core::queue::{Ring, RunnerError};
 use executor_core::task::{Notice, OutOfMemory, Taken};
 
-impl<H: Home> ExecutorIn<H> {
+impl<S: Storage> ExecutorIn<S> {
     /// A worker, whose queue is made here, and for which a runner's place is reserved.
-    pub(crate) fn worker(&self) -> Result<WorkerIn<'_, H>, RunnerError>
+    pub(crate) fn worker(&self) -> Result<WorkerIn<'_, S>, RunnerError>
         ensures { IfOk result (λ worker. has_ended worker.rest ≡ false) }
     {
         let state = self.state();
@@ -27,7 +27,7 @@ impl<H: Home> ExecutorIn<H> {
     }
 
     /// A sleeper, which is awake, and whose place is reserved here.
-    pub(crate) fn sleeper(&self) -> Result<SleeperIn<'_, H>, OutOfMemory>
+    pub(crate) fn sleeper(&self) -> Result<SleeperIn<'_, S>, OutOfMemory>
         ensures awake { IfOk result (λ sleeper. sleeper.number ≡ None) }
         ensures own { IfOk result (λ sleeper. sleeper.executor.now ≡ self.now) }
     {

@@ -2,7 +2,7 @@
 ghost use Rattle.std.specs.Prelude.{◌≡◌, true, false, Some, None, IsTrue};
 ghost use Rattle.async_executor.specs.Answers.{is_ready};
 
-use crate::home::Home;
+use crate::futures::storage::Storage;
 use crate::machine::{TickMachine, TickRest};
 use crate::scheduler::ExecutorIn;
 use crate::sleeping::{Slept, announce_found, leave, sleep};
@@ -11,14 +11,14 @@ use executor_core::task::{Future, Poll, Wake};
 use std::sync::Wait;
 
 /// A tick of an executor, which it borrows. It keeps nothing else between its polls but its rest.
-pub struct TickIn<'a, H: Home> {
-    executor: &'a ExecutorIn<H>,
+pub struct TickIn<'a, S: Storage> {
+    executor: &'a ExecutorIn<S>,
     rest: TickRest,
 }
 
-impl<'a, H: Home> TickIn<'a, H> {
+impl<'a, S: Storage> TickIn<'a, S> {
     /// A tick that was never polled. It has a reserved place among the sleepers.
-    pub(crate) fn new(executor: &'a ExecutorIn<H>) -> TickIn<'a, H>
+    pub(crate) fn new(executor: &'a ExecutorIn<S>) -> TickIn<'a, S>
         ensures { result.rest ≡ record { number = 0; ended = false } }
     {
         TickIn {
@@ -28,14 +28,14 @@ impl<'a, H: Home> TickIn<'a, H> {
     }
 }
 
-impl<H: Home> Future<H::Waker> for TickIn<'_, H> {
+impl<S: Storage> Future<S::Waker> for TickIn<'_, S> {
     type Output = ();
 
     /// Runs the task that was scheduled first, and is ready then. If none is scheduled, a copy
     /// of the waker is kept, in place of an earlier one, and is woken once there may be one. If
     /// the copy is refused, the waker itself is woken and nothing is kept. A tick that was ready
     /// stays so, and does nothing more.
-    fn poll(&mut self, w: &H::Waker) -> Poll<()>
+    fn poll(&mut self, w: &S::Waker) -> Poll<()>
         ensures ended { self.new.rest.ended ≡ is_ready result }
         ensures again { IsTrue self.old.rest.ended → self.new.rest ≡ self.old.rest }
     {
@@ -73,7 +73,7 @@ impl<H: Home> Future<H::Waker> for TickIn<'_, H> {
     }
 }
 
-impl<H: Home> Drop for TickIn<'_, H> {
+impl<S: Storage> Drop for TickIn<'_, S> {
     fn drop(self) {
         let TickIn { executor, rest } = self;
         if rest.is_ended() {

@@ -8,7 +8,7 @@ ghost use Rattle.executor_core.specs.Limits.{is_lawful};
 ghost use Rattle.async_executor.specs.Runs.{has_ended, new_rest};
 ghost use Rattle.async_executor.specs.Runs.Fixed.{fixed};
 
-use crate::home::Home;
+use crate::futures::storage::Storage;
 use crate::machine::{
     Begun, Dropped, RunMachine, RunRest, Runner, Search, Searching, Unregistering,
 };
@@ -21,21 +21,21 @@ use executor_core::limits::Limits;
 use executor_core::queue::{Ring, RunnerKey};
 
 /// A worker of an executor, which it borrows. Between its turns it keeps its rest and what is its own.
-pub struct WorkerIn<'a, H: Home> {
-    executor: &'a ExecutorIn<H>,
+pub struct WorkerIn<'a, S: Storage> {
+    executor: &'a ExecutorIn<S>,
     rest: RunRest,
     own: Own<()>,
 }
 
-impl<'a, H: Home> WorkerIn<'a, H> {
+impl<'a, S: Storage> WorkerIn<'a, S> {
     /// A worker that had no turn yet, with these limits. It has a reserved place among the runners, and
     /// the empty queue of its runner.
     pub(crate) fn new(
-        executor: &'a ExecutorIn<H>,
+        executor: &'a ExecutorIn<S>,
         key: RunnerKey,
         limits: Limits,
         ring: Ring,
-    ) -> WorkerIn<'a, H>
+    ) -> WorkerIn<'a, S>
         requires empty { ring.ids ≡ [] }
         requires lawful { is_lawful limits ≡ true }
         ensures { result.rest ≡ new_rest key limits }
@@ -54,8 +54,8 @@ impl<'a, H: Home> WorkerIn<'a, H> {
 }
 
 // Runs tasks until none is found or the turn is over, and says whether it is.
-fn run_turn<H: Home>(
-    executor: &ExecutorIn<H>,
+fn run_turn<S: Storage>(
+    executor: &ExecutorIn<S>,
     search: Search,
     own: &mut Own<()>,
     searching: Searching<Runner>,
@@ -82,7 +82,7 @@ fn run_turn<H: Home>(
 }
 
 // Ends the queue of a runner that never slept, and passes on what stood in it.
-fn end<H: Home>(executor: &ExecutorIn<H>, unregistering: Unregistering) {
+fn end<S: Storage>(executor: &ExecutorIn<S>, unregistering: Unregistering) {
     let state = executor.state();
     let mut cells = state.cells();
     let (notice, left) = unregistering.make(&mut cells);
@@ -93,7 +93,7 @@ fn end<H: Home>(executor: &ExecutorIn<H>, unregistering: Unregistering) {
     leave(state, left.depart()).end();
 }
 
-impl<H: Home> WorkerIn<'_, H> {
+impl<S: Storage> WorkerIn<'_, S> {
     /// Runs tasks until none is found or a turn is over, and says whether it is.
     pub(crate) fn turn(&mut self) -> bool
         requires { has_ended self.old.rest ≡ false }
@@ -119,7 +119,7 @@ impl<H: Home> WorkerIn<'_, H> {
     }
 }
 
-impl<H: Home> Drop for WorkerIn<'_, H> {
+impl<S: Storage> Drop for WorkerIn<'_, S> {
     fn drop(self) {
         let WorkerIn {
             executor,

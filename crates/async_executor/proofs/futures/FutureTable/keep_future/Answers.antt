@@ -1,14 +1,14 @@
 use Rattle.std.proofs.Common.{cond, None, Some, ap, refl, sym, ◌∙◌}
 use Rattle.std.proofs.lemmas.Bool.{cond-true}
-use Rattle.async_executor.specs.Store.{is_vacant}
+use Rattle.async_executor.specs.FutureTable.{is_vacant}
 use Rattle.async_executor.proofs.Places.{kept_by, set_kept}
-use Rattle.async_executor.proofs.store.Store.keep_output.Goals as goal
+use Rattle.async_executor.proofs.futures.FutureTable.keep_future.Goals as goal
 
 pub returns-then-not-is_vacant-clause-answer : goal.returns-then-not-is_vacant-clause-answer
-returns-then-not-is_vacant-clause-answer g c = ap (λ b. cond b None (Some c.args.output)) c.if-not-is_vacant.ensures.vacant
+returns-then-not-is_vacant-clause-answer g c = ap (λ b. cond b None (Some (c.args.future, c.args.share))) c.if-not-is_vacant.ensures.vacant
 
 pub returns-clause-answer : goal.returns-clause-answer
-returns-clause-answer g c = ap (λ b. cond b None (Some c.args.output)) c.if-not-is_vacant.ensures.vacant
+returns-clause-answer g c = ap (λ b. cond b None (Some (c.args.future, c.args.share))) c.if-not-is_vacant.ensures.vacant
 
 pub returns-clause-places : goal.returns-clause-places
 returns-clause-places g c =

@@ -4,8 +4,14 @@
 //! out to be polled. The place bears the number of the task, so that a later task of the same slot
 //! is not taken for it.
 ghost use Rattle.std.specs.Prelude.{◌≡◌, ◌<◌, [], cond, Some, None, OnOk, IsTrue, is_some, option_copied, vec_len};
-ghost use Rattle.async_executor.specs.Store.{kept_at, is_vacant, future_in, output_in, inserted, with_place, HasRoom};
+ghost use Rattle.async_executor.specs.FutureTable.{kept_at, is_vacant, future_in, output_in, inserted, with_place, HasRoom};
 
+pub(crate) mod local;
+pub(crate) mod shared;
+pub(crate) mod storage;
+pub(crate) mod transactions;
+
+use crate::waker::TaskWaker;
 use executor_core::task::{OutOfMemory, TaskId};
 use std::alloc::Global;
 
@@ -26,16 +32,19 @@ struct Place<F, S, T> {
 
 /// What is kept of all tasks, each at its slot.
 #[derive(Drop)]
-pub struct Store<F, S, T> {
+pub struct FutureTable<F, S, T> {
     places: Vec<Place<F, S, T>>,
 }
 
-impl<F: Drop, S: Drop, T: Drop> Store<F, S, T> {
-    /// A store without places.
-    pub(crate) fn new(alloc: Global) -> Store<F, S, T>
+/// The future of a task while it is out, with the waker that it is polled with.
+pub type Out<F, W, R> = Option<(F, TaskWaker<W, R>)>;
+
+impl<F: Drop, S: Drop, T: Drop> FutureTable<F, S, T> {
+    /// A table without places.
+    pub(crate) fn new(alloc: Global) -> FutureTable<F, S, T>
         ensures { result.places.items ≡ [] }
     {
-        Store {
+        FutureTable {
             places: Vec::new(alloc),
         }
     }

@@ -1,12 +1,12 @@
 //! What the end of a task leaves to do once no lock is held.
 ghost use Rattle.std.specs.Prelude.{IfErr};
-ghost use Rattle.async_executor.specs.LeftOver.{IsLeftRight};
+ghost use Rattle.async_executor.specs.Deferred.{IsDeferredRight};
 
 use crate::machine::NextTask;
 use executor_core::task::{Held, Notice, Wakeup};
 
 /// What the end of a task leaves to do.
-pub enum LeftOver<W, T> {
+pub enum Deferred<W, T> {
     /// The future has no place. It is to be dropped, and then the task is to be ended.
     Refused(Held),
     /// The task was woken during its poll, and the notice of that is to be spent. Then the task is
@@ -25,7 +25,7 @@ pub enum EndThenSearch<W, T> {
     /// The task was ended, and the search was in vain. The awaiter is to be woken.
     InVain(Wakeup<W>),
     /// The end leaves something to do first, so nothing was searched.
-    Left(LeftOver<W, T>),
+    Unfinished(Deferred<W, T>),
 }
 
 /// What is left to do of a task that has ended.
@@ -33,11 +33,11 @@ pub enum EndThenSearch<W, T> {
 pub(crate) fn finished<W, T>(
     unwanted: Option<T>,
     awaiter: Option<Wakeup<W>>,
-) -> Result<Option<Notice>, LeftOver<W, T>>
-    ensures { IfErr result (λ left. IsLeftRight left) }
+) -> Result<Option<Notice>, Deferred<W, T>>
+    ensures { IfErr result (λ deferred. IsDeferredRight deferred) }
 {
     match (unwanted, awaiter) {
         (None, None) => Ok(None),
-        (unwanted, awaiter) => Err(LeftOver::Finished(unwanted, awaiter)),
+        (unwanted, awaiter) => Err(Deferred::Finished(unwanted, awaiter)),
     }
 }

@@ -1,7 +1,7 @@
 use Rattle.std.proofs.Common.{is_some, ap, refl, sym, ◌∙◌, Some}
-use Rattle.async_executor.specs.Store.{future_in}
+use Rattle.async_executor.specs.FutureTable.{future_in}
 use Rattle.async_executor.proofs.Places.{kept_by, set_kept, no_future, is_future}
-use Rattle.async_executor.proofs.store.Store.take_future.Goals as goal
+use Rattle.async_executor.proofs.futures.FutureTable.take_future.Goals as goal
 
 pub returns-then-not-has_future-clause-answer : goal.returns-then-not-has_future-clause-answer
 returns-then-not-has_future-clause-answer g c = no_future _ c.if-not-has_future.ensures.future

@@ -1,7 +1,7 @@
 use Rattle.std.proofs.Common.{is_some, ap, refl, sym, ◌∙◌, Some}
-use Rattle.async_executor.specs.Store.{output_in}
+use Rattle.async_executor.specs.FutureTable.{output_in}
 use Rattle.async_executor.proofs.Places.{kept_by, set_kept, no_output, is_output}
-use Rattle.async_executor.proofs.store.Store.take_output.Goals as goal
+use Rattle.async_executor.proofs.futures.FutureTable.take_output.Goals as goal
 
 pub returns-then-not-has_output-clause-answer : goal.returns-then-not-has_output-clause-answer
 returns-then-not-has_output-clause-answer g c = no_output _ c.if-not-has_output.ensures.output

@@ -1,6 +1,6 @@
 use Rattle.async_executor.proofs.Places.{kept_here, kept_of_another, kept_past, kept_within}
-use Rattle.async_executor.proofs.store.Store.kept.Goals as goal
-use Rattle.async_executor.proofs.store.Store.kept.Goals.{in_default-via-in-Some+else-place-number, in_default-via-in_default}
+use Rattle.async_executor.proofs.futures.FutureTable.kept.Goals as goal
+use Rattle.async_executor.proofs.futures.FutureTable.kept.Goals.{in_default-via-in-Some+else-place-number, in_default-via-in_default}
 
 pub returns-in-Some-clause-kept : goal.returns-in-Some-clause-kept
 returns-in-Some-clause-kept g c =

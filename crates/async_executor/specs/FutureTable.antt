@@ -1,9 +1,9 @@
 use Rattle.std.specs.Prelude.{◌==◌, Bool, true, false, ℕ, Option, Some, None, cond, List, [], ◌∷◌, ◌++◌, slice_set, slice_get, length, nat_lt, vec_len, vec_capacity, ◌<◌}
 use Rattle.executor_core.specs.declared.task.id.TaskId.{TaskId}
-use Rattle.async_executor.specs.declared.store.Kept.{Kept}
-use Rattle.async_executor.specs.declared.store.Kept.TheVariants.{Nothing, Future, Output}
-use Rattle.async_executor.specs.declared.store.Place.{Place}
-use Rattle.async_executor.specs.declared.store.Store.{Store}
+use Rattle.async_executor.specs.declared.futures.Kept.{Kept}
+use Rattle.async_executor.specs.declared.futures.Kept.TheVariants.{Nothing, Future, Output}
+use Rattle.async_executor.specs.declared.futures.Place.{Place}
+use Rattle.async_executor.specs.declared.futures.FutureTable.{FutureTable}
 
 module _ {F S T : Type 0} where
   -- what is kept in the place, if it is that of the task of this number
@@ -12,8 +12,8 @@ module _ {F S T : Type 0} where
   kept_of number None = None
 
   -- what is kept of the task
-  abbrev pub kept_at : Store F S T → TaskId → Option (Kept F S T)
-  kept_at store id = kept_of id.number (slice_get store.places.items id.slot)
+  abbrev pub kept_at : FutureTable F S T → TaskId → Option (Kept F S T)
+  kept_at table id = kept_of id.number (slice_get table.places.items id.slot)
 
   -- the places with this kept at the slot of the task
   abbrev pub with_place : List (Place F S T) → TaskId → Kept F S T → List (Place F S T)
@@ -46,5 +46,5 @@ module _ {F S T : Type 0} where
   output_in None = None
 
   -- a place more needs no memory
-  abbrev pub HasRoom : Store F S T → Type 0
-  HasRoom store = vec_len store.places < vec_capacity store.places
+  abbrev pub HasRoom : FutureTable F S T → Type 0
+  HasRoom table = vec_len table.places < vec_capacity table.places

@@ -1,10 +1,10 @@
 use Rattle.std.specs.Prelude.{◌≡◌, true, false}
 use Rattle.executor_core.specs.declared.task.polling.Ran.{Ran}
 use Rattle.executor_core.specs.declared.task.polling.Ran.TheVariants.{Pending, Ready, Dropped}
-use Rattle.async_executor.specs.declared.left_over.EndThenSearch.{EndThenSearch}
-use Rattle.async_executor.specs.declared.left_over.EndThenSearch.TheVariants.{Searched, InVain, Left}
-use Rattle.async_executor.specs.declared.left_over.LeftOver.{LeftOver}
-use Rattle.async_executor.specs.declared.left_over.LeftOver.TheVariants.{Refused, Woken, ToDrop, Finished}
+use Rattle.async_executor.specs.declared.deferred.EndThenSearch.{EndThenSearch}
+use Rattle.async_executor.specs.declared.deferred.EndThenSearch.TheVariants.{Searched, InVain, Unfinished}
+use Rattle.async_executor.specs.declared.deferred.Deferred.{Deferred}
+use Rattle.async_executor.specs.declared.deferred.Deferred.TheVariants.{Refused, Woken, ToDrop, Finished}
 
 module _ {T : Type 0} where
   -- what is held of a task that was run is to be dropped exactly if its future was
@@ -15,13 +15,13 @@ module _ {T : Type 0} where
 
 module _ {W T : Type 0} where
   -- what is left to drop of a task
-  abbrev pub IsLeftRight : LeftOver W T → Type 0
-  IsLeftRight (Refused held) = held.to_drop ≡ false
-  IsLeftRight (Woken held notice) = held.to_drop ≡ false
-  IsLeftRight (ToDrop held) = held.to_drop ≡ true
-  IsLeftRight (Finished unwanted awaiter) = Unit {0}
+  abbrev pub IsDeferredRight : Deferred W T → Type 0
+  IsDeferredRight (Refused held) = held.to_drop ≡ false
+  IsDeferredRight (Woken held notice) = held.to_drop ≡ false
+  IsDeferredRight (ToDrop held) = held.to_drop ≡ true
+  IsDeferredRight (Finished unwanted awaiter) = Unit {0}
 
   abbrev pub IsEndRight : EndThenSearch W T → Type 0
   IsEndRight (Searched notice found) = Unit {0}
   IsEndRight (InVain awaiter) = Unit {0}
-  IsEndRight (Left left) = IsLeftRight left
+  IsEndRight (Unfinished deferred) = IsDeferredRight deferred

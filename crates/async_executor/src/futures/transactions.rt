@@ -1,18 +1,18 @@
-//! Transactions on a home: each changes the store under its lock and, where needed, the table under
+//! Transactions on a storage: each changes the futures under their lock and, where needed, the table under
 //! its own lock inside. A call on the table alone takes that lock alone.
 //!
 //! A transaction polls nothing, drops nothing of a task's and wakes nobody: what is to be dropped or
 //! woken is part of its answer. No guard outlives it.
 ghost use Rattle.std.specs.Prelude.{◌≡◌, false, IfErr};
 ghost use Rattle.executor_core.specs.SpawnError.{refused_future};
-ghost use Rattle.async_executor.specs.LeftOver.{IsHeldRight, IsLeftRight, IsEndRight};
+ghost use Rattle.async_executor.specs.Deferred.{IsHeldRight, IsDeferredRight, IsEndRight};
 
-use crate::home::{Home, OutIn, OutputIn, Shareable, store};
-use crate::left_over::{EndThenSearch, LeftOver, finished};
+use crate::deferred::{Deferred, EndThenSearch, finished};
+use crate::futures::storage::{OutIn, OutputIn, Shareable, Storage, futures};
+use crate::futures::{FutureTable, Out};
 use crate::machine::Search;
 use crate::runner::Words;
 use crate::state::{ExecutorState, cells};
-use crate::store::Store;
 use crate::waker::{LentWake, TaskWaker};
 use executor_core::task::{
     Cells, EndPending, EndReady, Held, Notice, PollHandle, Ran, SpawnError, Taken, TaskId, Wakeup,
@@ -21,24 +21,24 @@ use std::sync::{Arc, MutexGuard};
 
 /// Makes a task of this future and keeps the future. Its place is made before the task is queued.
 /// If that is refused, all is as before.
-pub(crate) fn spawn<H: Shareable>(
-    home: &H,
-    future: H::Future,
-) -> Result<(TaskId, Notice), SpawnError<H::Future>>
+pub(crate) fn spawn<S: Shareable>(
+    storage: &S,
+    future: S::Future,
+) -> Result<(TaskId, Notice), SpawnError<S::Future>>
     ensures { IfErr result (λ e. refused_future e ≡ future) }
 {
-    let Ok(state) = home.share_state() else {
+    let Ok(state) = storage.share_state() else {
         return Err(SpawnError::OutOfMemory(future));
     };
-    let mut guard = store!(home);
-    let store = guard.get();
-    if store.reserve().is_err() {
+    let mut guard = futures!(storage);
+    let futures = guard.get();
+    if futures.reserve().is_err() {
         return Err(SpawnError::OutOfMemory(future));
     }
     let spawned = cells!(&state).spawn(());
     match spawned {
         Ok((id, notice)) => {
-            store.insert(id, future, state);
+            futures.insert(id, future, state);
             Ok((id, notice))
         }
         Err(SpawnError::OutOfMemory(())) => Err(SpawnError::OutOfMemory(future)),
@@ -47,54 +47,54 @@ pub(crate) fn spawn<H: Shareable>(
 }
 
 /// Makes room for so many tasks more, if there is memory for it: else each spawn makes its own.
-pub(crate) fn reserve<H: Home>(home: &H, tasks: usize) {
-    let mut store = store!(home);
-    let _places = store.get().reserve_places(tasks);
-    let _cells = cells!(home.state()).reserve(tasks);
+pub(crate) fn reserve<S: Storage>(storage: &S, tasks: usize) {
+    let mut futures = futures!(storage);
+    let _places = futures.get().reserve_places(tasks);
+    let _cells = cells!(storage.state()).reserve(tasks);
 }
 
 /// Takes the future of the task out, with the waker to poll it with.
 #[inline(always)]
-pub(crate) fn take<H: Home>(home: &H, id: TaskId) -> OutIn<H> {
-    let mut store = store!(home);
-    store.get().take(id)
+pub(crate) fn take<S: Storage>(storage: &S, id: TaskId) -> OutIn<S> {
+    let mut futures = futures!(storage);
+    futures.get().take(id)
 }
 
 /// Ends a task that was run, and keeps its future or its output, if the handle wants it. There is
 /// a notice if the task was queued.
 #[inline(always)]
-pub(crate) fn end<H: Home>(
-    home: &H,
+pub(crate) fn end<S: Storage>(
+    storage: &S,
     id: TaskId,
-    ran: Ran<(), OutputIn<H>>,
-    out: &mut OutIn<H>,
-) -> Result<Option<Notice>, LeftOver<H::Waker, OutputIn<H>>>
+    ran: Ran<(), OutputIn<S>>,
+    out: &mut OutIn<S>,
+) -> Result<Option<Notice>, Deferred<S::Waker, OutputIn<S>>>
     requires { IsHeldRight ran }
-    ensures { IfErr result (λ left. IsLeftRight left) }
+    ensures { IfErr result (λ deferred. IsDeferredRight deferred) }
 {
-    let mut store = store!(home);
-    let mut cells = cells!(home.state());
-    store.get().end(&mut cells, id, ran, out)
+    let mut futures = futures!(storage);
+    let mut cells = cells!(storage.state());
+    futures.get().end(&mut cells, id, ran, out)
 }
 
 /// Ends a task that was run, and takes the next one for a runner, and its future out. The search takes
-/// one word. The state is that of the home.
+/// one word. The state is that of the storage.
 #[inline(always)]
-pub(crate) fn end_then_search<'a, H: Home>(
-    home: &'a H,
-    state: &'a ExecutorState<H::Waker, H::Runtime>,
+pub(crate) fn end_then_search<'a, S: Storage>(
+    storage: &'a S,
+    state: &'a ExecutorState<S::Waker, S::Runtime>,
     id: TaskId,
-    ran: Ran<(), OutputIn<H>>,
-    out: &mut OutIn<H>,
+    ran: Ran<(), OutputIn<S>>,
+    out: &mut OutIn<S>,
     search: &Search,
     words: &mut Words,
-) -> EndThenSearch<H::Waker, OutputIn<H>>
+) -> EndThenSearch<S::Waker, OutputIn<S>>
     requires { IsHeldRight ran }
     ensures { IsEndRight result }
 {
-    let mut store = store!(home);
+    let mut futures = futures!(storage);
     let cells = cells!(state);
-    store
+    futures
         .get()
         .end_then_search(cells, id, ran, out, search, words)
 }
@@ -116,54 +116,54 @@ fn is_unscheduled<W>(cells: &Cells<(), (), W>) -> bool {
 /// Ends the handle of a task that has ended. The output comes out, if there is one, and a waker
 /// that was left. `None` says that the task has not ended.
 #[inline(always)]
-pub(crate) fn take_ended<H: Home>(
-    home: &H,
+pub(crate) fn take_ended<S: Storage>(
+    storage: &S,
     id: TaskId,
-) -> Option<(Option<OutputIn<H>>, Option<H::Waker>)> {
-    let mut cells = cells!(home.state());
+) -> Option<(Option<OutputIn<S>>, Option<S::Waker>)> {
+    let mut cells = cells!(storage.state());
     if !cells.is_ended(id) {
         return None;
     }
-    // Others wait for the table while they have the store, so nobody waits for the store here.
-    if let Some(mut store) = home.try_store() {
-        return Some(store.get().take_ended(&mut cells, id));
+    // Others wait for the table while they have the futures, so nobody waits for those here.
+    if let Some(mut futures) = storage.try_futures() {
+        return Some(futures.get().take_ended(&mut cells, id));
     }
-    Some(give_up_and_take_ended(home, cells, id))
+    Some(give_up_and_take_ended(storage, cells, id))
 }
 
-// Gives the table up, and ends the handle once the store is free. It is inline around the call, so that
+// Gives the table up, and ends the handle once the futures are free. It is inline around the call, so that
 // the room of what that gives is cleared on this path alone.
 #[inline(always)]
-fn give_up_and_take_ended<H: Home>(
-    home: &H,
-    cells: MutexGuard<'_, Cells<(), (), H::Waker>>,
+fn give_up_and_take_ended<S: Storage>(
+    storage: &S,
+    cells: MutexGuard<'_, Cells<(), (), S::Waker>>,
     id: TaskId,
-) -> (Option<OutputIn<H>>, Option<H::Waker>) {
+) -> (Option<OutputIn<S>>, Option<S::Waker>) {
     drop(cells);
-    wait_and_take_ended(home, id)
+    wait_and_take_ended(storage, id)
 }
 
-/// Ends the handle of a task that has ended, once the store is free.
+/// Ends the handle of a task that has ended, once the futures are free.
 #[cold]
 #[inline(never)]
-pub(crate) fn wait_and_take_ended<H: Home>(
-    home: &H,
+pub(crate) fn wait_and_take_ended<S: Storage>(
+    storage: &S,
     id: TaskId,
-) -> (Option<OutputIn<H>>, Option<H::Waker>) {
-    let mut store = store!(home);
-    let mut cells = cells!(home.state());
-    store.get().take_ended(&mut cells, id)
+) -> (Option<OutputIn<S>>, Option<S::Waker>) {
+    let mut futures = futures!(storage);
+    let mut cells = cells!(storage.state());
+    futures.get().take_ended(&mut cells, id)
 }
 
 /// Leaves this waker at the handle of a task, in place of an earlier one, which comes out. If the
 /// handle has an answer, this one comes back.
 #[inline(always)]
-pub(crate) fn await_handle<H: Home>(
-    home: &H,
+pub(crate) fn await_handle<S: Storage>(
+    storage: &S,
     id: TaskId,
-    waker: H::Waker,
-) -> Result<Option<H::Waker>, H::Waker> {
-    let mut cells = cells!(home.state());
+    waker: S::Waker,
+) -> Result<Option<S::Waker>, S::Waker> {
+    let mut cells = cells!(storage.state());
     if cells.is_ended(id) {
         return Err(waker);
     }
@@ -174,11 +174,8 @@ pub(crate) fn await_handle<H: Home>(
     }
 }
 
-/// The future of a task while it is out, with the waker that it is polled with.
-pub type Out<F, W, R> = Option<(F, TaskWaker<W, R>)>;
-
 // Never blocks, so it needs no `Wait` bound, and its callers pay no check.
-impl<F: Drop, W: Drop, R: Drop, T: Drop> Store<F, Arc<ExecutorState<W, R>>, T> {
+impl<F: Drop, W: Drop, R: Drop, T: Drop> FutureTable<F, Arc<ExecutorState<W, R>>, T> {
     #[inline(always)]
     pub(crate) fn take(&mut self, id: TaskId) -> Out<F, W, R> {
         let (future, state) = self.take_future(id)?;
@@ -203,9 +200,9 @@ impl<F: Drop, W: Drop, R: Drop, T: Drop> Store<F, Arc<ExecutorState<W, R>>, T> {
         id: TaskId,
         ran: Ran<(), T>,
         out: &mut Out<F, W, R>,
-    ) -> Result<Option<Notice>, LeftOver<W, T>>
+    ) -> Result<Option<Notice>, Deferred<W, T>>
         requires { IsHeldRight ran }
-        ensures { IfErr result (λ left. IsLeftRight left) }
+        ensures { IfErr result (λ deferred. IsDeferredRight deferred) }
     {
         match ran {
             Ran::Pending(held, ()) => self.end_pending(cells, id, held, out),
@@ -247,7 +244,7 @@ impl<F: Drop, W: Drop, R: Drop, T: Drop> Store<F, Arc<ExecutorState<W, R>>, T> {
         };
         let notice = match ended {
             Ok(notice) => notice,
-            Err(left) => return EndThenSearch::Left(left),
+            Err(deferred) => return EndThenSearch::Unfinished(deferred),
         };
         // After the end, which may have queued this very task: no search before it would find that.
         let found = search.make(&mut cells, words.next(), None);
@@ -268,26 +265,26 @@ impl<F: Drop, W: Drop, R: Drop, T: Drop> Store<F, Arc<ExecutorState<W, R>>, T> {
         id: TaskId,
         held: Held,
         out: &mut Out<F, W, R>,
-    ) -> Result<Option<Notice>, LeftOver<W, T>>
+    ) -> Result<Option<Notice>, Deferred<W, T>>
         requires { held.to_drop ≡ false }
-        ensures { IfErr result (λ left. IsLeftRight left) }
+        ensures { IfErr result (λ deferred. IsDeferredRight deferred) }
     {
         // The wake comes before the end, which queues the task again if it was woken meanwhile.
         let wake = match self.put_back(id, out) {
             Ok(wake) => wake,
             Err(wake) => {
                 return Err(match wake.make(id, cells) {
-                    Some(notice) => LeftOver::Woken(held, notice),
-                    None => LeftOver::Refused(held),
+                    Some(notice) => Deferred::Woken(held, notice),
+                    None => Deferred::Refused(held),
                 });
             }
         };
         if let Some(notice) = wake.make(id, cells) {
-            return Err(LeftOver::Woken(held, notice));
+            return Err(Deferred::Woken(held, notice));
         }
         match cells.end_pending(held, ()) {
             EndPending::Back(notice) => Ok(notice),
-            EndPending::Drop((), held) => Err(LeftOver::ToDrop(held)),
+            EndPending::Drop((), held) => Err(Deferred::ToDrop(held)),
         }
     }
 
@@ -304,7 +301,7 @@ impl<F: Drop, W: Drop, R: Drop, T: Drop> Store<F, Arc<ExecutorState<W, R>>, T> {
         requires { held.to_drop ≡ false }
     {
         // The table says whether a handle wants the output. Nobody else sees it before both agree: the
-        // store is locked.
+        // futures are locked.
         let EndReady { awaiter, unwanted } = cells.end_ready(held, ());
         let unwanted = match unwanted {
             Some(()) => Some(output),

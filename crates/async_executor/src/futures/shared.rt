@@ -1,8 +1,8 @@
-//! The home of executors whose parts may go to other threads.
-use crate::home::{Home, Shareable, StoreGuard};
+//! Storage for executors whose parts may go to other threads.
+use crate::futures::FutureTable;
+use crate::futures::storage::{FuturesGuard, Shareable, Storage};
 use crate::lock::{APART, CacheLine, Lock};
 use crate::state::ExecutorState;
-use crate::store::Store;
 use crate::waker::TaskWaker;
 use executor_core::task::{Future, OutOfMemory, Wake};
 use std::alloc::Global;
@@ -11,18 +11,19 @@ use std::sync::{Arc, Wait};
 #[derive(Drop)]
 struct Shared<F: Future<TaskWaker<W, R>>, W: Wake, R: Wait + Clone + Drop> {
     state: Arc<ExecutorState<W, R>>,
-    // The lock of the store is not on the line of the counts of the shares.
-    before_store: CacheLine,
-    store: Lock<Store<F, Arc<ExecutorState<W, R>>, F::Output>>,
+    // The lock of the futures is not on the line of the counts of the shares.
+    before_futures: CacheLine,
+    futures: Lock<FutureTable<F, Arc<ExecutorState<W, R>>, F::Output>>,
 }
 
-/// A home whose store has a lock.
+/// Storage behind a lock.
 #[derive(Drop)]
-pub struct SharedHome<F: Future<TaskWaker<W, R>>, W: Wake, R: Wait + Clone + Drop> {
+pub struct SharedStorage<F: Future<TaskWaker<W, R>>, W: Wake, R: Wait + Clone + Drop> {
     shared: Arc<Shared<F, W, R>>,
 }
 
-impl<F: Future<TaskWaker<W, R>>, W: Wake, R: Wait + Clone + Drop> Home for SharedHome<F, W, R> {
+impl<F: Future<TaskWaker<W, R>>, W: Wake, R: Wait + Clone + Drop> Storage
+    for SharedStorage<F, W, R> {
     type Future = F;
 
     type Waker = W;
@@ -34,39 +35,43 @@ impl<F: Future<TaskWaker<W, R>>, W: Wake, R: Wait + Clone + Drop> Home for Share
     }
 
     #[inline(always)]
-    fn try_store(&self) -> Option<StoreGuard<'_, Store<F, Arc<ExecutorState<W, R>>, F::Output>>> {
-        let store = self.shared.store.try_lock()?;
-        Some(StoreGuard::Locked(store))
+    fn try_futures(
+        &self,
+    ) -> Option<FuturesGuard<'_, FutureTable<F, Arc<ExecutorState<W, R>>, F::Output>>> {
+        let futures = self.shared.futures.try_lock()?;
+        Some(FuturesGuard::Locked(futures))
     }
 
     // Inline, so that who has the guard knows of which kind it is.
     #[inline(always)]
-    fn wait_for_store(&self) -> StoreGuard<'_, Store<F, Arc<ExecutorState<W, R>>, F::Output>> {
-        StoreGuard::Locked(self.shared.store.wait_for(self.shared.state.rt()))
+    fn wait_for_futures(
+        &self,
+    ) -> FuturesGuard<'_, FutureTable<F, Arc<ExecutorState<W, R>>, F::Output>> {
+        FuturesGuard::Locked(self.shared.futures.wait_for(self.shared.state.rt()))
     }
 }
 
 impl<F: Future<TaskWaker<W, R>>, W: Wake, R: Wait + Clone + Drop> Shareable
-    for SharedHome<F, W, R> {
+    for SharedStorage<F, W, R> {
     fn new(rt: R, alloc: Global) -> Result<Self, OutOfMemory> {
         let Ok(state) = Arc::new(alloc, ExecutorState::new(rt, alloc)?) else {
             return Err(OutOfMemory);
         };
-        let store = Lock::new(Store::new(alloc));
+        let futures = Lock::new(FutureTable::new(alloc));
         let shared = Shared {
             state,
-            before_store: APART,
-            store,
+            before_futures: APART,
+            futures,
         };
         match Arc::new(alloc, shared) {
-            Ok(shared) => Ok(SharedHome { shared }),
+            Ok(shared) => Ok(SharedStorage { shared }),
             Err(_) => Err(OutOfMemory),
         }
     }
 
     fn share(&self) -> Result<Self, OutOfMemory> {
         let shared = Arc::try_clone(&self.shared)?;
-        Ok(SharedHome { shared })
+        Ok(SharedStorage { shared })
     }
 
     fn share_state(&self) -> Result<Arc<ExecutorState<W, R>>, OutOfMemory> {
