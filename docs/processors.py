@@ -60,10 +60,10 @@ def expected(found):
     one = medians(found, "sharded_yield_T")[0]
     spawn = statistics.median(medians(found, "sharded_one_spawner_T"))
     rows = {
-        "a yield on busy threads, at best: nanoseconds": lambda count: f"{one / count:.1f}",
-        "to sleep and be woken: microseconds": lambda count: f"{cycle(found, count) / 1000:.1f}",
-        "work a task for one spawner to feed all: microseconds": lambda count: f"{spawn * count / 1000:.0f}",
-        "places of a run for each thread": lambda count: f"{count * count:,}",
+        "nanoseconds of a yield, at best": lambda count: f"{one / count:.1f}",
+        "microseconds to sleep and be woken": lambda count: f"{cycle(found, count) / 1000:.1f}",
+        "microseconds of work a task, for one spawner": lambda count: f"{spawn * count / 1000:.0f}",
+        "places of all runs": lambda count: f"{count * count:,}",
     }
     return [(said, *map(of, PROCESSORS)) for said, of in rows.items()]
 
