@@ -1,8 +1,9 @@
 #!/usr/bin/env python3
 """Writes the figures of docs/figures.txt where readers look for them.
 
-They become text and tables in README.md, docs/MEASURED.md and docs/EXSIM.md, between the lines
-'<!-- figures: KIND -->' and '<!-- end -->', and the charts docs/benchmark.svg and docs/throughput.svg.
+They become text and tables in README.md, docs/MEASURED.md, docs/PROCESSORS.md and docs/EXSIM.md, between
+the lines '<!-- figures: KIND -->' and '<!-- end -->', and the charts docs/benchmark.svg and
+docs/throughput.svg.
 With the argument --check nothing is written: each page that does not say what docs/figures.txt says
 is named, and the last line counts the pages.
 
@@ -18,15 +19,18 @@ import sys
 import textwrap
 
 sys.dont_write_bytecode = True
+import processors
 import throughput
 
 TOP = pathlib.Path(__file__).resolve().parent.parent
-PAGES = ("README.md", "docs/MEASURED.md", "docs/EXSIM.md")
+PAGES = ("README.md", "docs/MEASURED.md", "docs/PROCESSORS.md", "docs/EXSIM.md")
 HEADS = {
     "beside": ("what", "async-executor 1.14.1", "tokio 1.24", "the kit's futures and tokio", "here"),
     "bench": ("row", "one operation", "instructions (the Rust crate)", "nanoseconds"),
     "busy": ("work", "runs never park", "the Rust crate", "runs park", "the Rust crate", "tokio 1.24"),
     "shards": ("row", "one operation", "T", "shards", "one executor", "the Rust crate", "tokio 1.24"),
+    "processors": ("row", "predicted", "measured"),
+    "expected": ("what", *map(str, processors.PROCESSORS)),
     "exsim": ("lines", "milliseconds", "million instructions", "peak memory, MB"),
 }
 
@@ -98,6 +102,10 @@ def rows(kind, found):
     if kind == "shards":
         spawner = next(row for row in found["threads"] if row[0] == "one_spawner_T")
         return [*found["shards"], (*spawner[:3], "-", *spawner[3:], "-")]
+    if kind == "processors":
+        return processors.compared(found)
+    if kind == "expected":
+        return processors.expected(found)
     return found[kind]
 
 
@@ -111,6 +119,7 @@ SAID = {
     "time": commands,
     "ahead": throughput.ahead,
     "taken": lambda found: wrapped(f"Taken at {found['taken'][0][0]}."),
+    "furthest": lambda found: wrapped(processors.furthest(found)),
     "programs": lambda found: wrapped(f"These are of {found['programs'][0][0]}."),
     "swept": lambda found: wrapped(f"These are {found['swept'][0][0]}."),
 }

@@ -322,6 +322,25 @@ fn beside_runs<R: Wait + Clone + Drop + Send + Sync + Threads + Clock>(
     })
 }
 
+/// Spawns so many tasks on the shards in turn, each of which wakes itself so often and goes so many steps in
+/// each poll, while each of so many other threads drives the run of its shard.
+pub fn working_copies<R: Wait + Clone + Drop + Send + Sync + Threads + Clock>(
+    rt: &R,
+    alloc: Global,
+    threads: usize,
+    tasks: u64,
+    yields: u64,
+    steps: u32,
+) -> Option<Ran> {
+    let work = Work::All {
+        tasks,
+        yields,
+        steps,
+        is_on_one: false,
+    };
+    beside_runs(rt, alloc, threads, work)
+}
+
 impl Sharded {
     /// Runs this row.
     pub fn run<R: Wait + Clone + Drop + Send + Sync + Threads + Clock>(

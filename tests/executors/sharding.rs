@@ -210,6 +210,33 @@ fn a_second_notice_is_passed_on_before_a_task_is_polled(rt: HostRuntime) -> Resu
     Ok(())
 }
 
+// A run of the first shard sleeps, is notified in the second one, and has a task of its own shard that is
+// never ready, of which a tick was notified. Gives how many tasks of the second shard ran in its next poll.
+fn answered_beside_a_busy_task<R: Wait + AllocGlobal + Clone + Drop + Send + Sync>(
+    rt: &R,
+) -> Result<u64, Fail> {
+    let ran = Arc::new(rt.alloc(), AtomicU64::new(0))?;
+    let ex = shards(rt, 2)?;
+    let ((one, _), (two, record)) = (waker(rt.alloc())?, waker(rt.alloc())?);
+    let mut run = run_of(&ex, 0)?;
+    let _ = run.poll(&one);
+    let mut tick = ex.shard(0).tick()?;
+    let _ = tick.poll(&two);
+    leave(&ex, 0, Job::Busy)?;
+    leave(&ex, 1, digit(1, &ran)?)?;
+    let _ = run.poll(&one);
+    if record.times(Moment::WakerWake) == 0 {
+        return Err("the tick was not notified".into());
+    }
+    Ok(ran.load(Ordering::SeqCst))
+}
+
+#[test]
+fn a_notice_of_another_shard_is_answered_first(rt: HostRuntime) -> Result<(), Fail> {
+    assert_eq!(rt; answered_beside_a_busy_task(&rt)?, 1);
+    Ok(())
+}
+
 // Leaves two tasks that count on the second shard.
 fn leave_two<R: Wait + AllocGlobal + Clone + Drop + Send + Sync>(
     ex: &Shards<R>,

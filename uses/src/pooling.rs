@@ -1,4 +1,7 @@
 //! Threads that run the tasks of one executor, each by a run, until they are told to stop.
+ghost use Rattle.std.specs.Prelude.{◌≢◌, IfErr};
+ghost use Rattle.async_utilities.specs.declared.pooling.PoolError.TheVariants.{NoThread};
+
 use crate::common::{added, executor, total_of, two_tasks};
 use crate::futures::Sum;
 use async_executor::{Executor, Limits, Run};
@@ -94,7 +97,9 @@ impl<R: Wait + Clone + Drop> Driven<R> for Limited<R> {
         _number: usize,
         stopped: Waiting<ThreadWaker, R>,
         thread: PoolThread<'_, R>,
-    ) -> Result<Done, PoolError> {
+    ) -> Result<Done, PoolError>
+        ensures refused { IfErr result (λ error. error ≢ NoThread) }
+    {
         thread.until_ready(self.executor.run(stopped)?)
     }
 }

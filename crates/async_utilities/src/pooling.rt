@@ -1,8 +1,10 @@
 //! Threads that run the tasks of one executor until they are told to stop.
-ghost use Rattle.std.specs.Prelude.{◌≡◌, IfOk, vec_len};
+ghost use Rattle.std.specs.Prelude.{◌≡◌, ◌≢◌, IfOk, IfErr, vec_len};
+ghost use Rattle.std.specs.Arc.{arc_value};
+ghost use Rattle.executor_core.specs.Limits.{default_limits};
 ghost use Rattle.async_executor.specs.RunError.{run_cause};
 ghost use Rattle.async_utilities.specs.ErrorKinds.{run_refusal};
-ghost use Rattle.async_utilities.specs.declared.pooling.PoolError.TheVariants.{OutOfMemory};
+ghost use Rattle.async_utilities.specs.declared.pooling.PoolError.TheVariants.{OutOfMemory, NoThread};
 
 pub(crate) mod beginning;
 pub(crate) mod threads;
@@ -95,7 +97,9 @@ where
         _number: usize,
         stopped: Waiting<ThreadWaker, R>,
         thread: PoolThread<'_, R>,
-    ) -> Result<Done, PoolError> {
+    ) -> Result<Done, PoolError>
+        ensures refused { IfErr result (λ error. error ≢ NoThread) }
+    {
         thread.until_ready(self.run(stopped)?)
     }
 }
@@ -119,7 +123,8 @@ where
     /// let pool: Pool<Sum, R> = Pool::new(rt.clone().ok()?, alloc, 4).ok()?;
     /// ```
     pub fn new(rt: R, alloc: Global, count: usize) -> Result<Pool<F, R>, PoolError>
-        ensures { IfOk result (λ pool. vec_len pool.inner.started.threads ≡ count) }
+        ensures count { IfOk result (λ pool. vec_len pool.inner.started.threads ≡ count) }
+        ensures limits { IfOk result (λ pool. (arc_value pool.inner.executor).inner.limits ≡ default_limits) }
     {
         let executor = Executor::new(rt.clone()?, alloc)?;
         let inner = PoolOf::new(rt, alloc, count, executor)?;
@@ -134,7 +139,9 @@ where
     /// let sums = (0..1000).map(|number| Sum::of(number, 1));
     /// pool.executor().spawn_many(sums, &mut tasks).ok()?;
     /// ```
-    pub fn executor(&self) -> &Executor<F, ThreadWaker, R> {
+    pub fn executor(&self) -> &Executor<F, ThreadWaker, R>
+        ensures { result.now ≡ arc_value self.now.inner.executor }
+    {
         self.inner.executor()
     }
 

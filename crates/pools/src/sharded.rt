@@ -1,5 +1,7 @@
 //! Threads that each run the tasks of one shard, and help the others.
-ghost use Rattle.std.specs.Prelude.{◌≡◌, ◌<◌, IfOk, vec_len};
+ghost use Rattle.std.specs.Prelude.{◌≡◌, ◌≢◌, ◌<◌, IfOk, IfErr, vec_len};
+ghost use Rattle.std.specs.Arc.{arc_value};
+ghost use Rattle.async_utilities.specs.declared.pooling.PoolError.TheVariants.{NoThread};
 
 use async_executor::{Future, TaskWaker};
 use async_utilities::{Done, Driven, PoolError, PoolOf, PoolThread, ThreadWaker, Waiting};
@@ -49,7 +51,9 @@ where
         number: usize,
         stopped: Waiting<ThreadWaker, R>,
         thread: PoolThread<'_, R>,
-    ) -> Result<Done, PoolError> {
+    ) -> Result<Done, PoolError>
+        ensures refused { IfErr result (λ error. error ≢ NoThread) }
+    {
         let shard = number % self.executor.shards();
         thread.until_ready(self.executor.run(shard, stopped)?)
     }
@@ -75,7 +79,8 @@ where
     /// ```
     pub fn new(rt: R, alloc: Global, count: usize) -> Result<ShardedPool<F, R>, PoolError>
         requires { 0 < count }
-        ensures { IfOk result (λ pool. vec_len pool.inner.started.threads ≡ count) }
+        ensures threads { IfOk result (λ pool. vec_len pool.inner.started.threads ≡ count) }
+        ensures shards { IfOk result (λ pool. vec_len (arc_value pool.inner.executor).executor.shards ≡ count) }
     {
         let executor = ShardedExecutor::new(rt.clone()?, alloc, count)?;
         let inner = PoolOf::new(rt, alloc, count, Shards { executor })?;
@@ -89,7 +94,9 @@ where
     /// ```text
     /// tasks.push(pool.executor().spawn(Sum::of(number, 1))?)?;
     /// ```
-    pub fn executor(&self) -> &ShardedExecutor<F, ThreadWaker, R> {
+    pub fn executor(&self) -> &ShardedExecutor<F, ThreadWaker, R>
+        ensures { result.now ≡ (arc_value self.now.inner.executor).executor }
+    {
         &self.inner.executor().executor
     }
 

@@ -1,5 +1,6 @@
 //! What a run has in each shard.
 ghost use Rattle.std.specs.Prelude.{◌≡◌, ◌∷◌, ◌++◌, ◌+◌, ◌-◌, ◌<◌, ◌≤◌, [], false, true, None, All, IfSome, IfNone, IsTrue, is_some, OnOk, length, vec_len, vec_capacity};
+ghost use Rattle.sharded_executor.specs.Notices.{OwesOnly};
 ghost use Rattle.sharded_executor.specs.Order.{asked_around, false_from, true_after};
 
 use crate::progress::Count;
@@ -109,7 +110,8 @@ where
     pub(crate) fn leave(&mut self) -> Option<usize>
         ensures awake { All (λ s. s.inner.number ≡ None) self.new.sleepers.items }
         ensures count { vec_len self.new.sleepers ≡ vec_len self.old.sleepers }
-        ensures owes { IfSome result (λ at. at < vec_len self.new.sleepers) }
+        ensures inside { IfSome result (λ at. at < vec_len self.new.sleepers) }
+        ensures owes { OwesOnly (λ s. s.inner.notice) result self.new.sleepers.items (vec_len self.new.sleepers) }
         ensures answers { self.new.answers ≡ self.old.answers }
     {
         let mut owes = None;

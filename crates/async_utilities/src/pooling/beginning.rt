@@ -90,7 +90,7 @@ pub struct PoolThread<'a, R: Wait> {
 /// Example: `uses::limits_a_pool`.
 ///
 /// ```text
-/// ) -> Result<Done, PoolError> {
+/// ) -> Result<Done, PoolError>
 /// ```
 #[derive(Drop)]
 pub struct Done(());

@@ -1,5 +1,7 @@
 //! The threads of a pool: how they are started, stopped and joined, written once for every executor.
-ghost use Rattle.std.specs.Prelude.{◌≡◌, ◌+◌, ◌≤◌, ◌<◌, IfOk, OnOk, vec_len, vec_capacity};
+ghost use Rattle.std.specs.Prelude.{◌≡◌, ◌≢◌, ◌+◌, ◌≤◌, ◌<◌, IfOk, IfErr, OnOk, vec_len, vec_capacity};
+ghost use Rattle.std.specs.Arc.{arc_value};
+ghost use Rattle.async_utilities.specs.declared.pooling.PoolError.TheVariants.{NoThread};
 
 use crate::blocking::ThreadWaker;
 use crate::pooling::PoolError;
@@ -21,7 +23,7 @@ pub trait Driven<R: Wait + Drop>: Drop {
     ///
     /// # Errors
     ///
-    /// `PoolError` if something that the thread needs is refused. It has run no task then.
+    /// `OutOfMemory` or `Exhausted` if the thread is refused what it needs. It has run no task then.
     ///
     /// Example: `uses::limits_a_pool`.
     ///
@@ -33,7 +35,8 @@ pub trait Driven<R: Wait + Drop>: Drop {
         number: usize,
         stopped: Waiting<ThreadWaker, R>,
         thread: PoolThread<'_, R>,
-    ) -> Result<Done, PoolError>;
+    ) -> Result<Done, PoolError>
+        ensures refused { IfErr result (λ error. error ≢ NoThread) };
 }
 
 /// Threads that each drive one executor, and park while it has nothing to do, until the pool is joined or
@@ -142,7 +145,8 @@ where
     /// let pool = PoolOf::new(rt.clone()?, alloc, 2, Limited { executor })?;
     /// ```
     pub fn new(rt: R, alloc: Global, count: usize, executor: E) -> Result<PoolOf<E, R>, PoolError>
-        ensures { IfOk result (λ pool. vec_len pool.started.threads ≡ count) }
+        ensures count { IfOk result (λ pool. vec_len pool.started.threads ≡ count) }
+        ensures executor { IfOk result (λ pool. arc_value pool.executor ≡ executor) }
     {
         let Ok(executor) = Arc::new(alloc, executor) else {
             return Err(PoolError::OutOfMemory);
@@ -168,7 +172,8 @@ where
 
     // Starts the thread of this number, which tells how it begins.
     fn start(&mut self, number: usize, beginning: &Arc<Beginning>) -> Result<(), PoolError>
-        ensures { OnOk result (vec_len self.new.started.threads ≡ vec_len self.old.started.threads + 1) }
+        ensures count { OnOk result (vec_len self.new.started.threads ≡ vec_len self.old.started.threads + 1) }
+        ensures executor { self.new.executor ≡ self.old.executor }
     {
         self.started.reserve()?;
         let executor = Arc::try_clone(&self.executor)?;
@@ -205,7 +210,9 @@ where
     /// ```text
     /// pool.executor().executor.spawn_many(sums, &mut tasks)?;
     /// ```
-    pub fn executor(&self) -> &E {
+    pub fn executor(&self) -> &E
+        ensures { result.now ≡ arc_value self.now.executor }
+    {
         &self.executor
     }
 
