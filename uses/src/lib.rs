@@ -1,5 +1,6 @@
-//! Short callers, one for each thing that an executor and its handles do, one topic a module. The
-//! tests of the repository run them all, but for those of `crossing`, which only have to compile.
+//! Short callers, one topic a module. The bodies of some are the examples at types and calls: those of the
+//! modules whose names end in `calls` are written for that. The tests of the repository run them all, but for
+//! those of `crossing`, which only have to compile.
 #![tactic(auto)]
 
 pub mod answering;
