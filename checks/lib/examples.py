@@ -45,8 +45,9 @@ def examples_in(lines):
             block.append(text.removeprefix("///").removeprefix(" "))
         elif said and text.startswith("/// "):
             said += text.removeprefix("///")
-        elif said and (found := re.match(r"(?:pub )?(?:struct|enum|trait|fn) (\w+)", text)):
-            yield said, block, (owner if line != text else "") + found[1]
+        elif said and not text.startswith(("///", "#[")):
+            item = re.match(r"(?:pub )?(?:struct|enum|trait|fn) (\w+)", text)
+            yield said, block, (owner if line != text else "") + (item[1] if item else text)
             said, block = "", []
 
 
