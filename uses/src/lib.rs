@@ -11,6 +11,7 @@ pub mod channel_calls;
 pub mod choosing;
 pub mod combining;
 pub mod common;
+pub mod core_calls;
 pub mod crossing;
 pub mod driving;
 pub mod ending;

@@ -8,8 +8,9 @@ use std::sync::Wait;
 use std::test::Fail;
 use std::time::{Clock, Duration};
 use uses::{
-    channel_calls as channels, future_calls as futures, level_calls as levels, lock_calls as locks,
-    pool_calls as pools, shard_calls as shards, spawner_calls as spawners, timer_calls as timers,
+    channel_calls as channels, core_calls as core, future_calls as futures, level_calls as levels,
+    lock_calls as locks, pool_calls as pools, shard_calls as shards, spawner_calls as spawners,
+    timer_calls as timers,
 };
 
 fn of_channels<R: Wait + Clone + Drop>(rt: &R, alloc: Global) -> [Line; 5] {
@@ -47,8 +48,12 @@ fn of_locks<R: Wait + Clone + Drop>(rt: &R, alloc: Global) -> [Line; 2] {
     ]
 }
 
-fn of_polls() -> [Line; 4] {
+fn of_polls() -> [Line; 5] {
     [
+        (
+            "polls_by_hand",
+            core::polls_by_hand() == [Poll::Pending, Poll::Ready(2)],
+        ),
         (
             "is_ready_once",
             futures::is_ready_once() == [Poll::Ready(7), Poll::Pending],
@@ -71,8 +76,9 @@ fn of_polls() -> [Line; 4] {
 fn of_futures<R: Wait + Clone + Drop + Send + Sync>(
     rt: &R,
     alloc: Global,
-) -> io::Result<[Line; 7]> {
+) -> io::Result<[Line; 8]> {
     Ok([
+        ("runs_a_box", core::runs_a_box(rt, alloc)? == 7),
         ("blocks_twice", futures::blocks_twice(rt, alloc)? == 3),
         ("runs_two", futures::runs_two(rt, alloc)? == (1, 2)),
         ("polls_in_turn", futures::polls_in_turn(rt, alloc)? == 7),
