@@ -229,14 +229,14 @@ else
     pass "each example is in the folder uses"
 fi
 
-# The public calls of async_executor and async_utilities whose comment names no example. The machines
-# of ticks and runs, and the words of a search, are in modules that are not public.
-for source in $(find crates/async_executor/src crates/async_utilities/src -name '*.rt' \
-    ! -path '*/machine/*' ! -path '*/runner/words.rt'); do
-    awk -v source="${source#crates/}" '
+# The public calls of these crates whose comment names no example. The machines of ticks and runs, and the
+# words of a search, are in modules that are not public.
+for source in $(cd crates && find async_executor/src async_utilities/src priority_executor/src \
+    sharded_executor/src pools/src -name '*.rt' ! -path '*/machine/*' ! -path '*/runner/words.rt'); do
+    awk -v source="$source" '
         /^ *\/\/\/ Example: / { example = 1 }
         /^ *pub fn / { if (!example) print source ": " $3 }
-        !/^ *(\/\/\/|#\[)/ { example = 0 }' "$source"
+        !/^ *(\/\/\/|#\[)/ { example = 0 }' "crates/$source"
 done > "$copy/log"
 if [ -s "$copy/log" ]; then
     fail "calls without an example:" "$copy/log"
@@ -247,9 +247,9 @@ fi
 python3 -B checks/lib/examples.py > "$copy/examples" 2>&1
 sed '$d' "$copy/examples" > "$copy/log"
 if [ -s "$copy/log" ] || ! [ "$(tail -n 1 "$copy/examples")" -gt 0 ]; then
-    fail "examples that the folder uses lacks, or that are no whole body where one is to be:" "$copy/log"
+    fail "examples that are not the whole body of a caller, or name one that is not there:" "$copy/log"
 else
-    pass "each example is in the folder uses, and whole at the types of async_executor"
+    pass "each example is the whole body of a caller, or names one"
 fi
 
 for page in $pages; do

@@ -1,16 +1,18 @@
 """Compares the examples in comments with the callers of the folder uses.
 
-A line '/// Example: ' names callers. At the public types of async_executor the lines below it are the whole body of
-a caller that it names; without lines, that body stands at another of these types. Elsewhere there are one to three
-lines, each of which stands in a file that defines a caller which is named, or the whole body of one.
-Usage: checks/lib/examples.py, at the top. It prints each example that is otherwise, and their number on its last line.
+A line '/// Example: ' names callers, and the lines below it are the whole body of one of them: twelve at
+most, besides comments. Without lines it names callers alone; if it says ', at `ITEM`', the body stands there.
+Usage: checks/lib/examples.py, at the top. It prints each example that is otherwise, and their number on its
+last line.
 """
 
 import glob
 import re
 
-CRATES = "executor_core async_executor priority_executor sharded_executor async_utilities pools".split()
-ITEMS = re.compile(r"crates/async_executor/src/((static_|local_)?executors?\.rt|(local_)?executor/.*)$")
+CRATES = "async_executor priority_executor sharded_executor async_utilities pools".split()
+LONGEST = 12
+# The files whose examples are still lines of a longer caller, each of which stands in the folder uses.
+CUT = [f"crates/async_executor/src/{name}.rt" for name in ("runner/run", "scheduler/many", "waker")]
 
 
 def bodies_in(lines):
@@ -28,47 +30,47 @@ def bodies_in(lines):
             body = []
 
 
-def examples_in(path):
-    """The callers that each example names, and its lines."""
-    named, block, inside = "", [], False
-    for line in open(path, encoding="utf-8").read().split("\n"):
+def examples_in(lines):
+    """What each example says, its lines, and the item below it: a call as TYPE::CALL."""
+    said, block, inside, owner = "", [], False, ""
+    for line in lines:
         text = line.strip()
-        if not text.startswith("///"):
-            if named:
-                yield re.findall(r"`uses::(\w+)`", named), block
-            named, block, inside = "", [], False
-        elif text.startswith("/// Example: "):
-            named = text
-        elif named and text.startswith("/// ```"):
+        if found := re.match(r"(?:pub )?(?:impl|trait)\b(?:<.*?> | )(?:.* for )?(\w+)", line):
+            owner = f"{found[1]}::"
+        if text.startswith("/// Example: "):
+            said = text
+        elif said and text.startswith("/// ```"):
             inside = not inside
         elif inside:
             block.append(text.removeprefix("///").removeprefix(" "))
-        elif named and not block and text != "///":
-            named += text
+        elif said and text.startswith("/// "):
+            said += text.removeprefix("///")
+        elif said and not text.startswith(("///", "#[")):
+            item = re.match(r"(?:pub )?(?:struct|enum|trait|fn) (\w+)", text)
+            yield said, block, (owner if line != text else "") + (item[1] if item else text)
+            said, block = "", []
 
 
-bodies, lines_of = {}, {}
+bodies, shown = {}, set()
 for path in glob.glob("uses/src/*.rs"):
     lines = open(path, encoding="utf-8").read().split("\n")
     bodies.update(bodies_in(lines))
-    shown = {line.strip() for line in lines if not line.strip().startswith("//")}
-    for name in re.findall(r"^ *(?:pub(?:\(\w+\))? )?fn (\w+)", "\n".join(lines), re.M):
-        lines_of[name] = lines_of.get(name, set()) | shown
+    shown.update(line.strip() for line in lines)
 
 examples = [
-    (path, callers, block)
+    (path, *example)
     for crate in CRATES
     for path in sorted(glob.glob(f"crates/{crate}/src/**/*.rt", recursive=True))
-    for callers, block in examples_in(path)
+    for example in examples_in(open(path, encoding="utf-8").read().split("\n"))
 ]
-at_items = [(caller, block) for path, callers, block in examples if ITEMS.match(path) for caller in callers]
-whole = {caller for caller, block in at_items if block == bodies.get(caller)}
-for path, callers, block in examples:
-    is_whole = any(block == bodies.get(caller) for caller in callers)
-    is_elsewhere = not block and whole.intersection(callers)
-    is_cut = 1 <= len(block) <= 3 and all(
-        any(line.strip() in lines_of.get(caller, ()) for caller in callers) for line in block
-    )
-    if not (is_whole or (is_elsewhere if ITEMS.match(path) else is_cut)):
-        print(f"{path}: the example of {', '.join(callers)}", *block, sep="\n    ")
+stands_at = {(caller, item) for _, _, block, item in examples for caller in bodies if block == bodies[caller]}
+for path, said, block, item in examples:
+    callers = re.findall(r"`uses::(\w+)`", said)
+    is_short = sum(not line.lstrip().startswith("//") for line in block) <= LONGEST
+    is_whole = is_short and any(block == bodies.get(caller) for caller in callers)
+    is_cut = path in CUT and all(line.strip() in shown for line in block)
+    is_named = callers and all(caller in bodies for caller in callers)
+    is_there = all(pair in stands_at for pair in re.findall(r"`uses::(\w+)`, at `([\w:]+)`", said))
+    if not (is_named and is_there and (not block or is_whole or is_cut)):
+        print(f"{path}, {item}: {said}", *block, sep="\n    ")
 print(len(examples))

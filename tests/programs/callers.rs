@@ -3,6 +3,7 @@
 mod calls;
 mod executors;
 mod handles;
+mod library_calls;
 mod local;
 mod priorities;
 mod sharding;

@@ -28,6 +28,7 @@ impl Change<u64> for Begins {
 pub fn follows<R: Wait>(rt: &R, alloc: Global) -> Option<(u64, u64)> {
     let mine = ThreadWaker::new(alloc).ok()?;
     let mut both = Then::new(Ready::new(2), Begins { number: 1 });
+    // (2, 1)
     Some(poll_until_ready(rt, &mine, |w| both.poll(w)))
 }
 
@@ -37,6 +38,7 @@ pub fn reuses<R: Wait>(rt: &R, alloc: Global) -> Option<u64> {
     let first = waker.block_on(rt, Ready::new(1u64));
     waker.block_on(rt, YieldNow::new());
     let second = waker.block_on(rt, Ready::new(2u64));
+    // 3
     first.checked_add(second)
 }
 
@@ -72,6 +74,7 @@ impl Future<ThreadWaker> for Late {
 pub fn alternates(alloc: Global) -> Option<u64> {
     let mine = ThreadWaker::new(alloc).ok()?;
     let mut race = Race::new(Late::new(1), Late::new(2));
+    // 2: the right one goes first at the second poll
     match (race.poll(&mine), race.poll(&mine)) {
         (Poll::Pending, Poll::Ready(number)) => Some(number),
         _ => None,
@@ -88,5 +91,6 @@ pub fn picks<R: Wait>(rt: &R, alloc: Global) -> Option<(usize, u64, usize)> {
         return None;
     }
     let first = block_on(rt, alloc, AnyOf::new(futures)).ok()?;
+    // (0, 0, 2)
     Some((first.place, first.output, first.others.len()))
 }

@@ -29,5 +29,6 @@ pub fn races<R: Wait>(rt: &R, alloc: Global) -> Option<u64> {
     let later = Number::Right(Map::new(YieldNow::new(), Gives { number: 1 }));
     let there = Number::Left(Ready::new(2));
     let mut first = Or::new(later, there);
+    // 2
     Some(poll_until_ready(rt, &mine, |w| first.poll(w)))
 }

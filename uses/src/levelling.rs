@@ -18,6 +18,7 @@ pub fn runs_levels<R: Wait + Clone + Drop + Send + Sync>(rt: &R, alloc: Global) 
     let urgent = executor.spawn(0, Ready::new(2))?;
     let run = executor.run(Zip::new(later, urgent))?;
     let (one, two) = block_on(rt, alloc, run)?;
+    // 3
     Ok(one?.saturating_add(two?))
 }
 

@@ -1,43 +1,53 @@
-//! Short callers, one for each thing that an executor and its handles do, one topic a module. The
-//! tests of the repository run them all, but for those of `crossing`, which only have to compile.
+//! Short callers, one topic a module. The bodies of some are the examples at types and calls: those of the
+//! modules whose names end in `calls` are written for that. The tests of the repository run them all, but for
+//! those of `crossing`, which only have to compile.
 #![tactic(auto)]
 
 pub mod answering;
 pub mod beating;
 pub mod boxing;
 pub mod calling;
+pub mod channel_calls;
 pub mod choosing;
 pub mod combining;
 pub mod common;
+pub mod core_calls;
 pub mod crossing;
 pub mod driving;
 pub mod ending;
 pub mod executor_calls;
 pub mod fanning;
+pub mod future_calls;
 pub mod futures;
 pub mod handle_calls;
 pub mod handling;
 pub mod interleaving;
 pub mod lasting;
+pub mod level_calls;
 pub mod levelling;
 pub mod limiting;
 pub mod local_calls;
+pub mod lock_calls;
 pub mod locking;
 pub mod messaging;
 pub mod mixing;
 pub mod nesting;
 pub mod parking;
+pub mod pool_calls;
 pub mod pooling;
 pub mod priorities;
 pub mod reading;
 pub mod receiving;
 pub mod requesting;
 pub mod running;
+pub mod shard_calls;
 pub mod sharding;
 pub mod simulating;
+pub mod spawner_calls;
 pub mod staying;
 pub mod telling;
 pub mod ticking;
+pub mod timer_calls;
 pub mod timing;
 pub mod translating;
 pub mod unblocking;

@@ -82,6 +82,7 @@ pub fn hears<R: Wait + Clone + Drop>(rt: &R, alloc: Global) -> Option<[usize; 3]
     block_on(rt, alloc, first).ok()?;
     block_on(rt, alloc, second).ok()?;
     block_on(rt, alloc, third).ok()?;
+    // [1, 1, 1]
     Some([one, more, all])
 }
 
@@ -98,6 +99,7 @@ pub fn meets<R: Wait + Threads + Clone + Drop + Send + Sync>(
         move || block_on(rt, alloc, here).ok(),
         move || block_on(rt, alloc, there).ok(),
     );
+    // [false, true] or [true, false]
     Some([one?.is_leader(), two?.is_leader()])
 }
 
@@ -111,5 +113,6 @@ pub fn makes_once<R: Wait + Clone + Drop>(rt: &R, alloc: Global) -> Option<(u64,
     let back = other.set(2).err()?;
     block_on(rt, alloc, cell.wait().ok()?).ok()?;
     let value = *cell.get()?;
+    // (1, [false, true], 2)
     Some((value, [was_set, is_own], back))
 }

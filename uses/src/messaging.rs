@@ -102,6 +102,7 @@ pub fn tries<R: Wait + Clone + Drop>(
     let unsent = sender.try_send(2).err()?;
     let message = first.try_receive().ok()?;
     let none = second.try_receive().err()?;
+    // (Full(2), 1, Empty)
     Some((unsent, message, none))
 }
 
@@ -161,6 +162,7 @@ pub fn gives_up<R: Wait + Clone + Drop>(rt: &R, alloc: Global) -> Option<u32> {
     if send.poll(&NoopWaker) != Poll::Pending {
         return None;
     }
+    // 2
     let message = send.into_message();
     message
 }

@@ -87,8 +87,8 @@ pub fn joins<R: Wait + Threads + Clone + Drop + Send + Sync + 'static>(
 
 /// An executor with limits of its own, which each thread of a pool drives.
 #[derive(Drop)]
-struct Limited<R: Wait + Clone + Drop> {
-    executor: Workers<R>,
+pub(crate) struct Limited<R: Wait + Clone + Drop> {
+    pub(crate) executor: Workers<R>,
 }
 
 impl<R: Wait + Clone + Drop> Driven<R> for Limited<R> {

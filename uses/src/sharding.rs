@@ -26,6 +26,7 @@ pub fn sums_on_shards<R: Wait + Threads + Clone + Drop + Send + Sync + 'static>(
     for ended in pool.join() {
         ended?;
     }
+    // 500,500
     Ok(total)
 }
 

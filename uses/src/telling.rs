@@ -20,5 +20,6 @@ pub fn tells<R: Wait + Threads + Clone + Drop + Send + Sync>(
         move || block_on(rt, alloc, waiting).ok(),
     );
     waited?;
+    // (false, true)
     Some((was_set, told.is_set()))
 }

@@ -37,5 +37,6 @@ pub fn unblocks<R: Wait + Threads + Clone + Drop + Send + Sync + 'static>(
     let executor: Tasks<R> = Executor::new(rt.clone().ok()?, alloc).ok()?;
     let answer = jobs.unblock(Slow { number: 7 }).ok()?;
     let task = executor.spawn(answer).ok()?;
+    // 7
     run_until(rt, alloc, &executor, task).ok()?.ok()?.ok()
 }

@@ -16,12 +16,15 @@ use thiserror::Error;
 ///
 /// One thread at a time may park on it and on its copies.
 ///
-/// Example: `uses::parks`.
+/// Example: `uses::reuses`.
 ///
 /// ```text
-/// let first = ThreadWaker::new(alloc).ok()?;
-/// mine.park(rt);
-/// waker.wake();
+/// let waker = ThreadWaker::new(alloc).ok()?;
+/// let first = waker.block_on(rt, Ready::new(1u64));
+/// waker.block_on(rt, YieldNow::new());
+/// let second = waker.block_on(rt, Ready::new(2u64));
+/// // 3
+/// first.checked_add(second)
 /// ```
 #[derive(Drop)]
 pub struct ThreadWaker {
@@ -35,11 +38,7 @@ impl ThreadWaker {
     ///
     /// `AllocError` if memory for it is refused.
     ///
-    /// Example: `uses::parks`.
-    ///
-    /// ```text
-    /// let first = ThreadWaker::new(alloc).ok()?;
-    /// ```
+    /// Example: `uses::reuses`, at `ThreadWaker`.
     pub fn new(alloc: Global) -> Result<ThreadWaker, AllocError> {
         Ok(ThreadWaker {
             parker: Arc::new(alloc, Parker::new())?,
@@ -50,10 +49,6 @@ impl ThreadWaker {
     /// happened since the last time.
     ///
     /// Example: `uses::parks`.
-    ///
-    /// ```text
-    /// mine.park(rt);
-    /// ```
     pub fn park<R: Wait>(&self, rt: &R) {
         self.parker.park(rt);
     }
@@ -61,10 +56,6 @@ impl ThreadWaker {
     /// The same, but no longer than this. It may return before.
     ///
     /// Example: `uses::dozes`.
-    ///
-    /// ```text
-    /// mine.park_timeout(rt, Duration::from_millis(2));
-    /// ```
     pub fn park_timeout<R: Wait>(&self, rt: &R, duration: Duration) {
         self.parker.park_timeout(rt, duration);
     }
@@ -73,13 +64,7 @@ impl ThreadWaker {
     /// the future is not ready. It is `block_on` with a waker that is kept, so nothing is refused, and
     /// a thread that awaits one future after another takes no memory for that.
     ///
-    /// Example: `uses::reuses`.
-    ///
-    /// ```text
-    /// let waker = ThreadWaker::new(alloc).ok()?;
-    /// let first = waker.block_on(rt, Ready::new(1u64));
-    /// let second = waker.block_on(rt, Ready::new(2u64));
-    /// ```
+    /// Example: `uses::reuses`, at `ThreadWaker`.
     pub fn block_on<G: Future<ThreadWaker>>(&self, rt: &impl Wait, future: G) -> G::Output {
         let mut future = future;
         poll_until_ready(rt, self, |w| future.poll(w))
@@ -100,11 +85,16 @@ impl Wake for ThreadWaker {
 /// Why a thread did not wait for a future: memory for its waker was refused. It has the future,
 /// unpolled.
 ///
-/// Example: `uses::pools`, which lets it go.
+/// Example: `uses::awaited`, which `uses::winds_up` calls.
 ///
 /// ```text
-/// let (first, second) = block_on(rt, alloc, Zip::new(add, more)).ok()?;
-/// added(first.ok().zip(second.ok()))
+/// match block_on(rt, alloc, task) {
+///     Ok(output) => output.ok(),
+///     Err(refused) => {
+///         refused.into_inner().detach();
+///         None
+///     }
+/// }
 /// ```
 #[derive(PartialEq, Eq, Drop, Error)]
 #[error("out of memory")]
@@ -122,13 +112,7 @@ impl<G> Debug for BlockOnError<G> {
 impl<G> BlockOnError<G> {
     /// The future that was not waited for.
     ///
-    /// Example: `uses::awaited`, which `uses::winds_up` calls.
-    ///
-    /// ```text
-    /// match block_on(rt, alloc, task) {
-    /// Err(refused) => {
-    ///     refused.into_inner().detach();
-    /// ```
+    /// Example: `uses::awaited`, at `BlockOnError`.
     pub fn into_inner(self) -> G
         ensures { result ≡ self.future }
     {
@@ -144,11 +128,13 @@ impl<G> BlockOnError<G> {
 ///
 /// `BlockOnError` with the future, if memory for the thread's waker is refused.
 ///
-/// Example: `uses::pools`.
+/// Example: `uses::blocks_twice`, and of tasks that other threads run `uses::joins`.
 ///
 /// ```text
-/// let (first, second) = block_on(rt, alloc, Zip::new(add, more)).ok()?;
-/// added(first.ok().zip(second.ok()))
+/// let one = block_on(rt, alloc, Ready::new(1u64))?;
+/// let two = block_on(rt, alloc, Ready::new(2u64))?;
+/// // 3
+/// Ok(one.saturating_add(two))
 /// ```
 pub fn block_on<G: Future<ThreadWaker>>(
     rt: &impl Wait,
@@ -172,11 +158,15 @@ pub fn block_on<G: Future<ThreadWaker>>(
 /// `RunError` with the future, if memory for the run or for the thread's waker is refused, or runner
 /// numbers are exhausted.
 ///
-/// Example: `uses::runs_here`.
+/// Example: `uses::runs_two`.
 ///
 /// ```text
-/// let task = executor.spawn(future).ok()?;
-/// run_until(rt, alloc, &executor, task).ok()?.ok()
+/// let executor = Executor::new(rt.clone()?, alloc)?;
+/// let one = executor.spawn(Ready::new(1))?;
+/// let two = executor.spawn(Ready::new(2))?;
+/// let (first, second) = run_until(rt, alloc, &executor, Zip::new(one, two))?;
+/// // (1, 2)
+/// Ok((first?, second?))
 /// ```
 pub fn run_until<F, G, R>(
     rt: &R,
@@ -200,11 +190,17 @@ where
 /// Calls the poll on this thread, with this waker, until it is ready, and gives what it gave. The
 /// thread parks while it is pending. What is known of the poll says what comes out.
 ///
-/// Example: `uses::races`.
+/// Example: `uses::polls_in_turn`.
 ///
 /// ```text
-/// let mut first = Or::new(later, there);
-/// Some(poll_until_ready(rt, &mine, |w| first.poll(w)))
+/// let waker = ThreadWaker::new(alloc)?;
+/// let (mut pause, mut number) = (YieldNow::new(), Ready::new(7));
+/// let output = poll_until_ready(rt, &waker, |w| match pause.poll(w) {
+///     Poll::Ready(()) => number.poll(w),
+///     Poll::Pending => Poll::Pending,
+/// });
+/// // 7
+/// Ok(output)
 /// ```
 pub fn poll_until_ready<T, P: FnMut(&ThreadWaker) -> Poll<T>>(
     rt: &impl Wait,

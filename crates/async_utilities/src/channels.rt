@@ -26,10 +26,17 @@ use std::sync::{Arc, Mutex, MutexGuard, Wait};
 
 /// What the ends of a channel share. Each end lends it by `channel`.
 ///
-/// Example: `uses::closes_a_channel`.
+/// Example: `uses::looks_inside`.
 ///
 /// ```text
-/// sender.channel().close();
+/// let right = rt.clone().ok()?;
+/// let (sender, receiver) = bounded::<u32, NoopWaker, NoopWaker, R>(right, alloc, 2).ok()?;
+/// let _other = receiver.copy().ok()?;
+/// sender.try_send(1).ok()?;
+/// let channel = sender.channel();
+/// let (senders, receivers) = (channel.sender_count(), channel.receiver_count());
+/// // [1, 2, 1, 2]
+/// Some([channel.len(), channel.capacity(), senders, receivers])
 /// ```
 #[derive(Drop)]
 pub struct Channel<T: Drop, S: Wake, V: Wake, R: Wait + Drop> {
@@ -47,10 +54,16 @@ pub struct Channel<T: Drop, S: Wake, V: Wake, R: Wait + Drop> {
 ///
 /// `OutOfMemory` if memory for it is refused.
 ///
-/// Example: `uses::sends_to_a_task`, `uses::answers_in_order`.
+/// Example: `uses::sends_and_receives`, and to a task `uses::sends_to_a_task`.
 ///
 /// ```text
-/// let (client, jobs) = bounded::<u32, ThreadWaker, ThreadWaker, R>(right, alloc, 4).ok()?;
+/// let right = rt.clone().ok()?;
+/// let (sender, receiver) = bounded::<u32, ThreadWaker, ThreadWaker, R>(right, alloc, 4).ok()?;
+/// block_on(rt, alloc, sender.send(7)).ok()?.ok()?;
+/// drop(sender);
+/// let message = block_on(rt, alloc, receiver.receive()).ok()?;
+/// // [Some(7), None]
+/// Some([message, block_on(rt, alloc, receiver.receive()).ok()?])
 /// ```
 pub fn bounded<T: Drop, S: Wake, V: Wake, R: Wait + Drop>(
     rt: R,
@@ -73,10 +86,16 @@ pub fn bounded<T: Drop, S: Wake, V: Wake, R: Wait + Drop>(
 ///
 /// `OutOfMemory` if memory for it is refused.
 ///
-/// Example: `uses::closes_a_channel`.
+/// Example: `uses::sends_too_late`.
 ///
 /// ```text
+/// let right = rt.clone().ok()?;
 /// let (sender, receiver) = unbounded::<u32, NoopWaker, NoopWaker, R>(right, alloc).ok()?;
+/// sender.try_send(1).ok()?;
+/// sender.channel().close();
+/// let unsent = sender.try_send(2).err()?;
+/// // (Closed(2), Ok(1))
+/// Some((unsent, receiver.try_receive()))
 /// ```
 pub fn unbounded<T: Drop, S: Wake, V: Wake, R: Wait + Drop>(
     rt: R,
@@ -133,11 +152,7 @@ impl<T: Drop, S: Wake, V: Wake, R: Wait + Drop> Channel<T, S, V, R> {
     /// inside still comes out. All who wait are woken. A channel is closed too once its last sender or
     /// its last receiver is dropped.
     ///
-    /// Example: `uses::closes_a_channel`.
-    ///
-    /// ```text
-    /// sender.channel().close();
-    /// ```
+    /// Example: `uses::sends_too_late`, at `unbounded`.
     pub fn close(&self) -> bool {
         let closing = self.state().close(self.alloc);
         match closing {
@@ -152,21 +167,13 @@ impl<T: Drop, S: Wake, V: Wake, R: Wait + Drop> Channel<T, S, V, R> {
     /// Whether the channel is closed.
     ///
     /// Example: `uses::closes_a_channel`.
-    ///
-    /// ```text
-    /// let is_closed = receiver.channel().is_closed();
-    /// ```
     pub fn is_closed(&self) -> bool {
         self.state().is_closed
     }
 
     /// How many messages are inside.
     ///
-    /// Example: `uses::closes_a_channel`.
-    ///
-    /// ```text
-    /// let left = receiver.channel().len();
-    /// ```
+    /// Example: `uses::looks_inside`, at `Channel`.
     pub fn len(&self) -> usize {
         self.state().messages.len()
     }
@@ -174,10 +181,6 @@ impl<T: Drop, S: Wake, V: Wake, R: Wait + Drop> Channel<T, S, V, R> {
     /// Whether no message is inside.
     ///
     /// Example: `uses::closes_a_channel`.
-    ///
-    /// ```text
-    /// let is_empty = receiver.channel().is_empty();
-    /// ```
     pub fn is_empty(&self) -> bool {
         self.len() == 0
     }
@@ -185,21 +188,13 @@ impl<T: Drop, S: Wake, V: Wake, R: Wait + Drop> Channel<T, S, V, R> {
     /// Whether there is no room for a message.
     ///
     /// Example: `uses::closes_a_channel`.
-    ///
-    /// ```text
-    /// let is_full = receiver.channel().is_full();
-    /// ```
     pub fn is_full(&self) -> bool {
         self.len() >= self.capacity
     }
 
     /// For how many messages there is room. An unbounded channel has `usize::MAX`.
     ///
-    /// Example: `uses::closes_a_channel`.
-    ///
-    /// ```text
-    /// let capacity = receiver.channel().capacity();
-    /// ```
+    /// Example: `uses::looks_inside`, at `Channel`.
     pub fn capacity(&self) -> usize
         ensures { result ≡ self.now.capacity }
     {
@@ -208,22 +203,14 @@ impl<T: Drop, S: Wake, V: Wake, R: Wait + Drop> Channel<T, S, V, R> {
 
     /// How many senders there are.
     ///
-    /// Example: `uses::closes_a_channel`.
-    ///
-    /// ```text
-    /// let senders = receiver.channel().sender_count();
-    /// ```
+    /// Example: `uses::looks_inside`, at `Channel`.
     pub fn sender_count(&self) -> usize {
         self.state().senders.ends
     }
 
     /// How many receivers there are.
     ///
-    /// Example: `uses::closes_a_channel`.
-    ///
-    /// ```text
-    /// let receivers = sender.channel().receiver_count();
-    /// ```
+    /// Example: `uses::looks_inside`, at `Channel`.
     pub fn receiver_count(&self) -> usize {
         self.state().receivers.ends
     }

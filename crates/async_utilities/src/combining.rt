@@ -12,12 +12,16 @@ use async_executor::{Future, Poll};
 
 /// A future of one of two kinds, with one output.
 ///
-/// Example: `uses::races`.
+/// Example: `uses::awaits_either`.
 ///
 /// ```text
-/// type Number = Either<Ready<u64>, Map<YieldNow, Gives>>;
-/// let later = Number::Right(Map::new(YieldNow::new(), Gives { number: 1 }));
-/// let there = Number::Left(Ready::new(2));
+/// let number = if is_there {
+///     Either::Left(Ready::new(7))
+/// } else {
+///     Either::Right(Or::new(Never::new(), Ready::new(8)))
+/// };
+/// // 7 if it is there, and else 8
+/// Ok(block_on(rt, alloc, number)?)
 /// ```
 #[derive(Drop)]
 pub enum Either<A, B> {
@@ -41,13 +45,7 @@ impl<W, A: Future<W>, B: Future<W, Output = A::Output>> Future<W> for Either<A, 
 /// What is made of an output, by one call. It stands in the place of a closure, of which no field can
 /// say that it may be called.
 ///
-/// Example: `uses::races`, which changes an output by a `Gives`.
-///
-/// ```text
-/// impl Change<()> for Gives {
-///     type Output = u64;
-///     ghost makes = { λ gives _. gives.number };
-/// ```
+/// Example: `uses::races`, at `Map`, which changes an output by a `Gives`.
 pub trait Change<A>: Drop {
     /// What is made.
     type Output: Drop;
@@ -65,8 +63,12 @@ pub trait Change<A>: Drop {
 /// Example: `uses::races`.
 ///
 /// ```text
-/// type Number = Either<Ready<u64>, Map<YieldNow, Gives>>;
+/// let mine = ThreadWaker::new(alloc).ok()?;
 /// let later = Number::Right(Map::new(YieldNow::new(), Gives { number: 1 }));
+/// let there = Number::Left(Ready::new(2));
+/// let mut first = Or::new(later, there);
+/// // 2
+/// Some(poll_until_ready(rt, &mine, |w| first.poll(w)))
 /// ```
 #[derive(Drop)]
 pub struct Map<G, C> {
@@ -76,11 +78,7 @@ pub struct Map<G, C> {
 impl<G, C> Map<G, C> {
     /// Makes the change once the future is ready.
     ///
-    /// Example: `uses::races`.
-    ///
-    /// ```text
-    /// let later = Number::Right(Map::new(YieldNow::new(), Gives { number: 1 }));
-    /// ```
+    /// Example: `uses::races`, at `Map`.
     pub fn new(future: G, change: C) -> Map<G, C>
         ensures { result.inner ≡ Some (future, change) }
     {
@@ -123,7 +121,10 @@ pub(crate) enum Stage<G, C, H> {
 /// Example: `uses::follows`.
 ///
 /// ```text
+/// let mine = ThreadWaker::new(alloc).ok()?;
 /// let mut both = Then::new(Ready::new(2), Begins { number: 1 });
+/// // (2, 1)
+/// Some(poll_until_ready(rt, &mine, |w| both.poll(w)))
 /// ```
 #[derive(Drop)]
 pub struct Then<G, C, H> {
@@ -133,11 +134,7 @@ pub struct Then<G, C, H> {
 impl<G, C, H> Then<G, C, H> {
     /// Makes the second future once the first is ready.
     ///
-    /// Example: `uses::follows`.
-    ///
-    /// ```text
-    /// let mut both = Then::new(Ready::new(2), Begins { number: 1 });
-    /// ```
+    /// Example: `uses::follows`, at `Then`.
     pub fn new(first: G, change: C) -> Then<G, C, H>
         ensures { result.stage ≡ Some (Stage.First first change) }
     {
@@ -218,11 +215,13 @@ impl<G, T> Half<G, T> {
 
 /// Gives the outputs of two futures, which are polled by turns until both are ready.
 ///
-/// Example: `uses::pools`.
+/// Example: `uses::awaits_both`, and of tasks `uses::runs_two`.
 ///
 /// ```text
-/// let (first, second) = block_on(rt, alloc, Zip::new(add, more)).ok()?;
-/// added(first.ok().zip(second.ok()))
+/// let mut both = Zip::new(Ready::new(7), YieldNow::new());
+/// let first = both.poll(&NoopWaker);
+/// // [Pending, Ready((7, ()))]
+/// [first, both.poll(&NoopWaker)]
 /// ```
 #[derive(Drop)]
 pub struct Zip<A, X, B, Y> {
@@ -232,11 +231,7 @@ pub struct Zip<A, X, B, Y> {
 impl<A, X, B, Y> Zip<A, X, B, Y> {
     /// Awaits both.
     ///
-    /// Example: `uses::pools`.
-    ///
-    /// ```text
-    /// let (first, second) = block_on(rt, alloc, Zip::new(add, more)).ok()?;
-    /// ```
+    /// Example: `uses::awaits_both`, at `Zip`.
     pub fn new(left: A, right: B) -> Zip<A, X, B, Y>
         ensures { result.halves ≡ Some (Half.Open left, Half.Open right) }
     {
@@ -273,11 +268,12 @@ impl<W, A: Future<W>, B: Future<W>> Future<W> for Zip<A, A::Output, B, B::Output
 /// Gives the output of the first of two futures that is ready, and the left one's if both are. The
 /// other future is dropped then.
 ///
-/// Example: `uses::races`.
+/// Example: `uses::takes_the_first`.
 ///
 /// ```text
-/// let mut first = Or::new(later, there);
-/// Some(poll_until_ready(rt, &mine, |w| first.poll(w)))
+/// let mut first = Or::new(Never::new(), Ready::new(7));
+/// // Ready(7)
+/// first.poll(&NoopWaker)
 /// ```
 #[derive(Drop)]
 pub struct Or<A, B> {
@@ -287,11 +283,7 @@ pub struct Or<A, B> {
 impl<A, B> Or<A, B> {
     /// Awaits the first of them.
     ///
-    /// Example: `uses::races`.
-    ///
-    /// ```text
-    /// let mut first = Or::new(later, there);
-    /// ```
+    /// Example: `uses::takes_the_first`, at `Or`.
     pub fn new(left: A, right: B) -> Or<A, B>
         ensures { result.both ≡ Some (left, right) }
     {
@@ -337,7 +329,13 @@ fn poll_first_of<W, A: Future<W>, B: Future<W, Output = A::Output>>(
 /// Example: `uses::alternates`.
 ///
 /// ```text
+/// let mine = ThreadWaker::new(alloc).ok()?;
 /// let mut race = Race::new(Late::new(1), Late::new(2));
+/// // 2: the right one goes first at the second poll
+/// match (race.poll(&mine), race.poll(&mine)) {
+///     (Poll::Pending, Poll::Ready(number)) => Some(number),
+///     _ => None,
+/// }
 /// ```
 #[derive(Drop)]
 pub struct Race<A, B> {
@@ -349,11 +347,7 @@ pub struct Race<A, B> {
 impl<A, B> Race<A, B> {
     /// Awaits the first of them.
     ///
-    /// Example: `uses::alternates`.
-    ///
-    /// ```text
-    /// let mut race = Race::new(Late::new(1), Late::new(2));
-    /// ```
+    /// Example: `uses::alternates`, at `Race`.
     pub fn new(left: A, right: B) -> Race<A, B>
         ensures both { result.both ≡ Some (left, right) }
         ensures turn { result.is_right_first ≡ false }

@@ -10,11 +10,13 @@ use std::marker::PhantomData;
 /// Ready at its first poll, with the value that it was made of. It is pending from then on, and wakes
 /// nobody, since it has no second output.
 ///
-/// Example: `uses::races`.
+/// Example: `uses::is_ready_once`.
 ///
 /// ```text
-/// type Number = Either<Ready<u64>, Map<YieldNow, Gives>>;
-/// let there = Number::Left(Ready::new(2));
+/// let mut ready = Ready::new(7);
+/// let first = ready.poll(&NoopWaker);
+/// // [Ready(7), Pending]
+/// [first, ready.poll(&NoopWaker)]
 /// ```
 #[derive(Drop)]
 pub struct Ready<T> {
@@ -24,11 +26,7 @@ pub struct Ready<T> {
 impl<T> Ready<T> {
     /// Gives this value.
     ///
-    /// Example: `uses::races`.
-    ///
-    /// ```text
-    /// let there = Number::Left(Ready::new(2));
-    /// ```
+    /// Example: `uses::is_ready_once`, at `Ready`.
     pub fn new(value: T) -> Ready<T>
         ensures { result.value ≡ Some value }
     {
@@ -52,11 +50,7 @@ impl<W, T: Drop> Future<W> for Ready<T> {
 
 /// Never ready, and wakes nobody.
 ///
-/// Example: `uses::times_out`.
-///
-/// ```text
-/// let wanted = timer.timeout(Duration::from_millis(10), Never::new()).ok()?;
-/// ```
+/// Example: `uses::takes_the_first`, at `Or`.
 #[derive(Drop)]
 pub struct Never<T> {
     output: PhantomData<T>,
@@ -65,11 +59,7 @@ pub struct Never<T> {
 impl<T> Never<T> {
     /// Never gives a value of the type T.
     ///
-    /// Example: `uses::times_out`.
-    ///
-    /// ```text
-    /// let wanted = timer.timeout(Duration::from_millis(10), Never::new()).ok()?;
-    /// ```
+    /// Example: `uses::takes_the_first`, at `Or`.
     pub fn new() -> Never<T> {
         Never {
             output: PhantomData,
@@ -90,11 +80,13 @@ impl<W, T: Drop> Future<W> for Never<T> {
 /// Pending at its first poll, and ready from then on. At its first poll it asks for the second, so
 /// that whatever is scheduled already goes first.
 ///
-/// Example: `uses::races`.
+/// Example: `uses::yields_once`.
 ///
 /// ```text
-/// type Number = Either<Ready<u64>, Map<YieldNow, Gives>>;
-/// let later = Number::Right(Map::new(YieldNow::new(), Gives { number: 1 }));
+/// let mut pause = YieldNow::new();
+/// let first = pause.poll(&NoopWaker);
+/// // [Pending, Ready(())]
+/// [first, pause.poll(&NoopWaker)]
 /// ```
 #[derive(Drop)]
 pub struct YieldNow {
@@ -104,11 +96,7 @@ pub struct YieldNow {
 impl YieldNow {
     /// One that was not polled yet.
     ///
-    /// Example: `uses::races`.
-    ///
-    /// ```text
-    /// let later = Number::Right(Map::new(YieldNow::new(), Gives { number: 1 }));
-    /// ```
+    /// Example: `uses::yields_once`, at `YieldNow`.
     pub fn new() -> YieldNow
         ensures { result.is_polled ≡ false }
     {

@@ -14,12 +14,16 @@ use std::alloc::{AllocFailed, Global};
 ///
 /// It is pending from then on, and wakes nobody.
 ///
-/// Example: `uses::joins`.
+/// Example: `uses::joins_three`.
 ///
 /// ```text
-/// let all = JoinAll::new(alloc, tasks).ok()?;
-/// for output in block_on(rt, alloc, all).ok()? {
-///     total = total.checked_add(output.ok()?)?;
+/// let executor = Executor::new(rt.clone()?, alloc)?;
+/// let mut tasks = Vec::new(alloc);
+/// let futures = (0..3).map(|number| Ready::new(number));
+/// executor.spawn_many(futures, &mut tasks)?;
+/// let all = JoinAll::new(alloc, tasks)?;
+/// // [Ok(0), Ok(1), Ok(2)]
+/// Ok(run_until(rt, alloc, &executor, all)?)
 /// ```
 #[derive(Drop)]
 pub struct JoinAll<G, T> {
@@ -41,11 +45,7 @@ impl<G, T> JoinAll<G, T> {
     ///
     /// `AllocFailed` if memory for the outputs is refused, with the futures in their order.
     ///
-    /// Example: `uses::joins`.
-    ///
-    /// ```text
-    /// let all = JoinAll::new(alloc, tasks).ok()?;
-    /// ```
+    /// Example: `uses::joins_three`, at `JoinAll`.
     pub fn new(alloc: Global, futures: Vec<G>) -> Result<JoinAll<G, T>, AllocFailed<Vec<G>>>
         ensures ok { IfOk result (λ all. IfSome all.inner (λ inner. (inner.left.items ≡ reverse futures.items) × (inner.outputs.items ≡ []))) }
         ensures begun { IfOk result (λ all. IsSome all.inner) }
@@ -109,12 +109,7 @@ impl<W, G: Future<W>> Future<W> for JoinAll<G, G::Output> {
 
 /// The first of many futures that was ready.
 ///
-/// Example: `uses::picks`.
-///
-/// ```text
-/// let first = block_on(rt, alloc, AnyOf::new(futures)).ok()?;
-/// Some((first.place, first.output, first.others.len()))
-/// ```
+/// Example: `uses::picks`, at `AnyOf`.
 #[derive(Debug, PartialEq, Eq, Drop)]
 pub struct First<G, T> {
     /// Its place among them.
@@ -134,7 +129,16 @@ pub struct First<G, T> {
 /// Example: `uses::picks`.
 ///
 /// ```text
+/// let mut futures = Vec::new(alloc);
+/// for number in 0..3 {
+///     futures.push(Late::new(number)).ok()?;
+/// }
+/// if futures.is_empty() {
+///     return None;
+/// }
 /// let first = block_on(rt, alloc, AnyOf::new(futures)).ok()?;
+/// // (0, 0, 2)
+/// Some((first.place, first.output, first.others.len()))
 /// ```
 #[derive(Drop)]
 pub struct AnyOf<G> {
@@ -144,11 +148,7 @@ pub struct AnyOf<G> {
 impl<G> AnyOf<G> {
     /// Awaits the first of them. Of none there is no first: ask `is_empty` before.
     ///
-    /// Example: `uses::picks`.
-    ///
-    /// ```text
-    /// let first = block_on(rt, alloc, AnyOf::new(futures)).ok()?;
-    /// ```
+    /// Example: `uses::picks`, at `AnyOf`.
     pub fn new(futures: Vec<G>) -> AnyOf<G>
         requires { 0 < vec_len futures }
         ensures { result.futures ≡ Some futures }

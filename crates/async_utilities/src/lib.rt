@@ -4,6 +4,9 @@
 //!
 //! It stands on what `async_executor` makes public. Its futures are for wakers of any type, and its
 //! wakers serve any future.
+//!
+//! An example is the whole body of a caller of `uses/src`. There rt is the right to wait and alloc the
+//! allocator, as `main` hands them on.
 #![tactic(auto)]
 
 pub mod blocking;

@@ -20,11 +20,7 @@ pub use semaphore::{Acquire, Semaphore, SemaphoreGuard, TooManyPermits};
 
 /// Why a try took nothing.
 ///
-/// Example: `uses::takes_turns`.
-///
-/// ```text
-/// let unavailable = other.try_lock().err()?;
-/// ```
+/// Example: `uses::locks`, at `Mutex`.
 #[derive(Debug, Clone, Copy, PartialEq, Eq)]
 pub enum Unavailable {
     /// Others have it, or wait for it.

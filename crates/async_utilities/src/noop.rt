@@ -6,11 +6,7 @@ use async_executor::{OutOfMemory, Wake};
 /// Wakes nobody: it is for a caller that polls again by itself. It stands for
 /// `std::task::Waker::noop`.
 ///
-/// Example: `uses::runs`, which calls it `Nobody`.
-///
-/// ```text
-/// output_of(task.poll(&Nobody))
-/// ```
+/// Example: `uses::yields_once`, at `YieldNow`.
 #[derive(Debug, Clone, Copy)]
 pub struct NoopWaker;
 

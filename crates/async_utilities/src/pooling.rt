@@ -21,11 +21,7 @@ pub use threads::{Driven, PoolOf};
 
 /// Why there is no pool, or why one of its threads ended before it was told to.
 ///
-/// Example: `uses::joins`, which lets it go.
-///
-/// ```text
-/// let pool: Pool<Sum, R> = Pool::new(rt.clone().ok()?, alloc, 4).ok()?;
-/// ```
+/// Example: `uses::drives_in_turns`, at `PoolOf`, where `?` makes an `io::Error` of it.
 #[derive(Debug, Clone, Copy, PartialEq, Eq, Error)]
 pub enum PoolError {
     /// Memory was refused.
@@ -74,8 +70,15 @@ impl<G: Drop> From<RunError<G>> for PoolError {
 ///
 /// ```text
 /// let pool: Pool<Sum, R> = Pool::new(rt.clone().ok()?, alloc, 4).ok()?;
+/// let mut tasks = Vec::new(alloc);
+/// let sums = (0..1000).map(|number| Sum::of(number, 1));
 /// pool.executor().spawn_many(sums, &mut tasks).ok()?;
 /// let all = JoinAll::new(alloc, tasks).ok()?;
+/// let mut total = 0u64;
+/// for output in block_on(rt, alloc, all).ok()? {
+///     total = total.checked_add(output.ok()?)?;
+/// }
+/// Some(total)
 /// ```
 #[derive(Drop)]
 pub struct Pool<F, R>
@@ -117,11 +120,7 @@ where
     ///
     /// `PoolError`. The threads that were started are stopped again.
     ///
-    /// Example: `uses::joins`.
-    ///
-    /// ```text
-    /// let pool: Pool<Sum, R> = Pool::new(rt.clone().ok()?, alloc, 4).ok()?;
-    /// ```
+    /// Example: `uses::joins`, at `Pool`.
     pub fn new(rt: R, alloc: Global, count: usize) -> Result<Pool<F, R>, PoolError>
         ensures count { IfOk result (λ pool. vec_len pool.inner.started.threads ≡ count) }
         ensures limits { IfOk result (λ pool. (arc_value pool.inner.executor).inner.limits ≡ default_limits) }
@@ -133,12 +132,7 @@ where
 
     /// The executor, to spawn tasks on.
     ///
-    /// Example: `uses::joins`.
-    ///
-    /// ```text
-    /// let sums = (0..1000).map(|number| Sum::of(number, 1));
-    /// pool.executor().spawn_many(sums, &mut tasks).ok()?;
-    /// ```
+    /// Example: `uses::joins`, at `Pool`.
     pub fn executor(&self) -> &Executor<F, ThreadWaker, R>
         ensures { result.now ≡ arc_value self.now.inner.executor }
     {
@@ -149,12 +143,6 @@ where
     /// they were started. Each began with all that it needs, so it is `Ok`.
     ///
     /// Example: `uses::winds_up`.
-    ///
-    /// ```text
-    /// let pool: Pool<Sum, R> = Pool::new(rt.clone().ok()?, alloc, 2).ok()?;
-    /// let total = added(first.zip(second))?;
-    /// Some((total, pool.join()))
-    /// ```
     pub fn join(self) -> Vec<Result<(), PoolError>>
         ensures { vec_len result ≡ vec_len self.inner.started.threads }
     {

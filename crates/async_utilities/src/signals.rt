@@ -15,12 +15,21 @@ use std::sync::{Arc, Mutex, MutexGuard, Wait};
 /// its own, as runs that are to stop together. W is the waker that they are polled with, and R the
 /// right to wait for the lock.
 ///
-/// Example: `uses::pools`.
+/// Example: `uses::tells`, and of threads that run tasks `uses::pools`.
 ///
 /// ```text
-/// let stop = Signal::new(rt.clone().ok()?, alloc).ok()?;
-/// executor.run(stop.waiting().ok()?).ok()
-/// stop.set();
+/// let told: Signal<ThreadWaker, R> = Signal::new(rt.clone().ok()?, alloc).ok()?;
+/// let other = told.copy().ok()?;
+/// let waiting = told.waiting().ok()?;
+/// let was_set = told.is_set();
+/// let (_, waited) = thread::join(
+///     rt,
+///     move || other.set(),
+///     move || block_on(rt, alloc, waiting).ok(),
+/// );
+/// waited?;
+/// // (false, true)
+/// Some((was_set, told.is_set()))
 /// ```
 #[derive(Drop)]
 pub struct Signal<W: Wake, R: Wait + Drop> {
@@ -118,11 +127,7 @@ impl<W: Wake, R: Wait + Drop> Signal<W, R> {
     ///
     /// `OutOfMemory` if memory for it is refused.
     ///
-    /// Example: `uses::pools`.
-    ///
-    /// ```text
-    /// let stop = Signal::new(rt.clone().ok()?, alloc).ok()?;
-    /// ```
+    /// Example: `uses::tells`, at `Signal`.
     pub fn new(rt: R, alloc: Global) -> Result<Signal<W, R>, OutOfMemory> {
         let state = Mutex::new(State::new(alloc));
         match Arc::new(alloc, Shared { state, alloc, rt }) {
@@ -137,12 +142,7 @@ impl<W: Wake, R: Wait + Drop> Signal<W, R> {
     ///
     /// `OutOfMemory` if another holder cannot be counted.
     ///
-    /// Example: `uses::tells`.
-    ///
-    /// ```text
-    /// let other = told.copy().ok()?;
-    /// move || other.set(),
-    /// ```
+    /// Example: `uses::tells`, at `Signal`.
     pub fn copy(&self) -> Result<Signal<W, R>, OutOfMemory>
         ensures same { IfOk result (λ copy. arc_value copy.shared ≡ arc_value self.now.shared) }
     {
@@ -153,12 +153,7 @@ impl<W: Wake, R: Wait + Drop> Signal<W, R> {
     /// Sets the signal, and wakes each waker that waits for it, once, in the order in which they began
     /// to wait. If it was set before, nothing happens. No lock is held while a waker is woken.
     ///
-    /// Example: `uses::pools`.
-    ///
-    /// ```text
-    /// let total = sum(rt, alloc, executor);
-    /// stop.set();
-    /// ```
+    /// Example: `uses::tells`, at `Signal`.
     pub fn set(&self) {
         let all = self.shared.state().set(self.shared.alloc);
         if let Some(all) = all {
@@ -168,12 +163,7 @@ impl<W: Wake, R: Wait + Drop> Signal<W, R> {
 
     /// Whether the signal is set.
     ///
-    /// Example: `uses::tells`.
-    ///
-    /// ```text
-    /// let was_set = told.is_set();
-    /// Some((was_set, told.is_set()))
-    /// ```
+    /// Example: `uses::tells`, at `Signal`.
     pub fn is_set(&self) -> bool {
         self.shared.state().is_set
     }
@@ -185,11 +175,7 @@ impl<W: Wake, R: Wait + Drop> Signal<W, R> {
     ///
     /// `OutOfMemory` if memory for the place is refused.
     ///
-    /// Example: `uses::pools`.
-    ///
-    /// ```text
-    /// executor.run(stop.waiting().ok()?).ok()
-    /// ```
+    /// Example: `uses::tells`, at `Signal`.
     pub fn waiting(&self) -> Result<Waiting<W, R>, OutOfMemory>
         ensures same { IfOk result (λ waiting. arc_value waiting.shared ≡ arc_value self.now.shared) }
     {
@@ -203,12 +189,7 @@ impl<W: Wake, R: Wait + Drop> Signal<W, R> {
 /// poll is kept, and is woken when the signal is set. If the copy is refused, the waker itself is
 /// woken and nothing more is kept. Its drop gives its place back, and drops the copy unwoken.
 ///
-/// Example: `uses::pools`.
-///
-/// ```text
-/// executor.run(stop.waiting().ok()?).ok()
-/// stop.set();
-/// ```
+/// Example: `uses::tells`, at `Signal`.
 pub struct Waiting<W: Wake, R: Wait + Drop> {
     shared: Arc<Shared<W, R>>,
     place: usize,

@@ -28,22 +28,14 @@ type PoolWaker<R> = TaskWaker<ThreadWaker, R>;
 /// Makes the task of a job. It stands in the place of a closure, of which no field can say that it may be
 /// called.
 ///
-/// Example: `uses::fans_out`, of a `Tree`.
-///
-/// ```text
-/// fn make(&self, depth: u32, spawner: &Spawner<u32, R>) -> Result<Branch<R>, u32> {
-/// ```
+/// Example: `uses::hands_in_jobs`, at `servers`, of `Numbers`.
 pub trait MakeTask<J: Drop, R: Wait + Clone + Drop>: Drop {
     /// The task. What it gives is dropped.
     type Task: Future<TaskWaker<ThreadWaker, R>>;
 
     /// Makes it. A job of which there is no memory for a task comes back, and is handed in again later.
     ///
-    /// Example: `uses::fans_out`.
-    ///
-    /// ```text
-    /// fn make(&self, depth: u32, spawner: &Spawner<u32, R>) -> Result<Branch<R>, u32> {
-    /// ```
+    /// Example: `uses::hands_in_jobs`, at `servers`, of `Numbers`.
     fn make(&self, job: J, spawner: &Spawner<J, R>) -> Result<Self::Task, J>
         ensures back { IfErr result (λ failed. failed ≡ job) };
 }
@@ -70,10 +62,6 @@ impl<J: Drop, R: Wait + Clone + Drop> Desk<J, R> {
 /// Hands in jobs. A task may have a copy, and so may a thread.
 ///
 /// Example: `uses::fans_out`.
-///
-/// ```text
-/// let _ = self.spawner.spawn(below);
-/// ```
 #[derive(Drop)]
 pub struct Spawner<J: Drop, R: Wait + Clone + Drop> {
     desk: Arc<Desk<J, R>>,
@@ -87,10 +75,6 @@ impl<J: Drop, R: Wait + Clone + Drop> Spawner<J, R> {
     /// `OutOfMemory` if another holder cannot be counted.
     ///
     /// Example: `uses::fans_out`.
-    ///
-    /// ```text
-    /// match spawner.copy() {
-    /// ```
     pub fn copy(&self) -> Result<Spawner<J, R>, OutOfMemory> {
         let desk = Arc::try_clone(&self.desk)?;
         Ok(Spawner { desk })
@@ -104,11 +88,7 @@ impl<J: Drop, R: Wait + Clone + Drop> Spawner<J, R> {
     /// `Unsent` with the job: `Full` if there is no room, `Refused` if memory is refused, and `Closed` if
     /// the servers are gone, or all jobs were done once the owner's `Jobs` was dropped.
     ///
-    /// Example: `uses::fans_out`.
-    ///
-    /// ```text
-    /// let _ = self.spawner.spawn(below);
-    /// ```
+    /// Example: `uses::hands_in_jobs`, at `servers`.
     pub fn spawn(&self, job: J) -> Result<(), Unsent<J>>
         ensures back { IfErr result (λ failed. unsent failed ≡ job) }
     {
@@ -127,12 +107,7 @@ impl<J: Drop, R: Wait + Clone + Drop> Spawner<J, R> {
 /// how many it did, once all jobs are done. It is a task itself, of a `Pool` or of another executor whose
 /// threads park.
 ///
-/// Example: `uses::fans_out`.
-///
-/// ```text
-/// let pool: Pool<Server<u32, Tree, R>, R> = Pool::new(rt.clone()?, alloc, 2)?;
-/// pool.executor().spawn_many(servers.into_iter(), &mut tasks)?;
-/// ```
+/// Example: `uses::hands_in_jobs`, at `servers`.
 #[derive(Drop)]
 pub struct Server<J, M, R>
 where
@@ -265,13 +240,7 @@ where
 
 /// How much is done at once.
 ///
-/// Example: `uses::fans_out`.
-///
-/// ```text
-/// let limits = JobLimits {
-///     tasks: 4,
-///     room: None,
-/// ```
+/// Example: `uses::hands_in_jobs`, at `servers`.
 #[derive(Debug, Clone, Copy, PartialEq, Eq)]
 pub struct JobLimits {
     /// How many tasks run at once: the other jobs wait, in order.
@@ -283,12 +252,7 @@ pub struct JobLimits {
 /// The owner's end. Its drop says that the owner hands in no more jobs: once those that are left are done,
 /// and no task that runs hands in more, each server ends.
 ///
-/// Example: `uses::fans_out`.
-///
-/// ```text
-/// jobs.spawner().spawn(3)?;
-/// drop(jobs);
-/// ```
+/// Example: `uses::hands_in_jobs`, at `servers`.
 pub struct Jobs<J: Drop, R: Wait + Clone + Drop> {
     spawner: Spawner<J, R>,
 }
@@ -296,11 +260,7 @@ pub struct Jobs<J: Drop, R: Wait + Clone + Drop> {
 impl<J: Drop, R: Wait + Clone + Drop> Jobs<J, R> {
     /// The spawner of these jobs.
     ///
-    /// Example: `uses::fans_out`.
-    ///
-    /// ```text
-    /// jobs.spawner().spawn(3)?;
-    /// ```
+    /// Example: `uses::hands_in_jobs`, at `servers`.
     pub fn spawner(&self) -> &Spawner<J, R>
         ensures { result.now ≡ self.now.spawner }
     {
@@ -322,10 +282,22 @@ impl<J: Drop, R: Wait + Clone + Drop> Drop for Jobs<J, R> {
 ///
 /// `OutOfMemory` if memory is refused.
 ///
-/// Example: `uses::fans_out`.
+/// Example: `uses::hands_in_jobs`, and of jobs that hand in jobs `uses::fans_out`.
 ///
 /// ```text
-/// let (jobs, servers) = servers(rt.clone()?, alloc, limits, Tree)?;
+/// let limits = JobLimits {
+///     tasks: 1,
+///     room: None,
+/// };
+/// let (jobs, servers) = servers(rt.clone()?, alloc, limits, Numbers)?;
+/// jobs.spawner().spawn(7)?;
+/// jobs.spawner().spawn(8)?;
+/// drop(jobs);
+/// let executor = Executor::new(rt.clone()?, alloc)?;
+/// let mut tasks = Vec::new(alloc);
+/// executor.spawn_many(servers.into_iter(), &mut tasks)?;
+/// // [Ok(2)]
+/// Ok(run_until(rt, alloc, &executor, JoinAll::new(alloc, tasks)?)?)
 /// ```
 pub fn servers<J, M, R>(
     rt: R,

@@ -39,12 +39,14 @@ pub use timeout::{TimedOut, Timeout};
 /// with, C the clock, and R the right to wait for the lock. Somebody has to drive it, by `block_on` or
 /// by a `driver`.
 ///
-/// Example: `uses::times_out`.
+/// Example: `uses::waits_a_while`.
 ///
 /// ```text
-/// let timer = Timer::new(rt.clone().ok()?, rt.clone().ok()?, alloc).ok()?;
-/// let wanted = timer.timeout(Duration::from_millis(10), Never::new()).ok()?;
-/// timer.block_on(run).ok()
+/// let timer: Timer<ThreadWaker, R, R> = Timer::new(rt.clone()?, rt.clone()?, alloc)?;
+/// let before = Reading::now(rt)?;
+/// let now = timer.block_on(timer.after(Duration::from_millis(2))?)?;
+/// // Some(2ms), or more
+/// Ok(now.since_start().checked_sub(before.since_start()))
 /// ```
 #[derive(Drop)]
 pub struct Timer<W: Wake, C: Clock + Drop, R: Wait + Drop> {
@@ -59,11 +61,7 @@ impl<W: Wake, C: Clock + Drop, R: Wait + Drop> Timer<W, C, R> {
     ///
     /// `TimerError`, if memory for it is refused or the clock cannot be read.
     ///
-    /// Example: `uses::times_out`.
-    ///
-    /// ```text
-    /// let timer = Timer::new(rt.clone().ok()?, rt.clone().ok()?, alloc).ok()?;
-    /// ```
+    /// Example: `uses::waits_a_while`, at `Timer`.
     pub fn new(rt: R, clock: C, alloc: Global) -> Result<Timer<W, C, R>, TimerError>
         ensures { IfOk result (λ timer. timer.clock ≡ clock) }
     {
@@ -81,11 +79,6 @@ impl<W: Wake, C: Clock + Drop, R: Wait + Drop> Timer<W, C, R> {
     /// `AllocError` if another holder cannot be counted, or the clock cannot be cloned.
     ///
     /// Example: `uses::rests`.
-    ///
-    /// ```text
-    /// let other = timer.copy().ok()?;
-    /// move || rest(rt, &other, Duration::from_millis(5)),
-    /// ```
     pub fn copy(&self) -> Result<Timer<W, C, R>, AllocError>
     where
         C: Clone,
@@ -103,11 +96,7 @@ impl<W: Wake, C: Clock + Drop, R: Wait + Drop> Timer<W, C, R> {
     ///
     /// `OutOfMemory` if another holder of the timer cannot be counted.
     ///
-    /// Example: `uses::postpones`.
-    ///
-    /// ```text
-    /// let mut after = timer.at(before.checked_add(Duration::from_secs(60))?).ok()?;
-    /// ```
+    /// Example: `uses::postpones`, at `After`.
     pub fn at(&self, time: Reading) -> Result<After<W, R>, OutOfMemory>
         ensures time { IfOk result (λ after. IsAt after.nanos (as_nanos time.since_start)) }
         ensures same { IfOk result (λ after. arc_value after.shared ≡ arc_value self.now.shared) }
@@ -122,13 +111,7 @@ impl<W: Wake, C: Clock + Drop, R: Wait + Drop> Timer<W, C, R> {
     ///
     /// `TimerError`, if another holder of the timer cannot be counted or the clock cannot be read.
     ///
-    /// Example: `uses::rest`, which `uses::rests` calls.
-    ///
-    /// ```text
-    /// let mut after = timer.after(duration).ok()?;
-    /// if let Poll::Ready(now) = after.poll(driver.waker()) {
-    ///     return Some(now);
-    /// ```
+    /// Example: `uses::waits_a_while`, at `Timer`.
     pub fn after(&self, duration: Duration) -> Result<After<W, R>, TimerError>
         ensures long { IfOk result (λ after. IsNoSooner after.nanos (as_nanos duration)) }
         ensures same { IfOk result (λ after. arc_value after.shared ≡ arc_value self.now.shared) }
@@ -144,11 +127,7 @@ impl<W: Wake, C: Clock + Drop, R: Wait + Drop> Timer<W, C, R> {
     ///
     /// `TimerError`, if another holder of the timer cannot be counted or the clock cannot be read.
     ///
-    /// Example: `uses::repeats`.
-    ///
-    /// ```text
-    /// let mut interval = timer.interval(Duration::from_millis(PERIOD)).ok()?;
-    /// ```
+    /// Example: `uses::comes_twice`, at `Interval`.
     pub fn interval(&self, period: Duration) -> Result<Interval<W, R>, TimerError>
         ensures first { IfOk result (λ interval. IsNoSooner interval.after.nanos (as_nanos period)) }
         ensures period { IfOk result (λ interval. interval.period ≡ period) }
@@ -163,10 +142,6 @@ impl<W: Wake, C: Clock + Drop, R: Wait + Drop> Timer<W, C, R> {
     /// `OutOfMemory` if another holder of the timer cannot be counted.
     ///
     /// Example: `uses::beats`.
-    ///
-    /// ```text
-    /// let mut interval = timer.interval_at(first, period).ok()?;
-    /// ```
     pub fn interval_at(
         &self,
         first: Reading,
@@ -186,12 +161,7 @@ impl<W: Wake, C: Clock + Drop, R: Wait + Drop> Timer<W, C, R> {
     /// `TimerFailed` with the future, if another holder of the timer cannot be counted or the clock
     /// cannot be read.
     ///
-    /// Example: `uses::times_out`.
-    ///
-    /// ```text
-    /// let wanted = timer.timeout(Duration::from_millis(10), Never::new()).ok()?;
-    /// let task = executor.spawn(wanted).ok()?;
-    /// ```
+    /// Example: `uses::is_too_late`, at `Timeout`.
     pub fn timeout<G>(
         &self,
         duration: Duration,
@@ -217,11 +187,7 @@ impl<W: Wake, C: Clock + Drop, R: Wait + Drop> Timer<W, C, R> {
     ///
     /// `OutOfMemory` if memory for its waker or for its place is refused.
     ///
-    /// Example: `uses::rest`, which `uses::rests` calls.
-    ///
-    /// ```text
-    /// let driver = timer.driver().ok()?;
-    /// ```
+    /// Example: `uses::rest`, at `Driver`.
     pub fn driver(&self) -> Result<Driver<'_, W, C, R>, OutOfMemory> {
         Driver::new(self)
     }
@@ -234,12 +200,7 @@ impl<W: Wake, C: Clock + Drop, R: Wait + Drop> Timer<W, C, R> {
     /// `TimerFailed` with the future, if memory for the driver is refused or the clock is not to be
     /// read.
     ///
-    /// Example: `uses::times_out`.
-    ///
-    /// ```text
-    /// let run = executor.run(future).ok()?;
-    /// timer.block_on(run).ok()
-    /// ```
+    /// Example: `uses::waits_a_while`, at `Timer`.
     pub fn block_on<G: Future<ThreadWaker>>(&self, future: G) -> Result<G::Output, TimerFailed<G>>
         ensures refused { IfErr result (λ failed. is_clock failed.error ≡ false → failed.value ≡ future) }
     {

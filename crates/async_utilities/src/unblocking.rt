@@ -16,8 +16,12 @@ use std::thread::Threads;
 /// Example: `uses::unblocks`, of a `Slow`.
 ///
 /// ```text
-/// impl Job for Slow {
-///     type Output = u64;
+/// let jobs: Jobs<R> = Pool::new(rt.clone().ok()?, alloc, 1).ok()?;
+/// let executor: Tasks<R> = Executor::new(rt.clone().ok()?, alloc).ok()?;
+/// let answer = jobs.unblock(Slow { number: 7 }).ok()?;
+/// let task = executor.spawn(answer).ok()?;
+/// // 7
+/// run_until(rt, alloc, &executor, task).ok()?.ok()?.ok()
 /// ```
 pub trait Job: Drop {
     /// What it gives.
@@ -30,11 +34,7 @@ pub trait Job: Drop {
 /// A job as a task, which its first poll does from beginning to end. It is pending from then on, and
 /// wakes nobody.
 ///
-/// Example: `uses::unblocks`.
-///
-/// ```text
-/// type Jobs<R> = Pool<Work<Slow, Waker<R>, R>, R>;
-/// ```
+/// Example: `uses::unblocks`, at `Job`.
 #[derive(Drop)]
 pub struct Work<J: Job, V: Wake, R: Wait + Drop> {
     job: Option<J>,
@@ -75,11 +75,7 @@ impl<W, J: Job, V: Wake, R: Wait + Drop> Future<W> for Work<J, V, R> {
 /// Gives what a job gave, or `Cancelled` if its pool went before the job was begun. Polled again, it
 /// is `Cancelled`. If it is dropped, the job is done nevertheless, and what it gives is dropped.
 ///
-/// Example: `uses::unblocks`.
-///
-/// ```text
-/// let answer = jobs.unblock(Slow { number: 7 }).ok()?;
-/// ```
+/// Example: `uses::unblocks`, at `Job`.
 #[derive(Drop)]
 pub struct Answer<T: Drop, V: Wake, R: Wait + Drop> {
     answers: Receiver<T, NoopWaker, V, R>,
@@ -112,11 +108,7 @@ where
     ///
     /// `AllocFailed` with the job, if memory for it is refused.
     ///
-    /// Example: `uses::unblocks`.
-    ///
-    /// ```text
-    /// let answer = jobs.unblock(Slow { number: 7 }).ok()?;
-    /// ```
+    /// Example: `uses::unblocks`, at `Job`.
     pub fn unblock(&self, job: J) -> Result<Answer<J::Output, V, R>, AllocFailed<J>>
         ensures refused { IfErr result (λ failed. failed.value ≡ job) }
     {

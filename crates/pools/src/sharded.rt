@@ -20,6 +20,16 @@ use std::thread::Threads;
 ///
 /// ```text
 /// let pool: ShardedPool<Sum, R> = ShardedPool::new(rt.clone()?, alloc, 4)?;
+/// let mut tasks = Vec::new(alloc);
+/// for number in 0..1000 {
+///     tasks.push(pool.executor().spawn(Sum::of(number, 1))?)?;
+/// }
+/// let total = total_of(rt, alloc, tasks)?;
+/// for ended in pool.join() {
+///     ended?;
+/// }
+/// // 500,500
+/// Ok(total)
 /// ```
 #[derive(Drop)]
 pub struct ShardedPool<F, R>
@@ -72,11 +82,7 @@ where
     ///
     /// `PoolError`. The threads that were started are stopped again.
     ///
-    /// Example: `uses::sums_on_shards`.
-    ///
-    /// ```text
-    /// let pool: ShardedPool<Sum, R> = ShardedPool::new(rt.clone()?, alloc, 4)?;
-    /// ```
+    /// Example: `uses::sums_on_shards`, at `ShardedPool`.
     pub fn new(rt: R, alloc: Global, count: usize) -> Result<ShardedPool<F, R>, PoolError>
         requires { 0 < count }
         ensures threads { IfOk result (λ pool. vec_len pool.inner.started.threads ≡ count) }
@@ -89,11 +95,7 @@ where
 
     /// The executor, to spawn tasks on.
     ///
-    /// Example: `uses::sums_on_shards`.
-    ///
-    /// ```text
-    /// tasks.push(pool.executor().spawn(Sum::of(number, 1))?)?;
-    /// ```
+    /// Example: `uses::sums_on_shards`, at `ShardedPool`.
     pub fn executor(&self) -> &ShardedExecutor<F, ThreadWaker, R>
         ensures { result.now ≡ (arc_value self.now.inner.executor).executor }
     {
@@ -103,11 +105,7 @@ where
     /// Tells the threads to stop, waits for them, and says what came of each, in the order in which they
     /// were started. Each began with all that it needs, so it is `Ok`.
     ///
-    /// Example: `uses::sums_on_shards`.
-    ///
-    /// ```text
-    /// for ended in pool.join() {
-    /// ```
+    /// Example: `uses::sums_on_shards`, at `ShardedPool`.
     pub fn join(self) -> Vec<Result<(), PoolError>>
         ensures { vec_len result ≡ vec_len self.inner.started.threads }
     {

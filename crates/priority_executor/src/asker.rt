@@ -5,13 +5,7 @@ ghost use Rattle.priority_executor.specs.Answers.{answers_until};
 
 /// What the levels are asked, and the list of what they answered.
 ///
-/// Example: `uses::prefers`.
-///
-/// ```text
-/// let is_open = self.open.get(level).copied().unwrap_or(false);
-/// self.answers.push((level, is_open));
-/// is_open
-/// ```
+/// Example: `uses::prefers`, at `choose`, of `Doors`.
 pub trait Asker {
     /// Which level was asked, and what it answered, the first one first.
     ghost answers: { Self → List (ℕ × Bool) };
@@ -21,13 +15,7 @@ pub trait Asker {
 
     /// Asks this level, and puts its answer at the end of the list.
     ///
-    /// Example: `uses::prefers`.
-    ///
-    /// ```text
-    /// let is_open = self.open.get(level).copied().unwrap_or(false);
-    /// self.answers.push((level, is_open));
-    /// is_open
-    /// ```
+    /// Example: `uses::prefers`, at `choose`, of `Doors`.
     fn ask(&mut self, level: usize) -> bool
         requires { 0 < places self.old }
         ensures listed { answers self.new ≡ answers self.old ++ (level, result) ∷ [] }
@@ -40,6 +28,10 @@ pub trait Asker {
 /// Example: `uses::prefers`.
 ///
 /// ```text
+/// let mut doors = Doors {
+///     open,
+///     answers: ArrayVec::new(),
+/// };
 /// let first = choose(&mut doors, 3);
 /// (first, doors.answers.len())
 /// ```

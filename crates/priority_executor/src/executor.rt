@@ -21,12 +21,15 @@ use std::sync::Wait;
 ///
 /// It has no Debug. The Rust crate has no such type: there, a program writes its own.
 ///
-/// Example: `uses::overtakes`, `uses::accepts`.
+/// Example: `uses::goes_first`, and past a thousand others `uses::overtakes`.
 ///
 /// ```text
-/// executor.spawn(1, Runner { ran }).ok()?.detach();
-/// let mut task = executor.spawn(0, Runner { ran }).ok()?;
+/// let executor: Levels<R> = PriorityExecutor::new(rt.clone()?, alloc)?;
+/// let mut later = executor.spawn(1, Ready::new(1))?;
+/// let mut urgent = executor.spawn(0, Ready::new(2))?;
 /// executor.try_tick();
+/// // [Ready(Ok(2)), Pending]
+/// Ok([urgent.poll(&NoopWaker), later.poll(&NoopWaker)])
 /// ```
 #[derive(Drop)]
 pub struct PriorityExecutor<F, W, R, const N: usize>
@@ -54,12 +57,7 @@ where
     ///
     /// `OutOfMemory` if memory for a level is refused.
     ///
-    /// Example: `uses::overtakes`.
-    ///
-    /// ```text
-    /// let executor = PriorityExecutor::new(rt.clone().ok()?, alloc).ok()?;
-    /// let before = urgent(&executor, &ran)?;
-    /// ```
+    /// Example: `uses::goes_first`, at `PriorityExecutor`.
     pub fn new(rt: R, alloc: Global) -> Result<Self, OutOfMemory>
         requires some { 0 < N }
         requires few { N < 2 ^ 32 }
@@ -78,12 +76,7 @@ where
     /// If memory is refused, or task numbers are exhausted, the future is given back and all is
     /// as before.
     ///
-    /// Example: `uses::overtakes`.
-    ///
-    /// ```text
-    /// executor.spawn(1, Runner { ran }).ok()?.detach();
-    /// let mut task = executor.spawn(0, Runner { ran }).ok()?;
-    /// ```
+    /// Example: `uses::goes_first`, at `PriorityExecutor`.
     pub fn spawn(&self, level: usize, future: F) -> Result<Task<F, W, R>, SpawnError<F>>
         requires { level < N }
         ensures ok { IfOk result (λ task. task.inner.answered ≡ false) }
@@ -103,12 +96,6 @@ where
     /// one has a task.
     ///
     /// Example: `uses::overtakes`.
-    ///
-    /// ```text
-    /// if executor.is_empty() || !executor.try_tick() {
-    ///     break;
-    /// }
-    /// ```
     pub fn is_empty(&self) -> bool {
         // No choice: it asks for no task, and stops by itself.
         self.levels.iter().all(|level| level.is_empty())
@@ -117,12 +104,7 @@ where
     /// Runs the task that was scheduled first in the lowest level that has one scheduled, and says
     /// whether there was one.
     ///
-    /// Example: `uses::overtakes`.
-    ///
-    /// ```text
-    /// let mut task = executor.spawn(0, Runner { ran }).ok()?;
-    /// executor.try_tick();
-    /// ```
+    /// Example: `uses::goes_first`, at `PriorityExecutor`.
     pub fn try_tick(&self) -> bool {
         let mut ticks = TryTicks {
             levels: &self.levels,
@@ -139,13 +121,7 @@ where
     /// `OutOfMemory` if memory for a sleeper is refused. Those that were made are dropped, and all is as
     /// before.
     ///
-    /// Example: `uses::accepts`.
-    ///
-    /// ```text
-    /// if executor.tick().ok()?.poll(&Nobody) == Poll::Pending {
-    ///     break;
-    /// }
-    /// ```
+    /// Example: `uses::ticks_any_level`, at `PriorityTick`.
     pub fn tick(&self) -> Result<PriorityTick<'_, F, W, R, N>, OutOfMemory>
         ensures awake { IfOk result (λ tick. IsSomeAnd tick.sleepers (λ own. All (λ s. s.inner.number ≡ None) own.levels.items)) }
         ensures own { IfOk result (λ tick. IsSomeAnd tick.sleepers (λ own.
@@ -165,11 +141,7 @@ where
     ///
     /// `OutOfMemory` with the future, if memory for a sleeper is refused. All is as before.
     ///
-    /// Example: `uses::runs_levels`.
-    ///
-    /// ```text
-    /// let run = executor.run(Zip::new(later, urgent))?;
-    /// ```
+    /// Example: `uses::runs_levels`, at `PriorityRun`.
     pub fn run<G: Future<W>>(
         &self,
         future: G,

@@ -2,6 +2,9 @@
 //!
 //! It stands on the public calls of `async_executor` alone. Which level a call serves is found by
 //! `choose`, which asks the levels in order; what it asks is an `Asker`.
+//!
+//! An example is the whole body of a caller of `uses/src`. There rt is the right to wait and alloc the
+//! allocator, as `main` hands them on.
 #![tactic(auto)]
 
 pub(crate) mod answers;

@@ -21,7 +21,13 @@ const TURN: u32 = 64;
 /// Example: `uses::runs_levels`.
 ///
 /// ```text
+/// let executor: Levels<R> = PriorityExecutor::new(rt.clone()?, alloc)?;
+/// let later = executor.spawn(1, Ready::new(1))?;
+/// let urgent = executor.spawn(0, Ready::new(2))?;
 /// let run = executor.run(Zip::new(later, urgent))?;
+/// let (one, two) = block_on(rt, alloc, run)?;
+/// // 3
+/// Ok(one?.saturating_add(two?))
 /// ```
 #[derive(Drop)]
 pub struct PriorityRun<'a, F, W, R, G, const N: usize>
@@ -93,11 +99,7 @@ where
     /// comes meanwhile, or if a copy is refused, the waker itself is woken. A run that was ready wakes it
     /// and is pending, and does nothing more.
     ///
-    /// Example: `uses::runs_levels`.
-    ///
-    /// ```text
-    /// let (one, two) = block_on(rt, alloc, run)?;
-    /// ```
+    /// Example: `uses::runs_levels`, at `PriorityRun`.
     fn poll(&mut self, w: &W) -> Poll<G::Output>
         ensures ended { is_some self.old.going ≡ true → is_none self.new.going ≡ is_ready result }
         ensures again { self.old.going ≡ None → (self.new.going ≡ None) × (is_ready result ≡ false) }

@@ -16,12 +16,15 @@ use std::sync::Wait;
 /// If it is dropped asleep, it leaves the sleepers of each level, and if it was notified in one, another
 /// sleeper of that level is woken in its place.
 ///
-/// Example: `uses::accepts`.
+/// Example: `uses::ticks_any_level`, and of an accept loop `uses::accepts`.
 ///
 /// ```text
-/// if executor.tick().ok()?.poll(&Nobody) == Poll::Pending {
-///     break;
-/// }
+/// let executor: Levels<R> = PriorityExecutor::new(rt.clone()?, alloc)?;
+/// let mut tick = executor.tick()?;
+/// let asleep = tick.poll(&NoopWaker);
+/// executor.spawn(1, Ready::new(7))?.detach();
+/// // [Pending, Ready(())]
+/// Ok([asleep, tick.poll(&NoopWaker)])
 /// ```
 #[derive(Drop)]
 pub struct PriorityTick<'a, F, W, R, const N: usize>
@@ -56,13 +59,7 @@ where
     /// there may be a task in one. If a task comes meanwhile, or a copy is refused, the waker itself is
     /// woken. One that was ready stays so, and does nothing more.
     ///
-    /// Example: `uses::accepts`.
-    ///
-    /// ```text
-    /// if executor.tick().ok()?.poll(&Nobody) == Poll::Pending {
-    ///     break;
-    /// }
-    /// ```
+    /// Example: `uses::ticks_any_level`, at `PriorityTick`.
     fn poll(&mut self, w: &W) -> Poll<()>
         ensures ended { is_ready result ≡ is_none self.new.sleepers }
         ensures again { self.old.sleepers ≡ None → self.new.sleepers ≡ None }

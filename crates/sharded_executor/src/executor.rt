@@ -27,11 +27,19 @@ const UNUSED: usize = 512;
 ///
 /// It is `Send` and `Sync` as an `Executor` is. Its drop closes all shards. The Rust crate has no such type.
 ///
-/// Example: `uses::shards`.
+/// Example: `uses::spreads`, and on two threads `uses::shards`.
 ///
 /// ```text
-/// let executor = ShardedExecutor::new(rt.clone().ok()?, alloc, 2).ok()?;
-/// let one = executor.spawn(Sum::of(1, 2)).ok()?;
+/// let executor: ShardedExecutor<Ready<u64>, NoopWaker, R> = ShardedExecutor::new(
+///     rt.clone()?,
+///     alloc,
+///     2,
+/// )?;
+/// executor.spawn(Ready::new(1))?.detach();
+/// executor.spawn(Ready::new(2))?.detach();
+/// let (first, second) = (executor.shard(0).try_tick(), executor.shard(1).try_tick());
+/// // [true, true, true]
+/// Ok([first, second, executor.is_empty()])
 /// ```
 #[derive(Drop)]
 pub struct ShardedExecutor<F, W, R>
@@ -66,11 +74,7 @@ where
     ///
     /// `OutOfMemory` if memory for a shard is refused.
     ///
-    /// Example: `uses::shards`.
-    ///
-    /// ```text
-    /// let executor = ShardedExecutor::new(rt.clone().ok()?, alloc, 2).ok()?;
-    /// ```
+    /// Example: `uses::spreads`, at `ShardedExecutor`.
     pub fn new(rt: R, alloc: Global, count: usize) -> Result<Self, OutOfMemory>
         requires { 0 < count }
         ensures count { IfOk result (λ executor. vec_len executor.shards ≡ count) }
@@ -91,10 +95,6 @@ where
     /// `OutOfMemory`, if memory for a shard is refused.
     ///
     /// Example: `uses::empties_shards`.
-    ///
-    /// ```text
-    /// let executor: Sums<R> = ShardedExecutor::new_with(rt.clone().ok()?, alloc, 2, limits).ok()?;
-    /// ```
     pub fn new_with(rt: R, alloc: Global, count: usize, limits: Limits) -> Result<Self, NewError>
         requires { 0 < count }
         ensures count { IfOk result (λ executor. vec_len executor.shards ≡ count) }
@@ -127,11 +127,7 @@ where
     /// If memory is refused, or task numbers are exhausted, the future is given back and all is as
     /// before, but that it was the turn of that shard.
     ///
-    /// Example: `uses::shards`.
-    ///
-    /// ```text
-    /// let one = executor.spawn(Sum::of(1, 2)).ok()?;
-    /// ```
+    /// Example: `uses::spreads`, at `ShardedExecutor`.
     pub fn spawn(&self, future: F) -> Result<Task<F, W, R>, SpawnError<F>>
         ensures ok { IfOk result (λ task. task.inner.answered ≡ false) }
         ensures refused { IfErr result (λ e. refused_future e ≡ future) }
@@ -198,10 +194,6 @@ where
     /// How many shards there are.
     ///
     /// Example: `uses::shards`.
-    ///
-    /// ```text
-    /// if number < executor.shards() {
-    /// ```
     pub fn shards(&self) -> usize
         ensures count { result ≡ vec_len self.now.shards }
         ensures some { 0 < result }
@@ -212,11 +204,7 @@ where
     /// The shard of this number, for who keeps tasks together, or spawns from a thread that drives its
     /// run.
     ///
-    /// Example: `uses::empties_shards`.
-    ///
-    /// ```text
-    /// executor.shard(1).spawn(Sum::of(3, 4)).ok()?.detach();
-    /// ```
+    /// Example: `uses::spreads`, at `ShardedExecutor`.
     pub fn shard(&self, number: usize) -> &Executor<F, W, R>
         requires { number < vec_len self.now.shards }
     {
@@ -226,13 +214,7 @@ where
     /// Whether the future of every task was dropped: the shards are asked in order, each once, until one
     /// has a task. They are not asked all at one moment.
     ///
-    /// Example: `uses::empties_shards`.
-    ///
-    /// ```text
-    /// if executor.is_empty() || !executor.try_tick_any() {
-    ///     break;
-    /// }
-    /// ```
+    /// Example: `uses::spreads`, at `ShardedExecutor`.
     pub fn is_empty(&self) -> bool {
         self.shards.iter().all(|shard| shard.is_empty())
     }
@@ -241,12 +223,6 @@ where
     /// and says whether there was one. The shards are asked in order, each once.
     ///
     /// Example: `uses::empties_shards`.
-    ///
-    /// ```text
-    /// if executor.is_empty() || !executor.try_tick_any() {
-    ///     break;
-    /// }
-    /// ```
     pub fn try_tick_any(&self) -> bool {
         self.shards.iter().any(|shard| shard.try_tick_any())
     }
@@ -260,11 +236,7 @@ where
     /// If memory is refused, or runner numbers are exhausted, the future is given back and all is as
     /// before.
     ///
-    /// Example: `uses::shards`.
-    ///
-    /// ```text
-    /// return executor.run(number, stop.waiting().ok()?).ok();
-    /// ```
+    /// Example: `uses::runs_shards`, at `ShardedRun`.
     pub fn run<G: Future<W>>(
         &self,
         number: usize,

@@ -19,6 +19,9 @@
 //! That no notice is lost is the promise of each shard, since a run goes by its public calls: after the
 //! last of its places was taken, no queue of that shard had a task, and from then on whoever queues one
 //! there notifies a sleeper of that shard, if none was notified that has still to search.
+//!
+//! An example is the whole body of a caller of `uses/src`. There rt is the right to wait and alloc the
+//! allocator, as `main` hands them on.
 #![tactic(auto)]
 
 pub mod executor;

@@ -25,11 +25,16 @@ const TURNS: u32 = 4;
 /// If it is dropped asleep, it leaves the sleepers of every shard, and if it was notified in one, another
 /// sleeper of that shard is woken in its place.
 ///
-/// Example: `uses::shards`.
+/// Example: `uses::runs_shards`.
 ///
 /// ```text
-/// let (one, two) = worker(&executor, 0, &stop).zip(worker(&executor, 1, &stop))?;
-/// let is_first = scope.spawn(move || block_on(rt, alloc, one)).is_ok();
+/// let executor = ShardedExecutor::new(rt.clone()?, alloc, 2)?;
+/// let one = executor.spawn(Ready::new(1))?;
+/// let two = executor.spawn(Ready::new(2))?;
+/// let run = executor.run(0, Zip::new(one, two))?;
+/// let (first, second) = block_on(rt, alloc, run)?;
+/// // (1, 2)
+/// Ok((first?, second?))
 /// ```
 #[derive(Drop)]
 pub struct ShardedRun<'a, F, W, R, G>
@@ -190,11 +195,7 @@ where
     /// is refused, the waker itself is woken. A run that was ready wakes it and is pending, and does
     /// nothing more.
     ///
-    /// Example: `uses::shards`.
-    ///
-    /// ```text
-    /// let is_first = scope.spawn(move || block_on(rt, alloc, one)).is_ok();
-    /// ```
+    /// Example: `uses::runs_shards`, at `ShardedRun`.
     fn poll(&mut self, w: &W) -> Poll<G::Output>
         ensures ended { is_some self.old.going ≡ true → is_none self.new.going ≡ is_ready result }
         ensures again { self.old.going ≡ None → (self.new.going ≡ None) × (is_ready result ≡ false) }

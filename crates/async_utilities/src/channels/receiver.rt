@@ -12,12 +12,7 @@ use std::sync::{Arc, Wait};
 
 /// Why no message was received.
 ///
-/// Example: `uses::tries`.
-///
-/// ```text
-/// let message = first.try_receive().ok()?;
-/// let none = second.try_receive().err()?;
-/// ```
+/// Example: `uses::tries`, at `Unsent`.
 #[derive(Debug, Clone, Copy, PartialEq, Eq)]
 pub enum NoMessage {
     /// There is none yet.
@@ -29,10 +24,15 @@ pub enum NoMessage {
 /// Receives messages, in the order in which they were sent. A channel whose receivers are all dropped
 /// is closed: no message is taken any more.
 ///
-/// Example: `uses::sends_to_a_task`.
+/// Example: `uses::waits_for_a_message`, and in a task `uses::sends_to_a_task`.
 ///
 /// ```text
-/// type Arrivals<R> = Receiver<u32, ThreadWaker, TaskWaker<ThreadWaker, R>, R>;
+/// let right = rt.clone().ok()?;
+/// let (sender, mut receiver) = bounded::<u32, NoopWaker, NoopWaker, R>(right, alloc, 1).ok()?;
+/// let empty = receiver.poll_receive(&NoopWaker);
+/// sender.try_send(7).ok()?;
+/// // [Pending, Ready(Some(7))]
+/// Some([empty, receiver.poll_receive(&NoopWaker)])
 /// ```
 pub struct Receiver<T: Drop, S: Wake, V: Wake, R: Wait + Drop> {
     pub(crate) channel: Arc<Channel<T, S, V, R>>,
@@ -141,10 +141,6 @@ impl<T: Drop, S: Wake, V: Wake, R: Wait + Drop> Receiver<T, S, V, R> {
     /// What this receiver shares with the other ends.
     ///
     /// Example: `uses::closes_a_channel`.
-    ///
-    /// ```text
-    /// let left = receiver.channel().len();
-    /// ```
     pub fn channel(&self) -> &Channel<T, S, V, R>
         ensures { result.now ≡ arc_value self.now.channel }
     {
@@ -157,11 +153,7 @@ impl<T: Drop, S: Wake, V: Wake, R: Wait + Drop> Receiver<T, S, V, R> {
     ///
     /// `OutOfMemory` if memory for its place among those that wait is refused.
     ///
-    /// Example: `uses::tries`.
-    ///
-    /// ```text
-    /// let second = first.copy().ok()?;
-    /// ```
+    /// Example: `uses::tries`, at `Unsent`.
     pub fn copy(&self) -> Result<Receiver<T, S, V, R>, OutOfMemory>
         ensures same { IfOk result (λ copy. arc_value copy.channel ≡ arc_value self.now.channel) }
     {
@@ -179,12 +171,7 @@ impl<T: Drop, S: Wake, V: Wake, R: Wait + Drop> Receiver<T, S, V, R> {
     ///
     /// `NoMessage`.
     ///
-    /// Example: `uses::tries`.
-    ///
-    /// ```text
-    /// let message = first.try_receive().ok()?;
-    /// let none = second.try_receive().err()?;
-    /// ```
+    /// Example: `uses::tries`, at `Unsent`.
     pub fn try_receive(&self) -> Result<T, NoMessage> {
         self.channel.receive_from(&mut None)
     }
@@ -199,10 +186,6 @@ impl<T: Drop, S: Wake, V: Wake, R: Wait + Drop> Receiver<T, S, V, R> {
     /// `NoMessage`. `messages` is as it was then.
     ///
     /// Example: `uses::takes_many`.
-    ///
-    /// ```text
-    /// let count = receiver.try_receive_many(&mut messages, 3).ok()?;
-    /// ```
     pub fn try_receive_many(&self, messages: &mut Vec<T>, limit: usize) -> Result<usize, NoMessage>
         ensures count { IfOk result (λ n. (n ≤ limit) × (vec_len messages.new ≡ vec_len messages.old + n)) }
         ensures front { take (vec_len messages.old) messages.new.items ≡ messages.old.items }
@@ -219,13 +202,7 @@ impl<T: Drop, S: Wake, V: Wake, R: Wait + Drop> Receiver<T, S, V, R> {
     ///
     /// Who stops polling before it is ready drops the receiver, or polls a `Receive` and drops that.
     ///
-    /// Example: `uses::sends_to_a_task`.
-    ///
-    /// ```text
-    /// match self.arrivals.poll_receive(w) {
-    ///     Poll::Ready(None) => return Poll::Ready(self.total),
-    ///     Poll::Pending => return Poll::Pending,
-    /// ```
+    /// Example: `uses::waits_for_a_message`, at `Receiver`.
     pub fn poll_receive(&mut self, w: &V) -> Poll<Option<T>>
         ensures taken { IfReady result (λ message. OnSome message (self.new.place ≡ None)) }
         ensures same { arc_value self.new.channel ≡ arc_value self.old.channel }
@@ -236,11 +213,7 @@ impl<T: Drop, S: Wake, V: Wake, R: Wait + Drop> Receiver<T, S, V, R> {
     /// A future of the next message, or of None if there is none and the channel is closed. One receiver
     /// may have any number of them.
     ///
-    /// Example: `uses::take_jobs`, which `uses::answers_in_order` calls.
-    ///
-    /// ```text
-    /// let Some(job) = block_on(rt, alloc, jobs.receive()).ok()? else {
-    /// ```
+    /// Example: `uses::sends_and_receives`, at `bounded`.
     pub fn receive(&self) -> Receive<'_, T, S, V, R>
         ensures { (result.receiver.now ≡ self.now) × (result.place ≡ None) }
     {
@@ -272,11 +245,7 @@ impl<T: Drop, S: Wake, V: Wake, R: Wait + Drop> Drop for Receiver<T, S, V, R> {
 /// A future of the next message. Its drop takes none, and another receiver is told of the message that
 /// this one was told of.
 ///
-/// Example: `uses::take_jobs`, which `uses::answers_in_order` calls.
-///
-/// ```text
-/// let Some(job) = block_on(rt, alloc, jobs.receive()).ok()? else {
-/// ```
+/// Example: `uses::sends_and_receives`, at `bounded`.
 pub struct Receive<'a, T: Drop, S: Wake, V: Wake, R: Wait + Drop> {
     receiver: &'a Receiver<T, S, V, R>,
     place: Option<usize>,

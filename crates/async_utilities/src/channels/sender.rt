@@ -16,8 +16,15 @@ use std::sync::{Arc, Wait};
 /// Example: `uses::tries`.
 ///
 /// ```text
+/// let right = rt.clone().ok()?;
+/// let (sender, first) = bounded::<u32, ThreadWaker, ThreadWaker, R>(right, alloc, 1).ok()?;
+/// let second = first.copy().ok()?;
 /// sender.try_send(1).ok()?;
 /// let unsent = sender.try_send(2).err()?;
+/// let message = first.try_receive().ok()?;
+/// let none = second.try_receive().err()?;
+/// // (Full(2), 1, Empty)
+/// Some((unsent, message, none))
 /// ```
 #[derive(Debug, PartialEq, Eq, Drop)]
 pub enum Unsent<T> {
@@ -31,10 +38,17 @@ pub enum Unsent<T> {
 
 /// Sends messages. A channel whose senders are all dropped is closed: what is inside still comes out.
 ///
-/// Example: `uses::requests_tasks`.
+/// Example: `uses::waits_for_room`, and in a task `uses::requests_tasks`.
 ///
 /// ```text
-/// type Requests<R> = Sender<u32, TaskWaker<ThreadWaker, R>, ThreadWaker, R>;
+/// let right = rt.clone().ok()?;
+/// let (mut sender, receiver) = bounded::<u32, NoopWaker, NoopWaker, R>(right, alloc, 1).ok()?;
+/// sender.try_send(1).ok()?;
+/// let mut message = Some(2);
+/// let full = sender.poll_send(&NoopWaker, &mut message);
+/// receiver.try_receive().ok()?;
+/// // [Pending, Ready(Ok(()))]
+/// Some([full, sender.poll_send(&NoopWaker, &mut message)])
 /// ```
 pub struct Sender<T: Drop, S: Wake, V: Wake, R: Wait + Drop> {
     pub(crate) channel: Arc<Channel<T, S, V, R>>,
@@ -140,11 +154,7 @@ impl<T: Drop, S: Wake, V: Wake, R: Wait + Drop> Channel<T, S, V, R> {
 impl<T: Drop, S: Wake, V: Wake, R: Wait + Drop> Sender<T, S, V, R> {
     /// What this sender shares with the other ends.
     ///
-    /// Example: `uses::closes_a_channel`.
-    ///
-    /// ```text
-    /// sender.channel().close();
-    /// ```
+    /// Example: `uses::looks_inside`, at `Channel`.
     pub fn channel(&self) -> &Channel<T, S, V, R>
         ensures { result.now ≡ arc_value self.now.channel }
     {
@@ -158,10 +168,6 @@ impl<T: Drop, S: Wake, V: Wake, R: Wait + Drop> Sender<T, S, V, R> {
     /// `OutOfMemory` if memory for its place among those that wait is refused.
     ///
     /// Example: `uses::requests_tasks`.
-    ///
-    /// ```text
-    /// requests: requests.copy().ok()?,
-    /// ```
     pub fn copy(&self) -> Result<Sender<T, S, V, R>, OutOfMemory>
         ensures same { IfOk result (λ copy. arc_value copy.channel ≡ arc_value self.now.channel) }
     {
@@ -179,12 +185,7 @@ impl<T: Drop, S: Wake, V: Wake, R: Wait + Drop> Sender<T, S, V, R> {
     ///
     /// `Unsent`, with the message.
     ///
-    /// Example: `uses::tries`.
-    ///
-    /// ```text
-    /// sender.try_send(1).ok()?;
-    /// let unsent = sender.try_send(2).err()?;
-    /// ```
+    /// Example: `uses::tries`, at `Unsent`.
     pub fn try_send(&self, message: T) -> Result<(), Unsent<T>>
         ensures back { IfErr result (λ failed. unsent failed ≡ message) }
     {
@@ -199,13 +200,7 @@ impl<T: Drop, S: Wake, V: Wake, R: Wait + Drop> Sender<T, S, V, R> {
     ///
     /// Who stops polling before it is ready drops the sender, or polls a `Send` and drops that.
     ///
-    /// Example: `uses::requests_tasks`.
-    ///
-    /// ```text
-    /// let Poll::Ready(_) = self.requests.poll_send(w, &mut self.left) else {
-    ///     return Poll::Pending;
-    /// };
-    /// ```
+    /// Example: `uses::waits_for_room`, at `Sender`.
     pub fn poll_send(&mut self, w: &S, message: &mut Option<T>) -> Poll<Result<(), T>>
         ensures waits { result ≡ waits → message.new ≡ message.old }
         ensures taken { IfReady result (λ _. message.new ≡ None) }
@@ -218,11 +213,7 @@ impl<T: Drop, S: Wake, V: Wake, R: Wait + Drop> Sender<T, S, V, R> {
     /// A future that sends this message, or gives it back as `poll_send` does. One sender may have any
     /// number of them.
     ///
-    /// Example: `uses::send_below`, which `uses::sends_to_a_task` calls.
-    ///
-    /// ```text
-    /// block_on(rt, alloc, sender.send(number)).ok()?.ok()?;
-    /// ```
+    /// Example: `uses::sends_and_receives`, at `bounded`.
     pub fn send(&self, message: T) -> Send<'_, T, S, V, R>
         ensures message { result.message ≡ Some message }
         ensures same { (result.sender.now ≡ self.now) × (result.place ≡ None) }
@@ -256,10 +247,19 @@ impl<T: Drop, S: Wake, V: Wake, R: Wait + Drop> Drop for Sender<T, S, V, R> {
 /// A future that sends a message. Its drop leaves the message unsent, and another sender is told of
 /// the room that this one was told of.
 ///
-/// Example: `uses::send_below`, which `uses::sends_to_a_task` calls.
+/// Example: `uses::gives_up`.
 ///
 /// ```text
-/// block_on(rt, alloc, sender.send(number)).ok()?.ok()?;
+/// let right = rt.clone().ok()?;
+/// let (sender, _receiver) = bounded::<u32, NoopWaker, NoopWaker, R>(right, alloc, 1).ok()?;
+/// sender.try_send(1).ok()?;
+/// let mut send = sender.send(2);
+/// if send.poll(&NoopWaker) != Poll::Pending {
+///     return None;
+/// }
+/// // 2
+/// let message = send.into_message();
+/// message
 /// ```
 pub struct Send<'a, T: Drop, S: Wake, V: Wake, R: Wait + Drop> {
     sender: &'a Sender<T, S, V, R>,
@@ -270,11 +270,7 @@ pub struct Send<'a, T: Drop, S: Wake, V: Wake, R: Wait + Drop> {
 impl<T: Drop, S: Wake, V: Wake, R: Wait + Drop> Send<'_, T, S, V, R> {
     /// Gives the send up, and its message back. There is none if it was sent, or given back before.
     ///
-    /// Example: `uses::gives_up`.
-    ///
-    /// ```text
-    /// let message = send.into_message();
-    /// ```
+    /// Example: `uses::gives_up`, at `Send`.
     pub fn into_message(self) -> Option<T>
         ensures { result ≡ self.entry.message }
     {

@@ -20,6 +20,15 @@ use std::sync::{Arc, Mutex, MutexGuard, Wait};
 ///
 /// ```text
 /// let barrier: Barrier<ThreadWaker, R> = Barrier::new(rt.clone().ok()?, alloc, 2).ok()?;
+/// let other = barrier.copy().ok()?;
+/// let (here, there) = (barrier.wait().ok()?, other.wait().ok()?);
+/// let (one, two) = thread::join(
+///     rt,
+///     move || block_on(rt, alloc, here).ok(),
+///     move || block_on(rt, alloc, there).ok(),
+/// );
+/// // [false, true] or [true, false]
+/// Some([one?.is_leader(), two?.is_leader()])
 /// ```
 #[derive(Drop)]
 pub struct Barrier<W: Wake, R: Wait + Drop> {
@@ -34,11 +43,7 @@ pub(crate) struct Shared<W: Wake, R: Wait + Drop> {
 
 /// What one learns that waited at a barrier.
 ///
-/// Example: `uses::meets`.
-///
-/// ```text
-/// Some([one?.is_leader(), two?.is_leader()])
-/// ```
+/// Example: `uses::meets`, at `Barrier`.
 #[derive(Debug, Clone, Copy, PartialEq, Eq)]
 pub struct BarrierWaitResult {
     is_leader: bool,
@@ -47,11 +52,7 @@ pub struct BarrierWaitResult {
 impl BarrierWaitResult {
     /// Whether it was the last that came. One of each round was.
     ///
-    /// Example: `uses::meets`.
-    ///
-    /// ```text
-    /// Some([one?.is_leader(), two?.is_leader()])
-    /// ```
+    /// Example: `uses::meets`, at `Barrier`.
     pub fn is_leader(&self) -> bool
         ensures { result ≡ self.now.is_leader }
     {
@@ -141,11 +142,7 @@ impl<W: Wake, R: Wait + Drop> Barrier<W, R> {
     ///
     /// `OutOfMemory` if memory for it is refused.
     ///
-    /// Example: `uses::meets`.
-    ///
-    /// ```text
-    /// let barrier: Barrier<ThreadWaker, R> = Barrier::new(rt.clone().ok()?, alloc, 2).ok()?;
-    /// ```
+    /// Example: `uses::meets`, at `Barrier`.
     pub fn new(rt: R, alloc: Global, size: usize) -> Result<Barrier<W, R>, OutOfMemory>
         requires { 0 < size }
     {
@@ -162,11 +159,7 @@ impl<W: Wake, R: Wait + Drop> Barrier<W, R> {
     ///
     /// `OutOfMemory` if another holder cannot be counted.
     ///
-    /// Example: `uses::meets`.
-    ///
-    /// ```text
-    /// let other = barrier.copy().ok()?;
-    /// ```
+    /// Example: `uses::meets`, at `Barrier`.
     pub fn copy(&self) -> Result<Barrier<W, R>, OutOfMemory>
         ensures same { IfOk result (λ copy. arc_value copy.shared ≡ arc_value self.now.shared) }
     {
@@ -180,11 +173,7 @@ impl<W: Wake, R: Wait + Drop> Barrier<W, R> {
     ///
     /// `OutOfMemory` if another holder cannot be counted.
     ///
-    /// Example: `uses::meets`.
-    ///
-    /// ```text
-    /// let (here, there) = (barrier.wait().ok()?, other.wait().ok()?);
-    /// ```
+    /// Example: `uses::meets`, at `Barrier`.
     pub fn wait(&self) -> Result<BarrierWait<W, R>, OutOfMemory>
         ensures same { IfOk result (λ wait. arc_value wait.shared ≡ arc_value self.now.shared) }
         ensures open { IfOk result (λ wait. (wait.arrival ≡ None) × (wait.answer ≡ None)) }
@@ -203,11 +192,7 @@ impl<W: Wake, R: Wait + Drop> Barrier<W, R> {
 /// copy or a place among those who wait is refused, the waker itself is woken, and nothing more is kept.
 /// If it is dropped before its round is over, it has not come.
 ///
-/// Example: `uses::meets`.
-///
-/// ```text
-/// let (here, there) = (barrier.wait().ok()?, other.wait().ok()?);
-/// ```
+/// Example: `uses::meets`, at `Barrier`.
 pub struct BarrierWait<W: Wake, R: Wait + Drop> {
     shared: Arc<Shared<W, R>>,
     arrival: Option<Arrival>,

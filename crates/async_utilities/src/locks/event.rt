@@ -20,6 +20,17 @@ use std::sync::{Arc, Mutex, MutexGuard, Wait};
 ///
 /// ```text
 /// let event: Event<ThreadWaker, R> = Event::new(rt.clone().ok()?, alloc).ok()?;
+/// let other = event.copy().ok()?;
+/// let (first, second) = (event.listen().ok()?, event.listen().ok()?);
+/// let third = event.listen().ok()?;
+/// let one = other.notify(1);
+/// let more = other.notify_additional(1);
+/// let all = other.notify_all();
+/// block_on(rt, alloc, first).ok()?;
+/// block_on(rt, alloc, second).ok()?;
+/// block_on(rt, alloc, third).ok()?;
+/// // [1, 1, 1]
+/// Some([one, more, all])
 /// ```
 #[derive(Drop)]
 pub struct Event<W: Wake, R: Wait + Drop> {
@@ -60,11 +71,7 @@ impl<W: Wake, R: Wait + Drop> Event<W, R> {
     ///
     /// `OutOfMemory` if memory for it is refused.
     ///
-    /// Example: `uses::hears`.
-    ///
-    /// ```text
-    /// let event: Event<ThreadWaker, R> = Event::new(rt.clone().ok()?, alloc).ok()?;
-    /// ```
+    /// Example: `uses::hears`, at `Event`.
     pub fn new(rt: R, alloc: Global) -> Result<Event<W, R>, OutOfMemory> {
         let state = Mutex::new(State::new(alloc));
         match Arc::new(alloc, Shared { state, rt }) {
@@ -79,11 +86,7 @@ impl<W: Wake, R: Wait + Drop> Event<W, R> {
     ///
     /// `OutOfMemory` if another holder cannot be counted.
     ///
-    /// Example: `uses::hears`.
-    ///
-    /// ```text
-    /// let other = event.copy().ok()?;
-    /// ```
+    /// Example: `uses::hears`, at `Event`.
     pub fn copy(&self) -> Result<Event<W, R>, OutOfMemory>
         ensures same { IfOk result (λ copy. arc_value copy.shared ≡ arc_value self.now.shared) }
     {
@@ -98,11 +101,7 @@ impl<W: Wake, R: Wait + Drop> Event<W, R> {
     ///
     /// `OutOfMemory` if memory for the place is refused.
     ///
-    /// Example: `uses::hears`.
-    ///
-    /// ```text
-    /// let third = event.listen().ok()?;
-    /// ```
+    /// Example: `uses::hears`, at `Event`.
     pub fn listen(&self) -> Result<EventListener<W, R>, OutOfMemory>
         ensures same { IfOk result (λ listener. arc_value listener.shared ≡ arc_value self.now.shared) }
         ensures listens { IfOk result (λ listener. IsSome listener.place) }
@@ -119,11 +118,7 @@ impl<W: Wake, R: Wait + Drop> Event<W, R> {
     /// and did not come count too, so a second call does not tell further ones before the first came.
     /// Gives how many it told. No lock is held while one is woken.
     ///
-    /// Example: `uses::hears`.
-    ///
-    /// ```text
-    /// let one = other.notify(1);
-    /// ```
+    /// Example: `uses::hears`, at `Event`.
     pub fn notify(&self, count: usize) -> usize
         ensures { result ≤ count }
     {
@@ -132,11 +127,7 @@ impl<W: Wake, R: Wait + Drop> Event<W, R> {
 
     /// Tells so many more of those who listen, whoever was told before. Gives how many it told.
     ///
-    /// Example: `uses::hears`.
-    ///
-    /// ```text
-    /// let more = other.notify_additional(1);
-    /// ```
+    /// Example: `uses::hears`, at `Event`.
     pub fn notify_additional(&self, count: usize) -> usize
         ensures { result ≤ count }
     {
@@ -145,11 +136,7 @@ impl<W: Wake, R: Wait + Drop> Event<W, R> {
 
     /// Tells all who listen now. Gives how many it told.
     ///
-    /// Example: `uses::hears`.
-    ///
-    /// ```text
-    /// let all = other.notify_all();
-    /// ```
+    /// Example: `uses::hears`, at `Event`.
     pub fn notify_all(&self) -> usize {
         self.shared.tell(usize::MAX, false)
     }
@@ -159,11 +146,7 @@ impl<W: Wake, R: Wait + Drop> Event<W, R> {
 /// kept, and is woken as it is told. If the copy is refused, the waker itself is woken, and nothing more
 /// is kept. If it was told and is dropped before a poll answered so, the next one is told.
 ///
-/// Example: `uses::hears`.
-///
-/// ```text
-/// block_on(rt, alloc, first).ok()?;
-/// ```
+/// Example: `uses::hears`, at `Event`.
 pub struct EventListener<W: Wake, R: Wait + Drop> {
     shared: Arc<Shared<W, R>>,
     // None once it heard.

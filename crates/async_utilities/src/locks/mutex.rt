@@ -19,10 +19,17 @@ use std::sync::{self, Arc, Wait};
 /// back as the guard is dropped. Who waits for it gets it in the order in which it began to wait. W is
 /// the waker that waits, and R the right to wait for the lock.
 ///
-/// Example: `uses::takes_turns`.
+/// Example: `uses::locks`, and on two threads `uses::takes_turns`.
 ///
 /// ```text
-/// let mutex: Mutex<u64, ThreadWaker, R> = Mutex::new(rt.clone().ok()?, alloc, 0).ok()?;
+/// let mutex: Mutex<u64, ThreadWaker, R> = Mutex::new(rt.clone().ok()?, alloc, 1).ok()?;
+/// let mut guard = block_on(rt, alloc, mutex.lock().ok()?).ok()?;
+/// *guard = 7;
+/// let unavailable = mutex.try_lock().err()?;
+/// drop(guard);
+/// let guard = mutex.try_lock().ok()?;
+/// // (Taken, 7)
+/// Some((unavailable, *guard))
 /// ```
 #[derive(Drop)]
 pub struct Mutex<T: Drop, W: Wake, R: Wait + Drop> {
@@ -90,11 +97,7 @@ impl<T: Drop, W: Wake, R: Wait + Drop> Mutex<T, W, R> {
     ///
     /// `OutOfMemory` if memory for it is refused.
     ///
-    /// Example: `uses::takes_turns`.
-    ///
-    /// ```text
-    /// let mutex: Mutex<u64, ThreadWaker, R> = Mutex::new(rt.clone().ok()?, alloc, 0).ok()?;
-    /// ```
+    /// Example: `uses::locks`, at `Mutex`.
     pub fn new(rt: R, alloc: Global, value: T) -> Result<Mutex<T, W, R>, OutOfMemory> {
         let state = sync::Mutex::new(State::new(alloc, value));
         match Arc::new(alloc, Shared { state, rt }) {
@@ -110,10 +113,6 @@ impl<T: Drop, W: Wake, R: Wait + Drop> Mutex<T, W, R> {
     /// `OutOfMemory` if another holder cannot be counted.
     ///
     /// Example: `uses::takes_turns`.
-    ///
-    /// ```text
-    /// let other = mutex.copy().ok()?;
-    /// ```
     pub fn copy(&self) -> Result<Mutex<T, W, R>, OutOfMemory>
         ensures same { IfOk result (λ copy. arc_value copy.shared ≡ arc_value self.now.shared) }
     {
@@ -128,11 +127,7 @@ impl<T: Drop, W: Wake, R: Wait + Drop> Mutex<T, W, R> {
     /// `Unavailable::Taken` if a guard has it, or somebody waits; `Unavailable::OutOfMemory` if another
     /// holder cannot be counted.
     ///
-    /// Example: `uses::takes_turns`.
-    ///
-    /// ```text
-    /// let guard = mutex.try_lock().ok()?;
-    /// ```
+    /// Example: `uses::locks`, at `Mutex`.
     pub fn try_lock(&self) -> Result<MutexGuard<T, W, R>, Unavailable>
         ensures same { IfOk result (λ guard. arc_value guard.shared ≡ arc_value self.now.shared) }
     {
@@ -152,11 +147,7 @@ impl<T: Drop, W: Wake, R: Wait + Drop> Mutex<T, W, R> {
     ///
     /// `OutOfMemory` if another holder cannot be counted.
     ///
-    /// Example: `uses::takes_turns`.
-    ///
-    /// ```text
-    /// let mut guard = block_on(rt, alloc, mutex.lock().ok()?).ok()?;
-    /// ```
+    /// Example: `uses::locks`, at `Mutex`.
     pub fn lock(&self) -> Result<Lock<T, W, R>, OutOfMemory>
         ensures same { IfOk result (λ lock. IsHeld lock.shared (arc_value self.now.shared)) }
         ensures fresh { IfOk result (λ lock. lock.place ≡ None) }
@@ -171,12 +162,7 @@ impl<T: Drop, W: Wake, R: Wait + Drop> Mutex<T, W, R> {
 
 /// Holds the value of a mutex. Its drop puts the value back, and the first one that waits has its turn.
 ///
-/// Example: `uses::takes_turns`.
-///
-/// ```text
-/// *guard = guard.wrapping_add(1);
-/// drop(guard);
-/// ```
+/// Example: `uses::locks`, at `Mutex`.
 pub struct MutexGuard<T: Drop, W: Wake, R: Wait + Drop> {
     shared: Arc<Shared<T, W, R>>,
     value: T,
@@ -212,11 +198,7 @@ impl<T: Drop, W: Wake, R: Wait + Drop> Drop for MutexGuard<T, W, R> {
 /// refused, the waker itself is woken, and nothing more is kept. Its drop takes nothing, and the next one
 /// has its turn. Once it gave the value it is pending, and wakes nobody.
 ///
-/// Example: `uses::takes_turns`.
-///
-/// ```text
-/// let mut guard = block_on(rt, alloc, mutex.lock().ok()?).ok()?;
-/// ```
+/// Example: `uses::locks`, at `Mutex`.
 pub struct Lock<T: Drop, W: Wake, R: Wait + Drop> {
     // Moves into the guard.
     shared: Option<Arc<Shared<T, W, R>>>,

@@ -17,6 +17,14 @@ use std::sync::{Arc, OnceLock, Wait};
 ///
 /// ```text
 /// let cell: OnceCell<u64, ThreadWaker, R> = OnceCell::new(rt, alloc).ok()?;
+/// let was_set = cell.is_initialized();
+/// let is_own = block_on(rt, alloc, cell.get_or_init(Ready::new(1)).ok()?).ok()?;
+/// let other = cell.copy().ok()?;
+/// let back = other.set(2).err()?;
+/// block_on(rt, alloc, cell.wait().ok()?).ok()?;
+/// let value = *cell.get()?;
+/// // (1, [false, true], 2)
+/// Some((value, [was_set, is_own], back))
 /// ```
 #[derive(Drop)]
 pub struct OnceCell<T: Drop, W: Wake, R: Wait + Clone + Drop> {
@@ -60,11 +68,7 @@ impl<T: Drop, W: Wake, R: Wait + Clone + Drop> OnceCell<T, W, R> {
     ///
     /// `OutOfMemory` if memory for it is refused.
     ///
-    /// Example: `uses::makes_once`.
-    ///
-    /// ```text
-    /// let cell: OnceCell<u64, ThreadWaker, R> = OnceCell::new(rt, alloc).ok()?;
-    /// ```
+    /// Example: `uses::makes_once`, at `OnceCell`.
     pub fn new(rt: &R, alloc: Global) -> Result<OnceCell<T, W, R>, OutOfMemory> {
         let is_there = Signal::new(rt.clone()?, alloc)?;
         let makers = Semaphore::new(rt.clone()?, alloc, 1)?;
@@ -86,11 +90,7 @@ impl<T: Drop, W: Wake, R: Wait + Clone + Drop> OnceCell<T, W, R> {
     ///
     /// `OutOfMemory` if another holder cannot be counted.
     ///
-    /// Example: `uses::makes_once`.
-    ///
-    /// ```text
-    /// let other = cell.copy().ok()?;
-    /// ```
+    /// Example: `uses::makes_once`, at `OnceCell`.
     pub fn copy(&self) -> Result<OnceCell<T, W, R>, OutOfMemory>
         ensures same { IfOk result (λ copy. arc_value copy.shared ≡ arc_value self.now.shared) }
     {
@@ -100,22 +100,14 @@ impl<T: Drop, W: Wake, R: Wait + Clone + Drop> OnceCell<T, W, R> {
 
     /// The value, if there is one.
     ///
-    /// Example: `uses::makes_once`.
-    ///
-    /// ```text
-    /// let value = *cell.get()?;
-    /// ```
+    /// Example: `uses::makes_once`, at `OnceCell`.
     pub fn get(&self) -> Option<&T> {
         self.shared.value.get()
     }
 
     /// Whether there is a value.
     ///
-    /// Example: `uses::makes_once`.
-    ///
-    /// ```text
-    /// let was_set = cell.is_initialized();
-    /// ```
+    /// Example: `uses::makes_once`, at `OnceCell`.
     pub fn is_initialized(&self) -> bool {
         self.shared.is_set()
     }
@@ -126,11 +118,7 @@ impl<T: Drop, W: Wake, R: Wait + Clone + Drop> OnceCell<T, W, R> {
     ///
     /// The value, if there was one before, which stays.
     ///
-    /// Example: `uses::makes_once`.
-    ///
-    /// ```text
-    /// let back = other.set(2).err()?;
-    /// ```
+    /// Example: `uses::makes_once`, at `OnceCell`.
     pub fn set(&self, value: T) -> Result<(), T>
         ensures back { IfErr result (λ back. back ≡ value) }
     {
@@ -143,11 +131,7 @@ impl<T: Drop, W: Wake, R: Wait + Clone + Drop> OnceCell<T, W, R> {
     ///
     /// `OutOfMemory` if memory for its place is refused.
     ///
-    /// Example: `uses::makes_once`.
-    ///
-    /// ```text
-    /// block_on(rt, alloc, cell.wait().ok()?).ok()?;
-    /// ```
+    /// Example: `uses::makes_once`, at `OnceCell`.
     pub fn wait(&self) -> Result<Waiting<W, R>, OutOfMemory>
         ensures same { IfOk result
             (λ w. arc_value w.shared ≡ arc_value (arc_value self.now.shared).is_there.shared) }
@@ -162,11 +146,7 @@ impl<T: Drop, W: Wake, R: Wait + Clone + Drop> OnceCell<T, W, R> {
     ///
     /// The future, if another holder cannot be counted.
     ///
-    /// Example: `uses::makes_once`.
-    ///
-    /// ```text
-    /// let is_own = block_on(rt, alloc, cell.get_or_init(Ready::new(1)).ok()?).ok()?;
-    /// ```
+    /// Example: `uses::makes_once`, at `OnceCell`.
     pub fn get_or_init<G>(&self, future: G) -> Result<OnceInit<G, T, W, R>, AllocFailed<G>>
         ensures same { IfOk result (λ init. arc_value init.shared ≡ arc_value self.now.shared) }
         ensures future { IfOk result (λ init. IfSome init.making (λ m. m.future ≡ future)) }
@@ -214,11 +194,7 @@ impl<G, W: Wake, R: Wait + Drop> Making<G, W, R> {
 /// makes the value, it waits for its turn, and its future is not polled. Once it is ready, its future is
 /// dropped.
 ///
-/// Example: `uses::makes_once`.
-///
-/// ```text
-/// let is_own = block_on(rt, alloc, cell.get_or_init(Ready::new(1)).ok()?).ok()?;
-/// ```
+/// Example: `uses::makes_once`, at `OnceCell`.
 #[derive(Drop)]
 pub struct OnceInit<G, T: Drop, W: Wake, R: Wait + Clone + Drop> {
     // Goes before the cell.

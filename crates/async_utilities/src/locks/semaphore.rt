@@ -21,10 +21,17 @@ use std::sync::{Arc, Mutex, MutexGuard, Wait};
 /// it began to wait, however many it waits for: nobody who comes later takes them before. W is the waker
 /// that waits, and R the right to wait for the lock.
 ///
-/// Example: `uses::takes_permits`.
+/// Example: `uses::acquires`.
 ///
 /// ```text
-/// let semaphore: Semaphore<ThreadWaker, R> = Semaphore::new(rt.clone().ok()?, alloc, 2).ok()?;
+/// let right = rt.clone().ok()?;
+/// let semaphore: Semaphore<ThreadWaker, R> = Semaphore::new(right, alloc, 2).ok()?;
+/// let one = semaphore.try_acquire().ok()?;
+/// let left = semaphore.permits();
+/// drop(one);
+/// let _both = block_on(rt, alloc, semaphore.acquire_many(2).ok()?).ok()?;
+/// // [1, 0]
+/// Some([left, semaphore.permits()])
 /// ```
 #[derive(Drop)]
 pub struct Semaphore<W: Wake, R: Wait + Drop> {
@@ -40,10 +47,6 @@ pub(crate) struct Shared<W: Wake, R: Wait + Drop> {
 /// More permits than a `usize` counts would be there in all.
 ///
 /// Example: `uses::takes_permits`.
-///
-/// ```text
-/// let too_many = semaphore.add_permits(usize::MAX).err()?;
-/// ```
 #[derive(Debug, Clone, Copy, PartialEq, Eq)]
 pub struct TooManyPermits;
 
@@ -113,11 +116,7 @@ impl<W: Wake, R: Wait + Drop> Semaphore<W, R> {
     ///
     /// `OutOfMemory` if memory for it is refused.
     ///
-    /// Example: `uses::takes_permits`.
-    ///
-    /// ```text
-    /// let semaphore: Semaphore<ThreadWaker, R> = Semaphore::new(rt.clone().ok()?, alloc, 2).ok()?;
-    /// ```
+    /// Example: `uses::acquires`, at `Semaphore`.
     pub fn new(rt: R, alloc: Global, permits: usize) -> Result<Semaphore<W, R>, OutOfMemory> {
         let state = Mutex::new(State::new(alloc, permits));
         match Arc::new(alloc, Shared { state, rt }) {
@@ -133,10 +132,6 @@ impl<W: Wake, R: Wait + Drop> Semaphore<W, R> {
     /// `OutOfMemory` if another holder cannot be counted.
     ///
     /// Example: `uses::takes_permits`.
-    ///
-    /// ```text
-    /// let other = semaphore.copy().ok()?;
-    /// ```
     pub fn copy(&self) -> Result<Semaphore<W, R>, OutOfMemory>
         ensures same { IfOk result (λ copy. arc_value copy.shared ≡ arc_value self.now.shared) }
     {
@@ -146,11 +141,7 @@ impl<W: Wake, R: Wait + Drop> Semaphore<W, R> {
 
     /// How many permits nobody has.
     ///
-    /// Example: `uses::takes_permits`.
-    ///
-    /// ```text
-    /// let first = semaphore.permits();
-    /// ```
+    /// Example: `uses::acquires`, at `Semaphore`.
     pub fn permits(&self) -> usize {
         self.shared.state().permits
     }
@@ -162,11 +153,7 @@ impl<W: Wake, R: Wait + Drop> Semaphore<W, R> {
     /// `Unavailable::Taken` if there is none, or somebody waits; `Unavailable::OutOfMemory` if another
     /// holder cannot be counted. Nothing is taken then.
     ///
-    /// Example: `uses::takes_permits`.
-    ///
-    /// ```text
-    /// let permit = semaphore.try_acquire().ok()?;
-    /// ```
+    /// Example: `uses::acquires`, at `Semaphore`.
     pub fn try_acquire(&self) -> Result<SemaphoreGuard<W, R>, Unavailable>
         ensures same { IfOk result (λ guard. arc_value guard.shared ≡ arc_value self.now.shared) }
         ensures one { IfOk result (λ guard. guard.permits ≡ 1) }
@@ -181,10 +168,6 @@ impl<W: Wake, R: Wait + Drop> Semaphore<W, R> {
     /// As `try_acquire`.
     ///
     /// Example: `uses::takes_permits`.
-    ///
-    /// ```text
-    /// let unavailable = semaphore.try_acquire_many(2).err()?;
-    /// ```
     pub fn try_acquire_many(&self, permits: usize) -> Result<SemaphoreGuard<W, R>, Unavailable>
         ensures same { IfOk result (λ guard. arc_value guard.shared ≡ arc_value self.now.shared) }
         ensures many { IfOk result (λ guard. guard.permits ≡ permits) }
@@ -205,10 +188,6 @@ impl<W: Wake, R: Wait + Drop> Semaphore<W, R> {
     /// `OutOfMemory` if another holder cannot be counted.
     ///
     /// Example: `uses::takes_permits`.
-    ///
-    /// ```text
-    /// let one = block_on(rt, alloc, semaphore.acquire().ok()?).ok()?;
-    /// ```
     pub fn acquire(&self) -> Result<Acquire<W, R>, OutOfMemory>
         ensures same { IfOk result (λ acquire. IsHeld acquire.shared (arc_value self.now.shared)) }
         ensures one { IfOk result (λ a. (a.permits ≡ 1) × (a.place ≡ None)) }
@@ -223,11 +202,7 @@ impl<W: Wake, R: Wait + Drop> Semaphore<W, R> {
     ///
     /// As `acquire`.
     ///
-    /// Example: `uses::takes_permits`.
-    ///
-    /// ```text
-    /// let both = block_on(rt, alloc, semaphore.acquire_many(2).ok()?).ok()?;
-    /// ```
+    /// Example: `uses::acquires`, at `Semaphore`.
     pub fn acquire_many(&self, permits: usize) -> Result<Acquire<W, R>, OutOfMemory>
         ensures same { IfOk result (λ acquire. IsHeld acquire.shared (arc_value self.now.shared)) }
         ensures many { IfOk result (λ a. (a.permits ≡ permits) × (a.place ≡ None)) }
@@ -247,10 +222,6 @@ impl<W: Wake, R: Wait + Drop> Semaphore<W, R> {
     /// `TooManyPermits` if there would be more in all than a `usize` counts. Nothing is added then.
     ///
     /// Example: `uses::takes_permits`.
-    ///
-    /// ```text
-    /// other.add_permits(1).ok()?;
-    /// ```
     pub fn add_permits(&self, permits: usize) -> Result<(), TooManyPermits> {
         if !self.shared.state().count(permits) {
             return Err(TooManyPermits);
@@ -262,12 +233,7 @@ impl<W: Wake, R: Wait + Drop> Semaphore<W, R> {
 
 /// Permits of a semaphore, which are given back by its drop. Those who wait get them first, in order.
 ///
-/// Example: `uses::takes_permits`.
-///
-/// ```text
-/// let permit = semaphore.try_acquire().ok()?;
-/// drop(permit);
-/// ```
+/// Example: `uses::acquires`, at `Semaphore`.
 pub struct SemaphoreGuard<W: Wake, R: Wait + Drop> {
     shared: Arc<Shared<W, R>>,
     permits: usize,
@@ -277,10 +243,6 @@ impl<W: Wake, R: Wait + Drop> SemaphoreGuard<W, R> {
     /// How many permits it has.
     ///
     /// Example: `uses::takes_permits`.
-    ///
-    /// ```text
-    /// let count = both.permits();
-    /// ```
     pub fn permits(&self) -> usize
         ensures { result ≡ self.now.permits }
     {
@@ -300,11 +262,7 @@ impl<W: Wake, R: Wait + Drop> Drop for SemaphoreGuard<W, R> {
 /// woken, and nothing more is kept. Its drop takes none, and gives back what it was given. Once it gave
 /// its permits it is pending, and wakes nobody.
 ///
-/// Example: `uses::takes_permits`.
-///
-/// ```text
-/// let one = block_on(rt, alloc, semaphore.acquire().ok()?).ok()?;
-/// ```
+/// Example: `uses::acquires`, at `Semaphore`.
 pub struct Acquire<W: Wake, R: Wait + Drop> {
     // Moves into the permits.
     shared: Option<Arc<Shared<W, R>>>,

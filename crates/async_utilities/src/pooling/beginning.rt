@@ -73,11 +73,7 @@ impl Beginning {
 
 /// A thread of a pool that has still to begin.
 ///
-/// Example: `uses::limits_a_pool`.
-///
-/// ```text
-/// thread.until_ready(self.executor.run(stopped)?)
-/// ```
+/// Example: `uses::drives_in_turns`, at `PoolOf`.
 #[derive(Drop)]
 pub struct PoolThread<'a, R: Wait> {
     pub(crate) rt: &'a R,
@@ -87,11 +83,7 @@ pub struct PoolThread<'a, R: Wait> {
 
 /// Says that a thread of a pool polled a future until it was ready. `PoolThread::until_ready` alone makes it.
 ///
-/// Example: `uses::limits_a_pool`.
-///
-/// ```text
-/// ) -> Result<Done, PoolError>
-/// ```
+/// Example: `uses::drives_in_turns`, at `PoolOf`.
 #[derive(Drop)]
 pub struct Done(());
 
@@ -103,11 +95,7 @@ impl<R: Wait> PoolThread<'_, R> {
     ///
     /// `OutOfMemory` if memory for the thread's waker is refused. The future was not polled then.
     ///
-    /// Example: `uses::limits_a_pool`.
-    ///
-    /// ```text
-    /// thread.until_ready(self.executor.run(stopped)?)
-    /// ```
+    /// Example: `uses::drives_in_turns`, at `PoolOf`.
     pub fn until_ready<G: Future<ThreadWaker>>(self, future: G) -> Result<Done, PoolError>
         ensures { IfErr result (λ error. error ≡ OutOfMemory) }
     {

@@ -13,11 +13,7 @@ use std::thread::{self, JoinHandle, Threads};
 
 /// An executor that the threads of a pool drive.
 ///
-/// Example: `uses::limits_a_pool`.
-///
-/// ```text
-/// impl<R: Wait + Clone + Drop> Driven<R> for Limited<R> {
-/// ```
+/// Example: `uses::drives_in_turns`, at `PoolOf`, of a `Limited`.
 pub trait Driven<R: Wait + Drop>: Drop {
     /// Runs its tasks on this thread, which is the one of this number, until that future is ready.
     ///
@@ -25,11 +21,7 @@ pub trait Driven<R: Wait + Drop>: Drop {
     ///
     /// `OutOfMemory` or `Exhausted` if the thread is refused what it needs. It has run no task then.
     ///
-    /// Example: `uses::limits_a_pool`.
-    ///
-    /// ```text
-    /// thread.until_ready(self.executor.run(stopped)?)
-    /// ```
+    /// Example: `uses::drives_in_turns`, at `PoolOf`, of a `Limited`.
     fn drive(
         &self,
         number: usize,
@@ -44,10 +36,22 @@ pub trait Driven<R: Wait + Drop>: Drop {
 ///
 /// Its drop tells the threads to stop, and waits for them. Then the executor is dropped.
 ///
-/// Example: `uses::limits_a_pool`.
+/// Example: `uses::drives_in_turns`.
 ///
 /// ```text
+/// let limits = Limits {
+///     turn: 8,
+///     ..Limits::default()
+/// };
+/// let executor = Executor::new_with(rt.clone()?, alloc, limits)?;
 /// let pool = PoolOf::new(rt.clone()?, alloc, 2, Limited { executor })?;
+/// let task = pool.executor().executor.spawn(Sum::of(3, 4))?;
+/// let sum = block_on(rt, alloc, task)??;
+/// for ended in pool.join() {
+///     ended?;
+/// }
+/// // 7
+/// Ok(sum)
 /// ```
 pub struct PoolOf<E, R>
 where
@@ -139,11 +143,7 @@ where
     ///
     /// `PoolError`. The threads that were started are stopped again and joined, and the executor is dropped.
     ///
-    /// Example: `uses::limits_a_pool`.
-    ///
-    /// ```text
-    /// let pool = PoolOf::new(rt.clone()?, alloc, 2, Limited { executor })?;
-    /// ```
+    /// Example: `uses::drives_in_turns`, at `PoolOf`.
     pub fn new(rt: R, alloc: Global, count: usize, executor: E) -> Result<PoolOf<E, R>, PoolError>
         ensures count { IfOk result (λ pool. vec_len pool.started.threads ≡ count) }
         ensures executor { IfOk result (λ pool. arc_value pool.executor ≡ executor) }
@@ -205,11 +205,7 @@ where
 
     /// The executor, to spawn tasks on.
     ///
-    /// Example: `uses::limits_a_pool`.
-    ///
-    /// ```text
-    /// pool.executor().executor.spawn_many(sums, &mut tasks)?;
-    /// ```
+    /// Example: `uses::drives_in_turns`, at `PoolOf`.
     pub fn executor(&self) -> &E
         ensures { result.now ≡ arc_value self.now.executor }
     {
@@ -219,11 +215,7 @@ where
     /// Tells the threads to stop, waits for them, and says what came of each, in the order in which they
     /// were started. Each began with all that it needs, so it is `Ok`.
     ///
-    /// Example: `uses::limits_a_pool`.
-    ///
-    /// ```text
-    /// for ended in pool.join() {
-    /// ```
+    /// Example: `uses::drives_in_turns`, at `PoolOf`.
     pub fn join(self) -> Vec<Result<(), PoolError>>
         ensures { vec_len result ≡ vec_len self.started.threads }
     {

@@ -21,12 +21,19 @@ use std::time::Duration;
 /// It is never ready if its time is 2^64 nanoseconds, some 584 years, after the start of the clock or
 /// later. It is pending then, and keeps and wakes nobody.
 ///
-/// Example: `uses::rest`, which `uses::rests` calls.
+/// Example: `uses::postpones`.
 ///
 /// ```text
-/// let mut after = timer.after(duration).ok()?;
-/// if let Poll::Ready(now) = after.poll(driver.waker()) {
-///     return Some(now);
+/// let timer: Timer<ThreadWaker, R, R> = Timer::new(
+///     rt.clone().ok()?,
+///     rt.clone().ok()?,
+///     alloc,
+/// ).ok()?;
+/// let before = Reading::now(rt).ok()?;
+/// let mut after = timer.at(before.checked_add(Duration::from_secs(60))?).ok()?;
+/// after.reset(before.checked_add(Duration::from_millis(PERIOD))?);
+/// let now = timer.block_on(after).ok()?;
+/// now.since_start().checked_sub(before.since_start())
 /// ```
 pub struct After<W: Wake, R: Wait + Drop> {
     shared: Arc<Shared<W, R>>,
@@ -59,11 +66,7 @@ impl<W: Wake, R: Wait + Drop> After<W, R> {
     /// Has it be ready at this time, in place of its own. What its last poll left there is woken at
     /// this one, also if it was woken before; or at once, if memory for that is refused.
     ///
-    /// Example: `uses::postpones`.
-    ///
-    /// ```text
-    /// after.reset(before.checked_add(Duration::from_millis(PERIOD))?);
-    /// ```
+    /// Example: `uses::postpones`, at `After`.
     pub fn reset(&mut self, time: Reading)
         ensures time { IsAt self.new.nanos (as_nanos time.since_start) }
         ensures same { arc_value self.new.shared ≡ arc_value self.old.shared }

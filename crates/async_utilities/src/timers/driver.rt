@@ -15,12 +15,6 @@ use std::time::{Clock, Duration};
 /// What came of a firing.
 ///
 /// Example: `uses::simulates`.
-///
-/// ```text
-/// let firing = driver.fire().ok()?;
-/// if firing.has_woken {
-///     continue;
-/// ```
 #[derive(Debug, Clone, Copy, PartialEq, Eq)]
 pub struct Firing {
     /// Whether a waker was woken. Who was woken may set a nearer deadline than the first one that is
@@ -40,8 +34,14 @@ pub struct Firing {
 ///
 /// ```text
 /// let driver = timer.driver().ok()?;
-/// if let Poll::Ready(now) = after.poll(driver.waker()) {
-/// driver.rest().ok()?;
+/// let mut after = timer.after(duration).ok()?;
+/// for _ in rt.forever() {
+///     if let Poll::Ready(now) = after.poll(driver.waker()) {
+///         return Some(now);
+///     }
+///     driver.rest().ok()?;
+/// }
+/// None
 /// ```
 pub struct Driver<'a, W: Wake, C: Clock + Drop, R: Wait + Drop> {
     timer: &'a Timer<W, C, R>,
@@ -66,11 +66,7 @@ impl<'a, W: Wake, C: Clock + Drop, R: Wait + Drop> Driver<'a, W, C, R> {
 
     /// The waker that is told. To wake it ends a rest.
     ///
-    /// Example: `uses::rest`, which `uses::rests` calls.
-    ///
-    /// ```text
-    /// if let Poll::Ready(now) = after.poll(driver.waker()) {
-    /// ```
+    /// Example: `uses::rest`, at `Driver`.
     pub fn waker(&self) -> &ThreadWaker {
         &self.waker
     }
@@ -83,10 +79,6 @@ impl<'a, W: Wake, C: Clock + Drop, R: Wait + Drop> Driver<'a, W, C, R> {
     /// That of the clock. Nobody is woken then.
     ///
     /// Example: `uses::simulates`.
-    ///
-    /// ```text
-    /// let firing = driver.fire().ok()?;
-    /// ```
     pub fn fire(&self) -> io::Result<Firing> {
         let now = Reading::now(&self.timer.clock)?;
         let (has_woken, next) = self.timer.shared.fire(now);
@@ -103,11 +95,7 @@ impl<'a, W: Wake, C: Clock + Drop, R: Wait + Drop> Driver<'a, W, C, R> {
     ///
     /// That of the clock. Nobody is woken then, and it does not park.
     ///
-    /// Example: `uses::rest`, which `uses::rests` calls.
-    ///
-    /// ```text
-    /// driver.rest().ok()?;
-    /// ```
+    /// Example: `uses::rest`, at `Driver`.
     pub fn rest(&self) -> io::Result<()> {
         let rt = &self.timer.shared.rt;
         match self.fire()?.left {
@@ -126,10 +114,6 @@ impl<'a, W: Wake, C: Clock + Drop, R: Wait + Drop> Driver<'a, W, C, R> {
     /// `TimerFailed` with the future, if the clock cannot be read.
     ///
     /// Example: `uses::beats`.
-    ///
-    /// ```text
-    /// driver.block_on(interval.next()).ok()?;
-    /// ```
     pub fn block_on<G: Future<ThreadWaker>>(&self, future: G) -> Result<G::Output, TimerFailed<G>>
         ensures clock { IfErr result (λ failed. is_clock failed.error ≡ true) }
     {

@@ -7,11 +7,7 @@ use thiserror::Error;
 
 /// Why a timer did not do what it was asked for.
 ///
-/// Example: `uses::times_out`, which lets it go.
-///
-/// ```text
-/// let timer = Timer::new(rt.clone().ok()?, rt.clone().ok()?, alloc).ok()?;
-/// ```
+/// Example: `uses::waits_a_while`, at `Timer`, where `?` makes an `io::Error` of it.
 #[derive(Debug, Clone, Copy, Error)]
 pub enum TimerError {
     /// Memory was refused.
@@ -42,11 +38,7 @@ impl From<io::Error> for TimerError {
 
 /// Why a timer did not do what it was asked for, with the future that it was handed.
 ///
-/// Example: `uses::times_out`, which lets it go.
-///
-/// ```text
-/// let wanted = timer.timeout(Duration::from_millis(10), Never::new()).ok()?;
-/// ```
+/// Example: `uses::waits_a_while`, at `Timer`, where `?` makes an `io::Error` of it.
 #[derive(Drop, Error)]
 #[error("{error}")]
 pub struct TimerFailed<G> {

@@ -15,11 +15,16 @@ use std::time::Duration;
 /// that it came at. So it does not drift: one that comes late is followed the sooner, at once if its
 /// time has passed, until it has caught up. With a period of no time it is ready at each poll.
 ///
-/// Example: `uses::beats`.
+/// Example: `uses::comes_twice`.
 ///
 /// ```text
-/// let mut interval = timer.interval_at(first, period).ok()?;
-/// driver.block_on(interval.next()).ok()?;
+/// let timer: Timer<ThreadWaker, R, R> = Timer::new(rt.clone()?, rt.clone()?, alloc)?;
+/// let before = Reading::now(rt)?;
+/// let mut interval = timer.interval(Duration::from_millis(2))?;
+/// timer.block_on(interval.next())?;
+/// let second = timer.block_on(interval.next())?;
+/// // Some(4ms), or more
+/// Ok(second.since_start().checked_sub(before.since_start()))
 /// ```
 #[derive(Drop)]
 pub struct Interval<W: Wake, R: Wait + Drop> {
@@ -40,10 +45,6 @@ impl<W: Wake, R: Wait + Drop> Interval<W, R> {
     /// it comes again.
     ///
     /// Example: `uses::repeats`.
-    ///
-    /// ```text
-    /// if let Poll::Ready(now) = interval.poll_next(driver.waker()) {
-    /// ```
     pub fn poll_next(&mut self, w: &W) -> Poll<Reading>
         ensures never_early { IfReady result (λ now. IsReached self.old.after.nanos (as_nanos now.since_start)) }
         ensures next { IfReady result (λ _. IsLater self.old.after.nanos (as_nanos self.old.period) self.new.after.nanos) }
@@ -59,11 +60,7 @@ impl<W: Wake, R: Wait + Drop> Interval<W, R> {
 
     /// A future of the next time that it comes.
     ///
-    /// Example: `uses::beats`.
-    ///
-    /// ```text
-    /// driver.block_on(interval.next()).ok()?;
-    /// ```
+    /// Example: `uses::comes_twice`, at `Interval`.
     pub fn next(&mut self) -> Next<'_, W, R> {
         Next { interval: self }
     }
@@ -72,11 +69,7 @@ impl<W: Wake, R: Wait + Drop> Interval<W, R> {
 /// Ready once its interval comes, with a time that the clock was read at by then. Polled again, it
 /// waits for the time after that.
 ///
-/// Example: `uses::beats`.
-///
-/// ```text
-/// driver.block_on(interval.next()).ok()?;
-/// ```
+/// Example: `uses::comes_twice`, at `Interval`.
 #[derive(Drop)]
 pub struct Next<'a, W: Wake, R: Wait + Drop> {
     interval: &'a mut Interval<W, R>,

@@ -8,11 +8,15 @@ use std::time::{Clock, Duration};
 /// A time that a clock was read at, or one so much later, counted from the clock's start, which is
 /// arbitrary. There is none but those that begin with what a clock gave.
 ///
-/// Example: `uses::rests`.
+/// Example: `uses::looks_ahead`.
 ///
 /// ```text
-/// let before = Reading::now(rt).ok()?;
-/// let nanos = long?.nanos().checked_sub(before.nanos())?;
+/// let now = Reading::now(clock)?;
+/// let Some(later) = now.checked_add(Duration::from_millis(2)) else {
+///     return Ok(None);
+/// };
+/// // Some(2ms)
+/// Ok(later.since_start().checked_sub(now.since_start()))
 /// ```
 #[derive(Clone, Copy, Debug, PartialEq, Eq)]
 pub struct Reading {
@@ -26,11 +30,7 @@ impl Reading {
     ///
     /// That of the clock.
     ///
-    /// Example: `uses::rests`.
-    ///
-    /// ```text
-    /// let before = Reading::now(rt).ok()?;
-    /// ```
+    /// Example: `uses::looks_ahead`, at `Reading`.
     pub fn now(clock: &impl Clock) -> io::Result<Reading> {
         Ok(Reading {
             since_start: clock.monotonic()?,
@@ -39,11 +39,7 @@ impl Reading {
 
     /// The time that is so much later, unless a `Duration` cannot count it.
     ///
-    /// Example: `uses::beats`.
-    ///
-    /// ```text
-    /// let first = Reading::now(rt).ok()?.checked_add(period)?;
-    /// ```
+    /// Example: `uses::looks_ahead`, at `Reading`.
     pub fn checked_add(self, duration: Duration) -> Option<Reading>
         ensures variant { IsSome result ↔ FitsDuration (as_nanos self.since_start + as_nanos duration) }
         ensures later { IfSome result (λ later. as_nanos later.since_start ≡ as_nanos self.since_start + as_nanos duration) }
@@ -55,12 +51,7 @@ impl Reading {
 
     /// The time since the start of the clock.
     ///
-    /// Example: `uses::passed`, which `uses::rests` calls.
-    ///
-    /// ```text
-    /// let now = Reading::now(clock).ok()?;
-    /// now.since_start().checked_sub(before.since_start())
-    /// ```
+    /// Example: `uses::looks_ahead`, at `Reading`.
     pub fn since_start(self) -> Duration
         ensures { result ≡ self.since_start }
     {
@@ -70,10 +61,6 @@ impl Reading {
     /// The same in nanoseconds.
     ///
     /// Example: `uses::rests`.
-    ///
-    /// ```text
-    /// let nanos = long?.nanos().checked_sub(before.nanos())?;
-    /// ```
     pub fn nanos(self) -> u128
         ensures nanos { result ≡ as_nanos self.since_start }
         ensures small { result < 2 ^ 64 * 1_000_000_000 }

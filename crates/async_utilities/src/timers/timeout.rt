@@ -15,11 +15,7 @@ use thiserror::Error;
 
 /// So much time has passed and a future was not ready. It has the future, which may be polled on.
 ///
-/// Example: `uses::times_out`.
-///
-/// ```text
-/// Some(answer.is_err())
-/// ```
+/// Example: `uses::is_too_late`, at `Timeout`.
 #[derive(Clone, Copy, PartialEq, Eq, Drop, Error)]
 #[error("timed out")]
 pub struct TimedOut<G> {
@@ -40,11 +36,13 @@ impl<G> Debug for TimedOut<G> {
 /// so at one poll, it is the output. It has let the future go then, is pending from then on, and wakes
 /// nobody.
 ///
-/// Example: `uses::times_out`.
+/// Example: `uses::is_too_late`.
 ///
 /// ```text
-/// let wanted = timer.timeout(Duration::from_millis(10), Never::new()).ok()?;
-/// let task = executor.spawn(wanted).ok()?;
+/// let timer: Timer<ThreadWaker, R, R> = Timer::new(rt.clone()?, rt.clone()?, alloc)?;
+/// let wanted = timer.timeout(Duration::from_millis(2), Never::<u64>::new())?;
+/// // true
+/// Ok(timer.block_on(wanted)?.is_err())
 /// ```
 #[derive(Drop)]
 pub struct Timeout<G, W: Wake, R: Wait + Drop> {
