@@ -1,8 +1,8 @@
 //! A signal that is set once, and that any number of futures await.
-ghost use Rattle.std.specs.Prelude.{◌≡◌, ◌+◌, ◌++◌, ◌∷◌, [], true, false, None, Some, IsSome, IsOk, IfOk, OnErr};
+ghost use Rattle.std.specs.Prelude.{◌≡◌, ◌+◌, [], true, false, None, Some, IsOk, IfOk, OnErr};
 ghost use Rattle.std.specs.Arc.{arc_value};
 ghost use Rattle.async_utilities.specs.Links.{without};
-ghost use Rattle.async_utilities.specs.WaitQueue.{Moves, Stays, WaitsAt, place_at, waker_of};
+ghost use Rattle.async_utilities.specs.WaitQueue.{Parts, Stays, place_at, waker_of};
 
 use crate::due::AllDue;
 use crate::wait_queue::WaitQueue;
@@ -44,7 +44,7 @@ pub(crate) struct State<W> {
 }
 
 impl<W: Drop> State<W> {
-    ghost use Rattle.async_utilities.specs.Signals.{Joins, Sets};
+    ghost use Rattle.async_utilities.specs.Signals.{Joins, Sets, Waits};
 
     // Nobody waits, and the signal is not set.
     fn new(alloc: Global) -> State<W>
@@ -72,9 +72,7 @@ impl<W: Drop> State<W> {
     // Has one wait at its place with this waker, and gives what is not kept: an earlier waker, or this
     // one if the signal is set.
     fn wait(&mut self, place: usize, waker: W) -> Option<W>
-        ensures open { self.old.is_set ≡ false → WaitsAt self.old.waiters place waker result self.new.waiters }
-        ensures set { self.old.is_set ≡ true → (self.new.waiters ≡ self.old.waiters) × (result ≡ Some waker) }
-        ensures stays { self.new.is_set ≡ self.old.is_set }
+        ensures { Waits self.old place waker result self.new }
     {
         if self.is_set {
             return Some(waker);
@@ -85,7 +83,7 @@ impl<W: Drop> State<W> {
     // Gives a place back, with the waker that was left there.
     fn leave(&mut self, place: usize) -> Option<W>
         ensures waker { result ≡ waker_of (place_at self.old.waiters place) }
-        ensures leaves { Moves self.old.waiters self.new.waiters place None (without place self.old.waiters.waiting) }
+        ensures leaves { Parts self.old.waiters place self.new.waiters }
         ensures stays { self.new.is_set ≡ self.old.is_set }
     {
         self.waiters.leave(place)
@@ -191,7 +189,7 @@ impl<W: Wake, R: Wait + Drop> Signal<W, R> {
     /// executor.run(stop.waiting().ok()?).ok()
     /// ```
     pub fn waiting(&self) -> Result<Waiting<W, R>, OutOfMemory>
-        ensures same { IfOk result (λ waiting. arc_value waiting.shared ≡ arc_value self.now.shared) }
+        ensures same { IfOk result (λ one. arc_value one.shared ≡ arc_value self.now.shared) }
     {
         let shared = Arc::try_clone(&self.shared)?;
         let place = shared.state().join()?;

@@ -2,7 +2,7 @@
 ghost use Rattle.std.specs.Prelude.{◌≡◌, None, Some, IfErr, IfOk};
 ghost use Rattle.std.specs.Arc.{arc_value};
 ghost use Rattle.async_utilities.specs.Unsent.{unsent};
-ghost use Rattle.async_utilities.specs.Polls.{IfReady};
+ghost use Rattle.async_utilities.specs.Polls.{GivesBack, IfReady};
 ghost use Rattle.executor_core.specs.declared.task.future.Poll.TheVariants.{Pending as waits};
 
 use crate::channels::Channel;
@@ -71,7 +71,7 @@ impl<T: Drop, S: Wake, V: Wake, R: Wait + Drop> Channel<T, S, V, R> {
     ) -> Poll<Result<(), T>>
         ensures waits { result ≡ waits → message.new ≡ message.old }
         ensures taken { IfReady result (λ _. message.new ≡ None) }
-        ensures back { IfReady result (λ answer. IfErr answer (λ failed. message.old ≡ Some failed)) }
+        ensures back { GivesBack result message.old }
     {
         let Some(first) = message.take() else {
             return Poll::Ready(Ok(()));
@@ -209,7 +209,7 @@ impl<T: Drop, S: Wake, V: Wake, R: Wait + Drop> Sender<T, S, V, R> {
     pub fn poll_send(&mut self, w: &S, message: &mut Option<T>) -> Poll<Result<(), T>>
         ensures waits { result ≡ waits → message.new ≡ message.old }
         ensures taken { IfReady result (λ _. message.new ≡ None) }
-        ensures back { IfReady result (λ answer. IfErr answer (λ failed. message.old ≡ Some failed)) }
+        ensures back { GivesBack result message.old }
         ensures same { arc_value self.new.channel ≡ arc_value self.old.channel }
     {
         self.channel.poll_send(w, message, &mut self.place)
@@ -289,7 +289,7 @@ impl<T: Drop, S: Wake, V: Wake, R: Wait + Drop> Future<S> for Send<'_, T, S, V, 
     fn poll(&mut self, w: &S) -> Poll<Result<(), T>>
         ensures waits { result ≡ waits → self.new.message ≡ self.old.message }
         ensures taken { IfReady result (λ _. self.new.message ≡ None) }
-        ensures back { IfReady result (λ answer. IfErr answer (λ failed. self.old.message ≡ Some failed)) }
+        ensures back { GivesBack result self.old.message }
         ensures same { self.new.sender.now ≡ self.old.sender.now }
     {
         self.sender

@@ -104,7 +104,7 @@ impl<W: Wake, R: Wait + Drop> Event<W, R> {
     /// let third = event.listen().ok()?;
     /// ```
     pub fn listen(&self) -> Result<EventListener<W, R>, OutOfMemory>
-        ensures same { IfOk result (λ listener. arc_value listener.shared ≡ arc_value self.now.shared) }
+        ensures same { IfOk result (λ one. arc_value one.shared ≡ arc_value self.now.shared) }
         ensures listens { IfOk result (λ listener. IsSome listener.place) }
     {
         let shared = Arc::try_clone(&self.shared)?;
