@@ -187,7 +187,15 @@ impl<T: Drop, S: Wake, V: Wake, R: Wait + Drop> Receiver<T, S, V, R> {
     /// let none = second.try_receive().err()?;
     /// ```
     pub fn try_receive(&self) -> Result<T, NoMessage> {
-        self.channel.receive_from(&mut None)
+        let received = self.channel.state().receive();
+        match received {
+            Received::Message(message, due) => {
+                due.wake();
+                Ok(message)
+            }
+            Received::Empty => Err(NoMessage::Empty),
+            Received::Closed => Err(NoMessage::Closed),
+        }
     }
 
     /// Takes so many messages at most, the first one first, and puts them behind those that `messages`

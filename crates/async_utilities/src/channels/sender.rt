@@ -188,7 +188,16 @@ impl<T: Drop, S: Wake, V: Wake, R: Wait + Drop> Sender<T, S, V, R> {
     pub fn try_send(&self, message: T) -> Result<(), Unsent<T>>
         ensures back { IfErr result (λ failed. unsent failed ≡ message) }
     {
-        self.channel.send_from(message, &mut None)
+        let sent = self.channel.state().send(message);
+        match sent {
+            Sent::Kept(due) => {
+                due.wake();
+                Ok(())
+            }
+            Sent::Full(unsent) => Err(Unsent::Full(unsent)),
+            Sent::Closed(unsent) => Err(Unsent::Closed(unsent)),
+            Sent::Refused(unsent) => Err(Unsent::Refused(unsent)),
+        }
     }
 
     /// Sends the message that is there, once there is room, or gives it back if the channel is closed, or
