@@ -1,10 +1,12 @@
 //! A signal that is set once, and that any number of futures await.
-ghost use Rattle.std.specs.Prelude.{◌≡◌, ◌+◌, [], true, false, None, Some, IsOk, IfOk, OnErr};
+ghost use Rattle.std.specs.Prelude.{◌≡◌, ◌+◌, [], true, false, None, Some, IsOk, IsSome, IfOk, OnErr};
 ghost use Rattle.std.specs.Arc.{arc_value};
-ghost use Rattle.async_utilities.specs.Links.{without};
+ghost use Rattle.async_utilities.specs.Polls.{IfReady};
 ghost use Rattle.async_utilities.specs.WaitQueue.{Parts, Stays, place_at, waker_of};
+ghost use Rattle.executor_core.specs.declared.task.future.Poll.TheVariants.{Pending as waits, Ready as ready};
 
 use crate::due::AllDue;
+use crate::locked::locked;
 use crate::wait_queue::WaitQueue;
 use async_executor::{Future, OutOfMemory, Poll, Wake};
 use std::alloc::Global;
@@ -104,8 +106,9 @@ impl<W: Drop> State<W> {
 }
 
 impl<W: Wake, R: Wait + Drop> Shared<W, R> {
+    #[inline(always)]
     fn state(&self) -> MutexGuard<'_, State<W>> {
-        self.state.lock(&self.rt)
+        locked(&self.state, &self.rt)
     }
 }
 
@@ -190,9 +193,10 @@ impl<W: Wake, R: Wait + Drop> Signal<W, R> {
     /// ```
     pub fn waiting(&self) -> Result<Waiting<W, R>, OutOfMemory>
         ensures same { IfOk result (λ one. arc_value one.shared ≡ arc_value self.now.shared) }
+        ensures open { IfOk result (λ one. IsSome one.place) }
     {
         let shared = Arc::try_clone(&self.shared)?;
-        let place = shared.state().join()?;
+        let place = Some(shared.state().join()?);
         Ok(Waiting { shared, place })
     }
 }
@@ -209,17 +213,24 @@ impl<W: Wake, R: Wait + Drop> Signal<W, R> {
 /// ```
 pub struct Waiting<W: Wake, R: Wait + Drop> {
     shared: Arc<Shared<W, R>>,
-    place: usize,
+    // None once it was ready: no place is left then, and no lock is taken for it.
+    place: Option<usize>,
 }
 
 impl<W: Wake, R: Wait + Drop> Future<W> for Waiting<W, R> {
     type Output = ();
 
     fn poll(&mut self, w: &W) -> Poll<()>
-        ensures place { self.new.place ≡ self.old.place }
+        ensures waits { result ≡ waits → self.new.place ≡ self.old.place }
+        ensures ended { IfReady result (λ _. self.new.place ≡ None) }
+        ensures again { self.old.place ≡ None → result ≡ ready tt }
         ensures same { arc_value self.new.shared ≡ arc_value self.old.shared }
     {
+        let Some(place) = self.place else {
+            return Poll::Ready(());
+        };
         if self.shared.state().is_set {
+            self.place = None;
             return Poll::Ready(());
         }
         let Ok(copy) = w.copy() else {
@@ -227,11 +238,12 @@ impl<W: Wake, R: Wait + Drop> Future<W> for Waiting<W, R> {
             return Poll::Pending;
         };
         let mut state = self.shared.state();
-        let unused = state.wait(self.place, copy);
+        let unused = state.wait(place, copy);
         let is_set = state.is_set;
         drop(state);
         drop(unused);
         if is_set {
+            self.place = None;
             Poll::Ready(())
         } else {
             Poll::Pending
@@ -242,7 +254,9 @@ impl<W: Wake, R: Wait + Drop> Future<W> for Waiting<W, R> {
 impl<W: Wake, R: Wait + Drop> Drop for Waiting<W, R> {
     fn drop(self) {
         let Waiting { shared, place } = self;
-        let left = shared.state().leave(place);
-        drop(left);
+        if let Some(place) = place {
+            let left = shared.state().leave(place);
+            drop(left);
+        }
     }
 }

@@ -6,10 +6,11 @@ ghost use Rattle.async_utilities.specs.Polls.{GivesBack, IfReady};
 ghost use Rattle.executor_core.specs.declared.task.future.Poll.TheVariants.{Pending as waits};
 
 use crate::channels::Channel;
-use crate::channels::state::Sent;
+use crate::channels::state::{Sent, State};
+use crate::due::Due;
 use crate::wait_queue::keep;
 use async_executor::{Future, OutOfMemory, Poll, Wake};
-use std::sync::{Arc, Wait};
+use std::sync::{Arc, MutexGuard, Wait};
 
 /// Why a message was not sent, with the message.
 ///
@@ -44,16 +45,14 @@ pub struct Sender<T: Drop, S: Wake, V: Wake, R: Wait + Drop> {
 
 impl<T: Drop, S: Wake, V: Wake, R: Wait + Drop> Channel<T, S, V, R> {
     // Sends a message, if there is room. One that waited at this place does so no longer.
+    #[inline(always)]
     fn send_from(&self, message: T, place: &mut Option<usize>) -> Result<(), Unsent<T>>
         ensures back { IfErr result (λ failed. unsent failed ≡ message) }
     {
         let mut state = self.state();
         match state.send(message) {
             Sent::Kept(due) => {
-                let left = state.leave_senders(place.take());
-                drop(state);
-                due.wake();
-                left.end();
+                wake_after_send(state, place, due);
                 Ok(())
             }
             Sent::Full(message) => Err(Unsent::Full(message)),
@@ -113,10 +112,7 @@ impl<T: Drop, S: Wake, V: Wake, R: Wait + Drop> Channel<T, S, V, R> {
                 return Poll::Pending;
             }
             Sent::Kept(due) => {
-                let left = state.leave_senders(place.take());
-                drop(state);
-                due.wake();
-                left.end();
+                wake_after_send(state, place, due);
                 Ok(())
             }
             Sent::Closed(unsent) | Sent::Refused(unsent) => {
@@ -135,6 +131,28 @@ impl<T: Drop, S: Wake, V: Wake, R: Wait + Drop> Channel<T, S, V, R> {
             left.end();
         }
     }
+}
+
+// Gives the lock up once a message is in the channel, and wakes the receiver that is due. If the message
+// was that of one that waited at this place, it does so no longer.
+#[inline(always)]
+fn wake_after_send<T: Drop, S: Wake, V: Wake>(
+    state: MutexGuard<'_, State<T, S, V>>,
+    place: &mut Option<usize>,
+    due: Due<V>,
+)
+    ensures { place.new ≡ None }
+{
+    let mut state = state;
+    let Some(at) = place.take() else {
+        drop(state);
+        due.wake();
+        return;
+    };
+    let left = state.leave_senders(Some(at));
+    drop(state);
+    due.wake();
+    left.end();
 }
 
 impl<T: Drop, S: Wake, V: Wake, R: Wait + Drop> Sender<T, S, V, R> {
@@ -188,16 +206,7 @@ impl<T: Drop, S: Wake, V: Wake, R: Wait + Drop> Sender<T, S, V, R> {
     pub fn try_send(&self, message: T) -> Result<(), Unsent<T>>
         ensures back { IfErr result (λ failed. unsent failed ≡ message) }
     {
-        let sent = self.channel.state().send(message);
-        match sent {
-            Sent::Kept(due) => {
-                due.wake();
-                Ok(())
-            }
-            Sent::Full(unsent) => Err(Unsent::Full(unsent)),
-            Sent::Closed(unsent) => Err(Unsent::Closed(unsent)),
-            Sent::Refused(unsent) => Err(Unsent::Refused(unsent)),
-        }
+        self.channel.send_from(message, &mut None)
     }
 
     /// Sends the message that is there, once there is room, or gives it back if the channel is closed, or

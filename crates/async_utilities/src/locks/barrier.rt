@@ -7,6 +7,7 @@ ghost use Rattle.executor_core.specs.declared.task.future.Poll.TheVariants.{Pend
 
 pub(crate) mod state;
 
+use crate::locked::locked;
 use crate::locks::barrier::state::{Arrival, State};
 use crate::wait_queue::rounds::Told;
 use async_executor::{Future, OutOfMemory, Poll, Wake};
@@ -60,8 +61,9 @@ impl BarrierWaitResult {
 }
 
 impl<W: Wake, R: Wait + Drop> Shared<W, R> {
+    #[inline(always)]
     fn state(&self) -> MutexGuard<'_, State<W>> {
-        self.state.lock(&self.rt)
+        locked(&self.state, &self.rt)
     }
 
     // Wakes all of the rounds that are over, the first one first, each without the lock.
