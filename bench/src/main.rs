@@ -11,8 +11,12 @@
 pub mod awaiting;
 pub mod busy;
 pub mod closing;
+pub mod crossing;
 pub mod futures;
+pub mod jobs;
+pub mod locking;
 pub mod messaging;
+pub mod names;
 pub mod parking;
 pub mod priorities;
 pub mod rows;
@@ -54,7 +58,7 @@ fn main(rt: HostRuntime) -> io::Result<ExitCode> {
     }
     let operations = number_or(args.next(), SMALL);
     let runs = number_or(args.next(), RUNS);
-    let Some(row) = Row::from_name(name.as_str()) else {
+    let Some(row) = Row::from_name(alloc, name.as_str()) else {
         println!(rt; "no row {name}")?;
         return Ok(ExitCode::FAILURE);
     };
@@ -78,10 +82,7 @@ fn refused(rt: &impl Print, name: &str) -> io::Result<ExitCode> {
 }
 
 fn print_names(rt: &impl Print, alloc: Global) -> io::Result<ExitCode> {
-    for place in 0..usize::MAX {
-        let Some((name, _)) = Row::at(place) else {
-            break;
-        };
+    for (name, _) in names::all(alloc)? {
         println!(rt; "{name}")?;
     }
     for row in Busy::all(alloc)? {
@@ -94,10 +95,7 @@ fn print_counts<R: Wait + Clone + Drop + Send + Sync + Threads + Clock + Print>(
     rt: &R,
     alloc: Global,
 ) -> io::Result<ExitCode> {
-    for place in 0..usize::MAX {
-        let Some((name, row)) = Row::at(place) else {
-            break;
-        };
+    for (name, row) in names::all(alloc)? {
         let Some(ran) = row.small().run(rt, alloc, SMALL) else {
             return refused(rt, name);
         };

@@ -2,8 +2,12 @@
 use crate::awaiting::{spawn_all_await_run, spawn_await_run, spawn_many_run};
 use crate::busy::Busy;
 use crate::closing::{close_idle, close_queued, drop_idle};
+use crate::crossing::Crossing;
 use crate::futures::{IdleWaker, Large, Yields};
+use crate::jobs::job_try_tick;
+use crate::locking::Locking;
 use crate::messaging::Messaging;
+use crate::names;
 use crate::parking::{one_spawner, parked_yield, wake_latency};
 use crate::priorities::priority_try_tick;
 use crate::running::{ping_pong, run_yields, threads_spawn, threads_yield};
@@ -50,6 +54,8 @@ pub enum Row {
     WakeOneOf(usize),
     /// Spawn, detach and run a task, by a tick of its own.
     SpawnTick,
+    /// Hand in a job by a spawner, and run the task that a server has made of it.
+    JobTryTick,
     /// Run one task that wakes itself, by a tick for each of its polls.
     YieldTick,
     /// Put a tick to sleep, wake it by a spawn, and have it run the task.
@@ -108,6 +114,10 @@ pub enum Row {
     Sharded(Sharded),
     /// A row of a channel.
     Messaging(Messaging),
+    /// A row of a channel between threads.
+    Crossing(Crossing),
+    /// A row of a lock, or of a signal.
+    Locking(Locking),
 }
 
 /// A row of a local or static executor, of the shape of one of a shared executor, or that one.
@@ -124,181 +134,6 @@ pub enum Staying {
     AwaitedYieldRun,
     StaticLocalSpawnTryTick,
 }
-
-/// Each row whose tasks do not work, with its name on the command line.
-const ROWS: [(&str, Row); 105] = [
-    ("spawn_try_tick", Row::SpawnTryTick),
-    ("spawn_drain", Row::SpawnDrain),
-    ("yield_try_tick", Row::YieldTryTick),
-    ("empty_try_tick", Row::EmptyTryTick),
-    ("spawn_drop", Row::SpawnDrop),
-    ("spawn_cancel", Row::SpawnCancel),
-    ("poll_handle_pending", Row::PollHandlePending),
-    ("wake_idle", Row::WakeIdle),
-    ("idle_thousand", Row::WakeOneOf(1_000)),
-    ("idle_million", Row::WakeOneOf(1_000_000)),
-    ("spawn_tick", Row::SpawnTick),
-    ("yield_tick", Row::YieldTick),
-    ("sleep_wake", Row::SleepWake),
-    ("priority_try_tick", Row::PriorityTryTick),
-    ("yield_run", Row::YieldRun),
-    ("yield_beside_15_runs", Row::YieldBesideRuns(15)),
-    ("many_yield", Row::ThreadsYield(1)),
-    ("ping_pong", Row::PingPong),
-    ("idle_run_0", Row::IdleRun(0)),
-    ("idle_run_1", Row::IdleRun(1)),
-    ("idle_run_3", Row::IdleRun(3)),
-    ("idle_run_15", Row::IdleRun(15)),
-    ("spawn_await_run", Row::SpawnAwaitRun),
-    ("spawn_all_await_run", Row::SpawnAllAwaitRun),
-    ("spawn_many_run", Row::SpawnManyRun),
-    ("drop_idle", Row::DropIdle),
-    ("close_idle", Row::CloseIdle),
-    ("close_queued", Row::CloseQueued),
-    ("search_own", Row::SearchOwn),
-    ("search_steal", Row::SearchSteal),
-    ("search_empty_4", Row::SearchEmpty4),
-    ("spawn_try_tick_4k", Row::SpawnTryTick4k),
-    ("spawn_try_tick_4k_boxed", Row::SpawnTryTick4kBoxed),
-    ("threads_try_tick_1", Row::ThreadsTryTick(1)),
-    ("threads_try_tick_2", Row::ThreadsTryTick(2)),
-    ("threads_try_tick_4", Row::ThreadsTryTick(4)),
-    ("threads_yield_1", Row::ThreadsYield(1)),
-    ("threads_yield_2", Row::ThreadsYield(2)),
-    ("threads_yield_4", Row::ThreadsYield(4)),
-    ("threads_spawn_1", Row::ThreadsSpawn(1)),
-    ("threads_spawn_2", Row::ThreadsSpawn(2)),
-    ("threads_spawn_4", Row::ThreadsSpawn(4)),
-    ("parked_yield_1", Row::ParkedYield(1)),
-    ("parked_yield_2", Row::ParkedYield(2)),
-    ("parked_yield_4", Row::ParkedYield(4)),
-    ("one_spawner_1", Row::OneSpawner(1)),
-    ("one_spawner_3", Row::OneSpawner(3)),
-    ("one_spawner_4", Row::OneSpawner(4)),
-    ("wake_latency", Row::WakeLatency),
-    (
-        "local_spawn_try_tick",
-        Row::Staying(Staying::LocalSpawnTryTick),
-    ),
-    ("local_spawn_drain", Row::Staying(Staying::LocalSpawnDrain)),
-    (
-        "local_yield_try_tick",
-        Row::Staying(Staying::LocalYieldTryTick),
-    ),
-    ("local_yield_run", Row::Staying(Staying::LocalYieldRun(1))),
-    (
-        "local_many_yield",
-        Row::Staying(Staying::LocalYieldRun(1_000)),
-    ),
-    (
-        "static_spawn_try_tick",
-        Row::Staying(Staying::StaticSpawnTryTick),
-    ),
-    (
-        "static_spawn_drain",
-        Row::Staying(Staying::StaticSpawnDrain),
-    ),
-    ("static_yield_run", Row::Staying(Staying::StaticYieldRun)),
-    ("awaited_yield_run", Row::Staying(Staying::AwaitedYieldRun)),
-    (
-        "static_local_spawn_try_tick",
-        Row::Staying(Staying::StaticLocalSpawnTryTick),
-    ),
-    ("timer_set_10", Row::Times(Times::Set(10))),
-    ("timer_set_1000", Row::Times(Times::Set(1_000))),
-    ("timer_set_100000", Row::Times(Times::Set(100_000))),
-    ("timer_fire_10", Row::Times(Times::Fire(10))),
-    ("timer_fire_1000", Row::Times(Times::Fire(1_000))),
-    ("timer_fire_100000", Row::Times(Times::Fire(100_000))),
-    ("block_on_ready", Row::Times(Times::BlockOn)),
-    ("block_on_kept_ready", Row::Times(Times::BlockOnKept)),
-    ("sharded_yield_1", Row::Sharded(Sharded::Yield(1))),
-    ("sharded_yield_2", Row::Sharded(Sharded::Yield(2))),
-    ("sharded_yield_4", Row::Sharded(Sharded::Yield(4))),
-    ("sharded_spawn_1", Row::Sharded(Sharded::Spawn(1))),
-    ("sharded_spawn_2", Row::Sharded(Sharded::Spawn(2))),
-    ("sharded_spawn_4", Row::Sharded(Sharded::Spawn(4))),
-    ("sharded_parked_1", Row::Sharded(Sharded::Parked(1))),
-    ("sharded_parked_2", Row::Sharded(Sharded::Parked(2))),
-    ("sharded_parked_4", Row::Sharded(Sharded::Parked(4))),
-    (
-        "sharded_one_spawner_1",
-        Row::Sharded(Sharded::OneSpawner(1)),
-    ),
-    (
-        "sharded_one_spawner_2",
-        Row::Sharded(Sharded::OneSpawner(2)),
-    ),
-    (
-        "sharded_one_spawner_4",
-        Row::Sharded(Sharded::OneSpawner(4)),
-    ),
-    ("sharded_one_shard_1", Row::Sharded(Sharded::OneShard(1))),
-    ("sharded_one_shard_2", Row::Sharded(Sharded::OneShard(2))),
-    ("sharded_one_shard_4", Row::Sharded(Sharded::OneShard(4))),
-    (
-        "sharded_unbalanced_1us_1",
-        Row::Sharded(Sharded::Unbalanced(10, 1)),
-    ),
-    (
-        "sharded_unbalanced_1us_2",
-        Row::Sharded(Sharded::Unbalanced(10, 2)),
-    ),
-    (
-        "sharded_unbalanced_1us_4",
-        Row::Sharded(Sharded::Unbalanced(10, 4)),
-    ),
-    (
-        "sharded_unbalanced_3us_1",
-        Row::Sharded(Sharded::Unbalanced(30, 1)),
-    ),
-    (
-        "sharded_unbalanced_3us_2",
-        Row::Sharded(Sharded::Unbalanced(30, 2)),
-    ),
-    (
-        "sharded_unbalanced_3us_4",
-        Row::Sharded(Sharded::Unbalanced(30, 4)),
-    ),
-    (
-        "sharded_unbalanced_10us_1",
-        Row::Sharded(Sharded::Unbalanced(100, 1)),
-    ),
-    (
-        "sharded_unbalanced_10us_2",
-        Row::Sharded(Sharded::Unbalanced(100, 2)),
-    ),
-    (
-        "sharded_unbalanced_10us_4",
-        Row::Sharded(Sharded::Unbalanced(100, 4)),
-    ),
-    (
-        "sharded_wake_latency_1",
-        Row::Sharded(Sharded::WakeLatency(1)),
-    ),
-    (
-        "sharded_wake_latency_2",
-        Row::Sharded(Sharded::WakeLatency(2)),
-    ),
-    (
-        "sharded_wake_latency_4",
-        Row::Sharded(Sharded::WakeLatency(4)),
-    ),
-    ("sharded_cycle_1", Row::Sharded(Sharded::Cycle(1))),
-    ("sharded_cycle_4", Row::Sharded(Sharded::Cycle(4))),
-    ("sharded_cycle_16", Row::Sharded(Sharded::Cycle(16))),
-    ("sharded_cycle_64", Row::Sharded(Sharded::Cycle(64))),
-    ("channel_try", Row::Messaging(Messaging::TryPair(64))),
-    ("channel_round_trip", Row::Messaging(Messaging::RoundTrip)),
-    ("channel_flow_1", Row::Messaging(Messaging::Flow(1))),
-    ("channel_flow_64", Row::Messaging(Messaging::Flow(64))),
-    ("channel_waits_1", Row::Messaging(Messaging::Waits(1))),
-    ("channel_waits_100", Row::Messaging(Messaging::Waits(100))),
-    (
-        "channel_waits_10000",
-        Row::Messaging(Messaging::Waits(10_000)),
-    ),
-];
 
 impl Staying {
     fn run<R: Wait + Clone + Drop + Send + Sync>(
@@ -322,14 +157,9 @@ impl Staying {
 }
 
 impl Row {
-    /// The row at this place, and its name. Those of `Busy` have no place.
-    pub fn at(place: usize) -> Option<(&'static str, Row)> {
-        ROWS.get(place).copied()
-    }
-
-    /// The row of this name.
-    pub fn from_name(name: &str) -> Option<Row> {
-        for (known, row) in ROWS {
+    /// The row of this name. `None` if there is none, or memory was refused.
+    pub fn from_name(alloc: Global, name: &str) -> Option<Row> {
+        for (known, row) in names::all(alloc).ok()? {
             if known == name {
                 return Some(row);
             }
@@ -343,6 +173,7 @@ impl Row {
             Row::WakeOneOf(_) => Row::WakeOneOf(1_000),
             Row::Times(row) => Row::Times(row.small()),
             Row::Messaging(Messaging::Waits(_)) => Row::Messaging(Messaging::Waits(10)),
+            Row::Locking(Locking::SignalWaits(_)) => Row::Locking(Locking::SignalWaits(10)),
             row => row,
         }
     }
@@ -385,8 +216,11 @@ impl Row {
         match self {
             Row::Staying(row) => row.run(rt, alloc, operations),
             Row::Messaging(row) => row.run(rt, alloc, operations),
+            Row::Crossing(row) => row.run(rt, alloc, operations),
+            Row::Locking(row) => row.run(rt, alloc, operations),
             Row::WakeIdle => wake_idle(rt, alloc, operations),
             Row::SpawnTick => spawn_tick(rt, alloc, operations),
+            Row::JobTryTick => job_try_tick(rt, alloc, operations),
             Row::YieldTick => yield_tick(rt, alloc, operations),
             Row::SleepWake => sleep_wake(rt, alloc, operations),
             Row::PriorityTryTick => priority_try_tick(rt, alloc, operations),

@@ -1,5 +1,5 @@
 -- What each call under the lock of a barrier does.
-use Rattle.std.specs.Prelude.{ℕ, ◌≡◌, ◌<◌, ◌+◌, ◌-◌, ◌==◌, ◌%◌, ◌^◌, Bool, true, false, Option, None, Some, Result, Ok, Err, if◌then◌else◌, is_none}
+use Rattle.std.specs.Prelude.{ℕ, ◌≡◌, ◌<◌, ◌+◌, ◌-◌, ◌==◌, ◌%◌, ◌^◌, Bool, true, false, Option, None, Some, Result, Ok, Err, if◌then◌else◌, is_none, IsSome}
 use Rattle.async_utilities.specs.Links.{without}
 use Rattle.async_utilities.specs.Polls.{IfReady}
 use Rattle.async_utilities.specs.Rounds.{Comes, WaitsOn, waker_in_entry}
@@ -39,6 +39,10 @@ module _ {W : Type 0} where
       × (new.waiters.round ≡ old.waiters.round)
       × (waker ≡ waker_in_entry (waker_of (place_at old.waiters.waiters arrival.place)))
       × Moves old.waiters.waiters new.waiters.waiters arrival.place None (without arrival.place old.waiters.waiters.waiting)
+
+-- one that came has its place as before
+abbrev pub KeepsPlace : Option Arrival → Option Arrival → Type 0
+KeepsPlace old new = IsSome old → new ≡ old
 
 -- one that was answered is so again, and else the last that came is the leader
 abbrev pub Answers : Option BarrierWaitResult → Option Arrival → Poll BarrierWaitResult → Type 0

@@ -1,14 +1,16 @@
 -- The deadlines of a timer: a map in order of time, with the waker that was left at each.
-use Rattle.std.specs.Prelude.{◌≡◌, ◌≤◌, ℕ, Bool, true, false, Option, Some, None, List, [], ◌∷◌, nat_lt, nat_le, if◌then◌else◌}
+use Rattle.std.specs.Prelude.{◌≡◌, ◌≤◌, ℕ, Bool, true, false, Option, Some, None, List, [], ◌∷◌, nat_lt, nat_le, if◌then◌else◌, All, IfSome, ◌<◌, drop, slice_get}
 use Rattle.std.specs.Ordering.{nat_cmp, ordering_then}
-use Rattle.std.specs.BTreeMap.{BTreeMap, get}
+use Rattle.std.specs.BTreeMap.{BTreeMap, Updates, get, keys}
 use Rattle.std.specs.declared.cmp.Ordering.{Ordering}
+use Rattle.async_utilities.specs.Times.{time_of}
 use Rattle.async_utilities.specs.declared.due.Due.TheVariants.{One}
 use Rattle.async_utilities.specs.declared.timers.deadlines.Deadline.{Deadline}
 use Rattle.async_utilities.specs.declared.timers.deadlines.Fired.{Fired}
 use Rattle.async_utilities.specs.declared.timers.deadlines.Fired.TheVariants as fires
 use Rattle.async_utilities.specs.declared.timers.deadlines.News.{News}
 use Rattle.async_utilities.specs.declared.timers.deadlines.News.TheVariants.{Nearer, NoNearer}
+use Rattle.async_utilities.specs.declared.timers.reading.Reading.{Reading}
 
 -- the earlier one first, and of two at one time the one with the lower number
 abbrev pub by_time : Deadline → Deadline → Ordering
@@ -36,3 +38,21 @@ module _ {W : Type 0} where
   abbrev pub is_fired : Fired W → Bool
   is_fired (fires.One due) = true
   is_fired (fires.Rest next) = false
+
+  -- what is left of these
+  abbrev pub left_by : Fired W → List (Deadline × W) → List (Deadline × W)
+  left_by (fires.One due) entries = drop 1 entries
+  left_by (fires.Rest next) entries = entries
+
+  -- this waker is at the deadline from now on, and all else is as it was
+  abbrev pub IsLeft : BTreeMap Deadline W → BTreeMap Deadline W → Deadline → W → Type 0
+  IsLeft old new deadline waker = Updates by_time old new deadline (Some waker)
+
+  -- none comes before the first one
+  abbrev pub IsFirst : BTreeMap Deadline W → Type 0
+  IsFirst waiting =
+      IfSome (slice_get waiting.entries 0) (λ first. All (λ deadline. first.0.nanos ≤ deadline.nanos) (keys waiting))
+
+  -- each is after this time
+  abbrev pub AreAfter : Reading → BTreeMap Deadline W → Type 0
+  AreAfter now waiting = All (λ deadline. time_of now < deadline.nanos) (keys waiting)

@@ -1,5 +1,5 @@
--- Futures that are awaited in order, and the first of many.
-use Rattle.std.specs.Prelude.{◌≡◌, ℕ, ◌+◌, ◌-◌, ◌<◌, ◌++◌, List, length, take, drop}
+-- Futures that are awaited in order.
+use Rattle.std.specs.Prelude.{◌≡◌, ℕ, ◌+◌, ◌-◌, ◌++◌, List, length, take, drop}
 
 -- From so many futures left to so many: what was there of their outputs stays, and what came stands
 -- after it, one output for each future less.
@@ -11,7 +11,6 @@ Joins {T} outputs left outputs' left' = (came : List T) × (outputs' ≡ outputs
 abbrev pub Awaits : {G : Type 0} → List G → List G → Type 0
 Awaits left left' = take (length left' - 1) left' ≡ take (length left' - 1) left
 
--- The one at this place went, and those after it are as they were.
-abbrev pub IsFirstOf : {G : Type 0} → List G → ℕ → List G → Type 0
-IsFirstOf futures place others =
-    (place < length futures) × (length others + 1 ≡ length futures) × (drop place others ≡ drop (place + 1) futures)
+-- those behind this place are as they were
+abbrev pub SameBehind : {G : Type 0} → ℕ → List G → List G → Type 0
+SameBehind place old new = drop (place + 1) new ≡ drop (place + 1) old

@@ -5,6 +5,7 @@ pub mod Deadlines
 pub mod ErrorKinds
 pub mod Events
 pub mod Halves
+pub mod Joining
 pub mod Joins
 pub mod Links
 pub mod Mutexes

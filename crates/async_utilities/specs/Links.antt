@@ -46,6 +46,10 @@ previous_of chain at = if at == end then chain.last else (slice_index_or chain.l
 abbrev pub IsLink : Chain → ℕ → Type 0
 IsLink chain at = (at ≡ end) ⊎ (at < vec_len chain.links)
 
+-- each link leads where it did
+abbrev pub KeepsLinks : (Chain → ℕ → ℕ) → Chain → Chain → Type 0
+KeepsLinks leads old new = (at : ℕ) → IsLink old at → leads new at ≡ leads old at
+
 -- what leads from each place to another leads from this one to that, and from the others as before
 pub record Joins (old new : ℕ → ℕ) (from to : ℕ) : Type 0 where
   pub here : new from ≡ to

@@ -1,5 +1,5 @@
 -- What polls answer.
-use Rattle.std.specs.Prelude.{Option, Some, None}
+use Rattle.std.specs.Prelude.{◌≡◌, Option, Some, None, IfErr, IfSome, Result}
 use Rattle.executor_core.specs.declared.task.future.Poll.{Poll}
 use Rattle.executor_core.specs.declared.task.future.Poll.TheVariants.{Ready, Pending}
 
@@ -12,6 +12,18 @@ answer_of None = Pending
 abbrev pub IfReady : {T : Type 0} → Poll T → (T → Type 0) → Type 0
 IfReady (Ready output) P = P output
 IfReady Pending P = Unit {0}
+
+-- a fact of what a future has before and after a poll, unless it is over
+abbrev pub IfGoesOn : {S : Type 0} → Option S → Option S → (S → S → Type 0) → Type 0
+IfGoesOn old new P = IfSome old (λ before. IfSome new (λ after. P before after))
+
+-- an answer that is an error gives back what was there
+abbrev pub GivesBack : {A T : Type 0} → Poll (Result A T) → Option T → Type 0
+GivesBack polled was = IfReady polled (λ answer. IfErr answer (λ failed. was ≡ Some failed))
+
+-- the output is made of another one
+abbrev pub IsMade : {C A B : Type 0} → (C → A → B) → C → Poll B → Type 0
+IsMade {C} {A} {B} makes change polled = IfReady polled (λ made. (output : A) × (made ≡ makes change output))
 
 -- polls by wakers of the type W gave this output: each but the last was pending
 pub data Gives {S W T : Type 0} (step : S → W → Poll T → S → Type 0) : S → T → Type 0 where

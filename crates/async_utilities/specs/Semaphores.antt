@@ -2,8 +2,9 @@
 use Rattle.std.specs.Prelude.{ℕ, ◌≡◌, ◌+◌, ◌==◌, ◌||◌, ◌&&◌, ◌++◌, ◌∷◌, [], Option, None, Some, Result, Ok, Err, Bool, true, false, cond, is_none, nat_le}
 use Rattle.async_utilities.specs.Links.{without}
 use Rattle.async_utilities.specs.WaitQueue.{Moves, Stays, Waiters, first_waker, is_notified, place_at, waker_of}
-use Rattle.async_utilities.specs.Wishes.{Gives, waker_in_wish, wanted_by, with_more}
+use Rattle.async_utilities.specs.Wishes.{Gives, GivesAlso, waker_in_wish, wanted_by, with_more}
 use Rattle.async_utilities.specs.declared.due.Due.TheVariants.{Nobody}
+use Rattle.async_utilities.specs.declared.locks.semaphore.given.Given.{Given}
 use Rattle.async_utilities.specs.declared.locks.semaphore.given.Gone.{Gone}
 use Rattle.async_utilities.specs.declared.locks.semaphore.state.State.{State}
 use Rattle.async_utilities.specs.declared.locks.semaphore.wish.Wish.{Wish}
@@ -46,6 +47,10 @@ module _ {W : Type 0} where
       (is_due old place wanted ≡ false) × (new.permits ≡ old.permits) × (new.total ≡ old.total)
       × (kept.1 ≡ waker_in_wish (waker_of (place_at old.waiters kept.0)))
       × (waker_in_wish (waker_of (place_at new.waiters kept.0)) ≡ Some waker) × HasTurn old place wanted kept.0 new
+
+  -- so many permits more are given, of which the first one that waits has its share
+  abbrev pub GivesMore : State W → ℕ → Given W → State W → Type 0
+  GivesMore old more given new = GivesAlso old.permits more old.waiters given new.permits new.waiters
 
   -- one waits no longer, and what it has is given back
   abbrev pub Goes : State W → Option ℕ → ℕ → Gone W → State W → Type 0

@@ -146,6 +146,14 @@ module _ {W : Type 0} where
       (left.0 ≡ waker_of (place_at old place))
       × ((between : Waiters W) × Moves old between place None (without place old.waiting) × Notifies between there left.1 new)
 
+  -- one that was notified and goes leaves those who wait as they were
+  abbrev pub KeepsOrder : Waiters W → ℕ → Waiters W → Type 0
+  KeepsOrder old place new = is_notified (place_at old place) ≡ true → new.waiting ≡ old.waiting
+
+  -- one gives its place back
+  abbrev pub Parts : Waiters W → ℕ → Waiters W → Type 0
+  Parts old place new = Moves old new place None (without place old.waiting)
+
   -- how many more values fit, and can be linked
   abbrev pub room_of : Slab (Place W) → Order → ℕ
   room_of places order = if nat_le places.capacity order.limit then places.capacity - slab_len places else 0

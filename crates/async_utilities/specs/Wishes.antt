@@ -36,3 +36,7 @@ module _ {W : Type 0} where
 
   abbrev pub Gives : ℕ → Waiters (Wish W) → Given W → ℕ → Waiters (Wish W) → Type 0
   Gives there old given permits new = GivesTo (first_waker old) there old given permits new
+
+  -- beside those that are there so many more are given
+  abbrev pub GivesAlso : ℕ → ℕ → Waiters (Wish W) → Given W → ℕ → Waiters (Wish W) → Type 0
+  GivesAlso there more old given permits new = Gives (with_more there more) old given permits new

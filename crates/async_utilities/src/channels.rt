@@ -18,6 +18,7 @@ pub(crate) mod side;
 pub(crate) mod state;
 
 use crate::channels::state::State;
+use crate::locked::locked;
 use async_executor::{OutOfMemory, Wake};
 pub use receiver::{NoMessage, Receive, Receiver};
 pub use sender::{Send, Sender, Unsent};
@@ -140,8 +141,9 @@ fn ends_of<T: Drop, S: Wake, V: Wake, R: Wait + Drop>(
 }
 
 impl<T: Drop, S: Wake, V: Wake, R: Wait + Drop> Channel<T, S, V, R> {
+    #[inline(always)]
     pub(crate) fn state(&self) -> MutexGuard<'_, State<T, S, V>> {
-        self.state.lock(&self.rt)
+        locked(&self.state, &self.rt)
     }
 
     pub(crate) fn alloc(&self) -> Global {

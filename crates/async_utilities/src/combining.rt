@@ -4,9 +4,9 @@
 ghost use Rattle.std.specs.Prelude.{◌≡◌, ◌||◌, Some, None, true, false, not, is_none, IsSome, IfSome};
 ghost use Rattle.executor_core.specs.declared.task.future.Poll.TheVariants.{Pending as waits};
 ghost use Rattle.async_executor.specs.Answers.{is_ready};
-ghost use Rattle.async_utilities.specs.Polls.{IfReady};
-ghost use Rattle.async_utilities.specs.Halves.{Keeps, Gave, is_open};
-ghost use Rattle.async_utilities.specs.Stages.{is_second};
+ghost use Rattle.async_utilities.specs.Polls.{IfGoesOn, IsMade, IfReady};
+ghost use Rattle.async_utilities.specs.Halves.{GaveBoth, KeepBoth, Keeps, is_either_open, is_open};
+ghost use Rattle.async_utilities.specs.Stages.{StaysSecond};
 
 use async_executor::{Future, Poll};
 
@@ -94,7 +94,7 @@ impl<W, G: Future<W>, C: Change<G::Output>> Future<W> for Map<G, C> {
     fn poll(&mut self, w: &W) -> Poll<C::Output>
         ensures ended { IsSome self.old.inner → is_none self.new.inner ≡ is_ready result }
         ensures again { self.old.inner ≡ None → (result ≡ waits) × (self.new.inner ≡ None) }
-        ensures made { IfSome self.old.inner (λ inner. IfReady result (λ made. (output : G.Output) × (made ≡ C.makes inner.1 output))) }
+        ensures made { IfSome self.old.inner (λ inner. IsMade C.makes inner.1 result) }
     {
         let Some((future, _)) = &mut self.inner else {
             return Poll::Pending;
@@ -153,7 +153,7 @@ where
     fn poll(&mut self, w: &W) -> Poll<<C::Output as Future<W>>::Output>
         ensures ended { IsSome self.old.stage → is_none self.new.stage ≡ is_ready result }
         ensures again { self.old.stage ≡ None → (result ≡ waits) × (self.new.stage ≡ None) }
-        ensures second { IfSome self.old.stage (λ old. IfSome self.new.stage (λ new. is_second old ≡ true → is_second new ≡ true)) }
+        ensures second { IfGoesOn self.old.stage self.new.stage StaysSecond }
     {
         if let Some(Stage::First(first, _)) = &mut self.stage {
             let Poll::Ready(output) = first.poll(w) else {
@@ -247,9 +247,9 @@ impl<W, A: Future<W>, B: Future<W>> Future<W> for Zip<A, A::Output, B, B::Output
     fn poll(&mut self, w: &W) -> Poll<(A::Output, B::Output)>
         ensures ended { IsSome self.old.halves → is_none self.new.halves ≡ is_ready result }
         ensures again { self.old.halves ≡ None → (result ≡ waits) × (self.new.halves ≡ None) }
-        ensures outputs { IfSome self.old.halves (λ halves. IfReady result (λ outputs. Gave halves.0 outputs.0 × Gave halves.1 outputs.1)) }
-        ensures kept { IfSome self.old.halves (λ old. IfSome self.new.halves (λ new. Keeps old.0 new.0 × Keeps old.1 new.1)) }
-        ensures open { IfSome self.new.halves (λ halves. (is_open halves.0 || is_open halves.1) ≡ true) }
+        ensures outputs { IfSome self.old.halves (λ halves. IfReady result (GaveBoth halves)) }
+        ensures kept { IfGoesOn self.old.halves self.new.halves KeepBoth }
+        ensures open { IfSome self.new.halves (λ halves. is_either_open halves ≡ true) }
     {
         let Some((left, right)) = &mut self.halves else {
             return Poll::Pending;
@@ -341,7 +341,7 @@ fn poll_first_of<W, A: Future<W>, B: Future<W, Output = A::Output>>(
 pub struct Race<A, B> {
     both: Option<(A, B)>,
     // Turns and no random number: a program runs the same way each time.
-    is_right_first: bool,
+    starts_right: bool,
 }
 
 impl<A, B> Race<A, B> {
@@ -350,11 +350,11 @@ impl<A, B> Race<A, B> {
     /// Example: `uses::alternates`, at `Race`.
     pub fn new(left: A, right: B) -> Race<A, B>
         ensures both { result.both ≡ Some (left, right) }
-        ensures turn { result.is_right_first ≡ false }
+        ensures turn { result.starts_right ≡ false }
     {
         Race {
             both: Some((left, right)),
-            is_right_first: false,
+            starts_right: false,
         }
     }
 }
@@ -365,14 +365,14 @@ impl<W, A: Future<W>, B: Future<W, Output = A::Output>> Future<W> for Race<A, B>
     fn poll(&mut self, w: &W) -> Poll<A::Output>
         ensures ended { IsSome self.old.both → is_none self.new.both ≡ is_ready result }
         ensures again { self.old.both ≡ None → (result ≡ waits) × (self.new.both ≡ None) }
-        ensures turn { IsSome self.old.both → self.new.is_right_first ≡ not self.old.is_right_first }
+        ensures turn { IsSome self.old.both → self.new.starts_right ≡ not self.old.starts_right }
     {
         let Some((left, right)) = &mut self.both else {
             return Poll::Pending;
         };
-        let is_right_first = self.is_right_first;
-        self.is_right_first = !is_right_first;
-        let answer = if is_right_first {
+        let starts_right = self.starts_right;
+        self.starts_right = !starts_right;
+        let answer = if starts_right {
             poll_first_of(right, left, w)
         } else {
             poll_first_of(left, right, w)

@@ -1,9 +1,9 @@
 //! The outputs of many futures: of all, in order, or of the first that is ready.
-ghost use Rattle.std.specs.Prelude.{◌≡◌, ◌+◌, ◌-◌, ◌≤◌, ◌<◌, ◌==◌, [], None, Some, IsSome, IfSome, IfNone, IfOk, IfErr, reverse, drop, take, is_none, vec_len, vec_capacity};
+ghost use Rattle.std.specs.Prelude.{◌≡◌, ◌+◌, ◌-◌, ◌≤◌, ◌<◌, ◌==◌, None, Some, IsSome, IfSome, IfNone, IfOk, IfErr, reverse, drop, take, is_none, vec_len, vec_capacity};
 ghost use Rattle.executor_core.specs.declared.task.future.Poll.TheVariants.{Pending as waits};
 ghost use Rattle.async_executor.specs.Answers.{is_ready};
-ghost use Rattle.async_utilities.specs.Polls.{IfReady};
-ghost use Rattle.async_utilities.specs.Joins.{Awaits, IsFirstOf, Joins};
+ghost use Rattle.async_utilities.specs.Polls.{IfGoesOn, IfReady};
+ghost use Rattle.async_utilities.specs.Joins.{Awaits, SameBehind};
 
 use async_executor::{Future, Poll};
 use std::alloc::{AllocFailed, Global};
@@ -39,6 +39,8 @@ pub(crate) struct Joining<G, T> {
 }
 
 impl<G, T> JoinAll<G, T> {
+    ghost use Rattle.async_utilities.specs.Joining.{Begins};
+
     /// Awaits all of them.
     ///
     /// # Errors
@@ -47,7 +49,7 @@ impl<G, T> JoinAll<G, T> {
     ///
     /// Example: `uses::joins_three`, at `JoinAll`.
     pub fn new(alloc: Global, futures: Vec<G>) -> Result<JoinAll<G, T>, AllocFailed<Vec<G>>>
-        ensures ok { IfOk result (λ all. IfSome all.inner (λ inner. (inner.left.items ≡ reverse futures.items) × (inner.outputs.items ≡ []))) }
+        ensures ok { IfOk result (λ all. IfSome all.inner (λ inner. Begins futures.items inner)) }
         ensures begun { IfOk result (λ all. IsSome all.inner) }
         ensures refused { IfErr result (λ failed. failed.value ≡ futures) }
     {
@@ -63,11 +65,13 @@ impl<G, T> JoinAll<G, T> {
 }
 
 impl<G, T> Joining<G, T> {
+    ghost use Rattle.async_utilities.specs.Joining.{JoinsMore};
+
     // Polls in order until a future is pending. Whether none is.
     fn poll_in_order<W>(&mut self, w: &W) -> bool
     where
         G: Future<W, Output = T>,
-        ensures joined { Joins self.old.outputs.items (vec_len self.old.left) self.new.outputs.items (vec_len self.new.left) }
+        ensures joined { JoinsMore self.old self.new }
         ensures all { result ≡ (vec_len self.new.left == 0) }
         ensures order { Awaits self.old.left.items self.new.left.items }
     {
@@ -84,15 +88,17 @@ impl<G, T> Joining<G, T> {
 }
 
 impl<W, G: Future<W>> Future<W> for JoinAll<G, G::Output> {
+    ghost use Rattle.async_utilities.specs.Joining.{AwaitsMore, JoinsAll, JoinsMore};
+
     type Output = Vec<G::Output>;
 
     fn poll(&mut self, w: &W) -> Poll<Vec<G::Output>>
         ensures ended { IsSome self.old.inner → is_none self.new.inner ≡ is_ready result }
         ensures again { self.old.inner ≡ None → (result ≡ waits) × (self.new.inner ≡ None) }
-        ensures all { IfSome self.old.inner (λ inner. IfReady result (λ outputs. Joins inner.outputs.items (vec_len inner.left) outputs.items 0)) }
-        ensures kept { IfSome self.old.inner (λ old. IfSome self.new.inner (λ new. Joins old.outputs.items (vec_len old.left) new.outputs.items (vec_len new.left))) }
+        ensures all { IfSome self.old.inner (λ old. IfReady result (λ v. JoinsAll old v.items)) }
+        ensures kept { IfGoesOn self.old.inner self.new.inner JoinsMore }
         ensures left { IfSome self.new.inner (λ inner. 0 < vec_len inner.left) }
-        ensures order { IfSome self.old.inner (λ old. IfSome self.new.inner (λ new. Awaits old.left.items new.left.items)) }
+        ensures order { IfGoesOn self.old.inner self.new.inner AwaitsMore }
     {
         let Some(inner) = &mut self.inner else {
             return Poll::Pending;
@@ -163,7 +169,7 @@ impl<G> AnyOf<G> {
 fn poll_any<W, G: Future<W>>(futures: &mut Vec<G>, w: &W) -> Option<(usize, G::Output)>
     ensures all { vec_len futures.new ≡ vec_len futures.old }
     ensures place { IfSome result (λ first. first.0 < vec_len futures.old) }
-    ensures others { IfSome result (λ first. drop (first.0 + 1) futures.new.items ≡ drop (first.0 + 1) futures.old.items) }
+    ensures others { IfSome result (λ f. SameBehind f.0 futures.old.items futures.new.items) }
 {
     for place in 0..futures.len() {
         if let Poll::Ready(output) = futures[place].poll(w) {
@@ -174,13 +180,15 @@ fn poll_any<W, G: Future<W>>(futures: &mut Vec<G>, w: &W) -> Option<(usize, G::O
 }
 
 impl<W, G: Future<W>> Future<W> for AnyOf<G> {
+    ghost use Rattle.async_utilities.specs.Joining.{IsFirstOf};
+
     type Output = First<G, G::Output>;
 
     fn poll(&mut self, w: &W) -> Poll<First<G, G::Output>>
         ensures ended { IsSome self.old.futures → is_none self.new.futures ≡ is_ready result }
         ensures again { self.old.futures ≡ None → (result ≡ waits) × (self.new.futures ≡ None) }
-        ensures first { IfSome self.old.futures (λ futures. IfReady result (λ first. IsFirstOf futures.items first.place first.others.items)) }
-        ensures all { IfSome self.old.futures (λ old. IfSome self.new.futures (λ new. vec_len new ≡ vec_len old)) }
+        ensures first { IfSome self.old.futures (λ all. IfReady result (IsFirstOf all.items)) }
+        ensures all { IfGoesOn self.old.futures self.new.futures (λ a b. vec_len b ≡ vec_len a) }
     {
         let Some(futures) = &mut self.futures else {
             return Poll::Pending;

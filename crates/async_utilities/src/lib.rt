@@ -16,6 +16,7 @@ pub(crate) mod due;
 pub mod immediate;
 pub(crate) mod io_errors;
 pub mod joining;
+pub(crate) mod locked;
 pub mod locks;
 pub mod noop;
 pub mod pooling;

@@ -1,10 +1,12 @@
 //! A signal that is set once, and that any number of futures await.
-ghost use Rattle.std.specs.Prelude.{◌≡◌, ◌+◌, ◌++◌, ◌∷◌, [], true, false, None, Some, IsSome, IsOk, IfOk, OnErr};
+ghost use Rattle.std.specs.Prelude.{◌≡◌, ◌+◌, [], true, false, None, Some, IsOk, IsSome, IfOk, OnErr};
 ghost use Rattle.std.specs.Arc.{arc_value};
-ghost use Rattle.async_utilities.specs.Links.{without};
-ghost use Rattle.async_utilities.specs.WaitQueue.{Moves, Stays, WaitsAt, place_at, waker_of};
+ghost use Rattle.async_utilities.specs.Polls.{IfReady};
+ghost use Rattle.async_utilities.specs.WaitQueue.{Parts, Stays, place_at, waker_of};
+ghost use Rattle.executor_core.specs.declared.task.future.Poll.TheVariants.{Pending as waits, Ready as ready};
 
 use crate::due::AllDue;
+use crate::locked::locked;
 use crate::wait_queue::WaitQueue;
 use async_executor::{Future, OutOfMemory, Poll, Wake};
 use std::alloc::Global;
@@ -53,7 +55,7 @@ pub(crate) struct State<W> {
 }
 
 impl<W: Drop> State<W> {
-    ghost use Rattle.async_utilities.specs.Signals.{Joins, Sets};
+    ghost use Rattle.async_utilities.specs.Signals.{Joins, Sets, Waits};
 
     // Nobody waits, and the signal is not set.
     fn new(alloc: Global) -> State<W>
@@ -81,9 +83,7 @@ impl<W: Drop> State<W> {
     // Has one wait at its place with this waker, and gives what is not kept: an earlier waker, or this
     // one if the signal is set.
     fn wait(&mut self, place: usize, waker: W) -> Option<W>
-        ensures open { self.old.is_set ≡ false → WaitsAt self.old.waiters place waker result self.new.waiters }
-        ensures set { self.old.is_set ≡ true → (self.new.waiters ≡ self.old.waiters) × (result ≡ Some waker) }
-        ensures stays { self.new.is_set ≡ self.old.is_set }
+        ensures { Waits self.old place waker result self.new }
     {
         if self.is_set {
             return Some(waker);
@@ -94,7 +94,7 @@ impl<W: Drop> State<W> {
     // Gives a place back, with the waker that was left there.
     fn leave(&mut self, place: usize) -> Option<W>
         ensures waker { result ≡ waker_of (place_at self.old.waiters place) }
-        ensures leaves { Moves self.old.waiters self.new.waiters place None (without place self.old.waiters.waiting) }
+        ensures leaves { Parts self.old.waiters place self.new.waiters }
         ensures stays { self.new.is_set ≡ self.old.is_set }
     {
         self.waiters.leave(place)
@@ -115,8 +115,9 @@ impl<W: Drop> State<W> {
 }
 
 impl<W: Wake, R: Wait + Drop> Shared<W, R> {
+    #[inline(always)]
     fn state(&self) -> MutexGuard<'_, State<W>> {
-        self.state.lock(&self.rt)
+        locked(&self.state, &self.rt)
     }
 }
 
@@ -177,10 +178,11 @@ impl<W: Wake, R: Wait + Drop> Signal<W, R> {
     ///
     /// Example: `uses::tells`, at `Signal`.
     pub fn waiting(&self) -> Result<Waiting<W, R>, OutOfMemory>
-        ensures same { IfOk result (λ waiting. arc_value waiting.shared ≡ arc_value self.now.shared) }
+        ensures same { IfOk result (λ one. arc_value one.shared ≡ arc_value self.now.shared) }
+        ensures open { IfOk result (λ one. IsSome one.place) }
     {
         let shared = Arc::try_clone(&self.shared)?;
-        let place = shared.state().join()?;
+        let place = Some(shared.state().join()?);
         Ok(Waiting { shared, place })
     }
 }
@@ -192,17 +194,24 @@ impl<W: Wake, R: Wait + Drop> Signal<W, R> {
 /// Example: `uses::tells`, at `Signal`.
 pub struct Waiting<W: Wake, R: Wait + Drop> {
     shared: Arc<Shared<W, R>>,
-    place: usize,
+    // None once it was ready: no place is left then, and no lock is taken for it.
+    place: Option<usize>,
 }
 
 impl<W: Wake, R: Wait + Drop> Future<W> for Waiting<W, R> {
     type Output = ();
 
     fn poll(&mut self, w: &W) -> Poll<()>
-        ensures place { self.new.place ≡ self.old.place }
+        ensures waits { result ≡ waits → self.new.place ≡ self.old.place }
+        ensures ended { IfReady result (λ _. self.new.place ≡ None) }
+        ensures again { self.old.place ≡ None → result ≡ ready tt }
         ensures same { arc_value self.new.shared ≡ arc_value self.old.shared }
     {
+        let Some(place) = self.place else {
+            return Poll::Ready(());
+        };
         if self.shared.state().is_set {
+            self.place = None;
             return Poll::Ready(());
         }
         let Ok(copy) = w.copy() else {
@@ -210,11 +219,12 @@ impl<W: Wake, R: Wait + Drop> Future<W> for Waiting<W, R> {
             return Poll::Pending;
         };
         let mut state = self.shared.state();
-        let unused = state.wait(self.place, copy);
+        let unused = state.wait(place, copy);
         let is_set = state.is_set;
         drop(state);
         drop(unused);
         if is_set {
+            self.place = None;
             Poll::Ready(())
         } else {
             Poll::Pending
@@ -225,7 +235,9 @@ impl<W: Wake, R: Wait + Drop> Future<W> for Waiting<W, R> {
 impl<W: Wake, R: Wait + Drop> Drop for Waiting<W, R> {
     fn drop(self) {
         let Waiting { shared, place } = self;
-        let left = shared.state().leave(place);
-        drop(left);
+        if let Some(place) = place {
+            let left = shared.state().leave(place);
+            drop(left);
+        }
     }
 }

@@ -8,9 +8,8 @@
 //! late as whoever drives the timer is, and if nobody does, it never comes.
 ghost use Rattle.std.specs.Prelude.{◌≡◌, false, IsSome, IfSome, IfOk, IfErr};
 ghost use Rattle.std.specs.Arc.{arc_value};
-ghost use Rattle.std.specs.Duration.{as_nanos};
 ghost use Rattle.async_utilities.specs.TimerErrors.{is_clock};
-ghost use Rattle.async_utilities.specs.Times.{IsAt, IsNoSooner};
+ghost use Rattle.async_utilities.specs.Times.{IsAt, Lasts, time_of};
 
 pub(crate) mod after;
 pub(crate) mod deadlines;
@@ -98,7 +97,7 @@ impl<W: Wake, C: Clock + Drop, R: Wait + Drop> Timer<W, C, R> {
     ///
     /// Example: `uses::postpones`, at `After`.
     pub fn at(&self, time: Reading) -> Result<After<W, R>, OutOfMemory>
-        ensures time { IfOk result (λ after. IsAt after.nanos (as_nanos time.since_start)) }
+        ensures time { IfOk result (λ after. IsAt after.nanos (time_of time)) }
         ensures same { IfOk result (λ after. arc_value after.shared ≡ arc_value self.now.shared) }
     {
         After::new(&self.shared, time.nanos())
@@ -113,7 +112,7 @@ impl<W: Wake, C: Clock + Drop, R: Wait + Drop> Timer<W, C, R> {
     ///
     /// Example: `uses::waits_a_while`, at `Timer`.
     pub fn after(&self, duration: Duration) -> Result<After<W, R>, TimerError>
-        ensures long { IfOk result (λ after. IsNoSooner after.nanos (as_nanos duration)) }
+        ensures long { IfOk result (λ after. Lasts after.nanos duration) }
         ensures same { IfOk result (λ after. arc_value after.shared ≡ arc_value self.now.shared) }
     {
         let now = self.shared.latest(Reading::now(&self.clock)?);
@@ -129,7 +128,7 @@ impl<W: Wake, C: Clock + Drop, R: Wait + Drop> Timer<W, C, R> {
     ///
     /// Example: `uses::comes_twice`, at `Interval`.
     pub fn interval(&self, period: Duration) -> Result<Interval<W, R>, TimerError>
-        ensures first { IfOk result (λ interval. IsNoSooner interval.after.nanos (as_nanos period)) }
+        ensures first { IfOk result (λ made. Lasts made.after.nanos period) }
         ensures period { IfOk result (λ interval. interval.period ≡ period) }
     {
         Ok(Interval::new(self.after(period)?, period))
@@ -147,7 +146,7 @@ impl<W: Wake, C: Clock + Drop, R: Wait + Drop> Timer<W, C, R> {
         first: Reading,
         period: Duration,
     ) -> Result<Interval<W, R>, OutOfMemory>
-        ensures first { IfOk result (λ interval. IsAt interval.after.nanos (as_nanos first.since_start)) }
+        ensures first { IfOk result (λ made. IsAt made.after.nanos (time_of first)) }
         ensures period { IfOk result (λ interval. interval.period ≡ period) }
     {
         Ok(Interval::new(self.at(first)?, period))
@@ -168,7 +167,7 @@ impl<W: Wake, C: Clock + Drop, R: Wait + Drop> Timer<W, C, R> {
         future: G,
     ) -> Result<Timeout<G, W, R>, TimerFailed<G>>
         ensures ok { IfOk result (λ timeout. IfSome timeout.inner (λ inner. inner.0 ≡ future)) }
-        ensures long { IfOk result (λ timeout. IfSome timeout.inner (λ inner. IsNoSooner inner.1.nanos (as_nanos duration))) }
+        ensures long { IfOk result (λ made. IfSome made.inner (λ i. Lasts i.1.nanos duration)) }
         ensures begun { IfOk result (λ timeout. IsSome timeout.inner) }
         ensures refused { IfErr result (λ failed. failed.value ≡ future) }
     {
@@ -202,7 +201,7 @@ impl<W: Wake, C: Clock + Drop, R: Wait + Drop> Timer<W, C, R> {
     ///
     /// Example: `uses::waits_a_while`, at `Timer`.
     pub fn block_on<G: Future<ThreadWaker>>(&self, future: G) -> Result<G::Output, TimerFailed<G>>
-        ensures refused { IfErr result (λ failed. is_clock failed.error ≡ false → failed.value ≡ future) }
+        ensures refused { IfErr result (λ e. is_clock e.error ≡ false → e.value ≡ future) }
     {
         match self.driver() {
             Ok(driver) => driver.block_on(future),

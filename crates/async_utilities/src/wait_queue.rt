@@ -15,7 +15,7 @@
 //! but by another that came first.
 ghost use Rattle.std.specs.Prelude.{◌≡◌, ◌==◌, ◌+◌, ◌≤◌, ◌<◌, ◌-◌, ◌∷◌, ◌++◌, [], ℕ, None, Some, true, IfOk, IfErr, OnOk, OnErr, IsOk, IsSome, length, option_copied};
 ghost use Rattle.async_utilities.specs.Links.{without};
-ghost use Rattle.async_utilities.specs.WaitQueue.{Enters, IsServed, Leaves, Moves, Notifies, Stays, Steps, Takes, WaitsAt, first_due, first_waker, is_notified, place_at, waker_of};
+ghost use Rattle.async_utilities.specs.WaitQueue.{Enters, IsServed, KeepsOrder, Leaves, Moves, Notifies, Stays, Steps, Takes, WaitsAt, first_due, first_waker, is_notified, place_at, waker_of};
 
 pub(crate) mod links;
 pub(crate) mod rounds;
@@ -205,7 +205,7 @@ impl<W: Drop> WaitQueue<W> {
     pub(crate) fn leave(&mut self, place: usize) -> Option<W>
         ensures waker { result ≡ waker_of (place_at self.old place) }
         ensures leaves { Moves self.old self.new place None (without place self.old.waiting) }
-        ensures stays { is_notified (place_at self.old place) ≡ true → self.new.waiting ≡ self.old.waiting }
+        ensures stays { KeepsOrder self.old place self.new }
     {
         match self.places.try_remove(place) {
             Some(Place::Waiting(waker)) => {

@@ -4,11 +4,11 @@ ghost use Rattle.std.specs.Arc.{arc_value};
 ghost use Rattle.async_utilities.specs.Polls.{IfReady};
 
 use crate::channels::Channel;
-use crate::channels::state::{Batch, Received};
+use crate::channels::state::{Batch, Received, State};
 use crate::due::Due;
 use crate::wait_queue::keep;
 use async_executor::{Future, OutOfMemory, Poll, Wake};
-use std::sync::{Arc, Wait};
+use std::sync::{Arc, MutexGuard, Wait};
 
 /// Why no message was received.
 ///
@@ -42,6 +42,7 @@ pub struct Receiver<T: Drop, S: Wake, V: Wake, R: Wait + Drop> {
 
 impl<T: Drop, S: Wake, V: Wake, R: Wait + Drop> Channel<T, S, V, R> {
     // Takes the first message, if there is one. One that waited at this place does so no longer.
+    #[inline(always)]
     fn receive_from(&self, place: &mut Option<usize>) -> Result<T, NoMessage>
         ensures taken { OnOk result (place.new ≡ None) }
         ensures none { OnErr result (place.new ≡ place.old) }
@@ -49,10 +50,7 @@ impl<T: Drop, S: Wake, V: Wake, R: Wait + Drop> Channel<T, S, V, R> {
         let mut state = self.state();
         match state.receive() {
             Received::Message(message, due) => {
-                let left = state.leave_receivers(place.take());
-                drop(state);
-                due.wake();
-                left.end();
+                wake_after_receive(state, place, due);
                 Ok(message)
             }
             Received::Empty => Err(NoMessage::Empty),
@@ -63,7 +61,8 @@ impl<T: Drop, S: Wake, V: Wake, R: Wait + Drop> Channel<T, S, V, R> {
     // Takes so many messages at most, under one lock unless senders are to be woken between them.
     fn receive_many(&self, messages: &mut Vec<T>, most: usize) -> Result<usize, NoMessage>
         requires { vec_len messages.old + most ≤ vec_capacity messages.old }
-        ensures count { IfOk result (λ n. (n ≤ most) × (vec_len messages.new ≡ vec_len messages.old + n)) }
+        ensures most { IfOk result (λ n. n ≤ most) }
+        ensures count { IfOk result (λ n. vec_len messages.new ≡ vec_len messages.old + n) }
         ensures front { take (vec_len messages.old) messages.new.items ≡ messages.old.items }
         ensures none { OnErr result (messages.new.items ≡ messages.old.items) }
         ensures room { vec_capacity messages.new ≡ vec_capacity messages.old }
@@ -113,10 +112,7 @@ impl<T: Drop, S: Wake, V: Wake, R: Wait + Drop> Channel<T, S, V, R> {
                 return Poll::Pending;
             }
             Received::Message(message, due) => {
-                let left = state.leave_receivers(place.take());
-                drop(state);
-                due.wake();
-                left.end();
+                wake_after_receive(state, place, due);
                 Some(message)
             }
             Received::Closed => {
@@ -135,6 +131,28 @@ impl<T: Drop, S: Wake, V: Wake, R: Wait + Drop> Channel<T, S, V, R> {
             left.end();
         }
     }
+}
+
+// Gives the lock up once a message was taken, and wakes the sender that is due. If it went to one that
+// waited at this place, that does so no longer.
+#[inline(always)]
+fn wake_after_receive<T: Drop, S: Wake, V: Wake>(
+    state: MutexGuard<'_, State<T, S, V>>,
+    place: &mut Option<usize>,
+    due: Due<S>,
+)
+    ensures { place.new ≡ None }
+{
+    let mut state = state;
+    let Some(at) = place.take() else {
+        drop(state);
+        due.wake();
+        return;
+    };
+    let left = state.leave_receivers(Some(at));
+    drop(state);
+    due.wake();
+    left.end();
 }
 
 impl<T: Drop, S: Wake, V: Wake, R: Wait + Drop> Receiver<T, S, V, R> {
@@ -187,7 +205,8 @@ impl<T: Drop, S: Wake, V: Wake, R: Wait + Drop> Receiver<T, S, V, R> {
     ///
     /// Example: `uses::takes_many`.
     pub fn try_receive_many(&self, messages: &mut Vec<T>, limit: usize) -> Result<usize, NoMessage>
-        ensures count { IfOk result (λ n. (n ≤ limit) × (vec_len messages.new ≡ vec_len messages.old + n)) }
+        ensures limit { IfOk result (λ n. n ≤ limit) }
+        ensures count { IfOk result (λ n. vec_len messages.new ≡ vec_len messages.old + n) }
         ensures front { take (vec_len messages.old) messages.new.items ≡ messages.old.items }
         ensures none { OnErr result (messages.new.items ≡ messages.old.items) }
         ensures room { vec_capacity messages.new ≡ vec_capacity messages.old }

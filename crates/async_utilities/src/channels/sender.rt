@@ -2,14 +2,15 @@
 ghost use Rattle.std.specs.Prelude.{◌≡◌, None, Some, IfErr, IfOk};
 ghost use Rattle.std.specs.Arc.{arc_value};
 ghost use Rattle.async_utilities.specs.Unsent.{unsent};
-ghost use Rattle.async_utilities.specs.Polls.{IfReady};
+ghost use Rattle.async_utilities.specs.Polls.{GivesBack, IfReady};
 ghost use Rattle.executor_core.specs.declared.task.future.Poll.TheVariants.{Pending as waits};
 
 use crate::channels::Channel;
-use crate::channels::state::Sent;
+use crate::channels::state::{Sent, State};
+use crate::due::Due;
 use crate::wait_queue::keep;
 use async_executor::{Future, OutOfMemory, Poll, Wake};
-use std::sync::{Arc, Wait};
+use std::sync::{Arc, MutexGuard, Wait};
 
 /// Why a message was not sent, with the message.
 ///
@@ -58,16 +59,14 @@ pub struct Sender<T: Drop, S: Wake, V: Wake, R: Wait + Drop> {
 
 impl<T: Drop, S: Wake, V: Wake, R: Wait + Drop> Channel<T, S, V, R> {
     // Sends a message, if there is room. One that waited at this place does so no longer.
+    #[inline(always)]
     fn send_from(&self, message: T, place: &mut Option<usize>) -> Result<(), Unsent<T>>
         ensures back { IfErr result (λ failed. unsent failed ≡ message) }
     {
         let mut state = self.state();
         match state.send(message) {
             Sent::Kept(due) => {
-                let left = state.leave_senders(place.take());
-                drop(state);
-                due.wake();
-                left.end();
+                wake_after_send(state, place, due);
                 Ok(())
             }
             Sent::Full(message) => Err(Unsent::Full(message)),
@@ -85,7 +84,7 @@ impl<T: Drop, S: Wake, V: Wake, R: Wait + Drop> Channel<T, S, V, R> {
     ) -> Poll<Result<(), T>>
         ensures waits { result ≡ waits → message.new ≡ message.old }
         ensures taken { IfReady result (λ _. message.new ≡ None) }
-        ensures back { IfReady result (λ answer. IfErr answer (λ failed. message.old ≡ Some failed)) }
+        ensures back { GivesBack result message.old }
     {
         let Some(first) = message.take() else {
             return Poll::Ready(Ok(()));
@@ -127,10 +126,7 @@ impl<T: Drop, S: Wake, V: Wake, R: Wait + Drop> Channel<T, S, V, R> {
                 return Poll::Pending;
             }
             Sent::Kept(due) => {
-                let left = state.leave_senders(place.take());
-                drop(state);
-                due.wake();
-                left.end();
+                wake_after_send(state, place, due);
                 Ok(())
             }
             Sent::Closed(unsent) | Sent::Refused(unsent) => {
@@ -149,6 +145,28 @@ impl<T: Drop, S: Wake, V: Wake, R: Wait + Drop> Channel<T, S, V, R> {
             left.end();
         }
     }
+}
+
+// Gives the lock up once a message is in the channel, and wakes the receiver that is due. If the message
+// was that of one that waited at this place, it does so no longer.
+#[inline(always)]
+fn wake_after_send<T: Drop, S: Wake, V: Wake>(
+    state: MutexGuard<'_, State<T, S, V>>,
+    place: &mut Option<usize>,
+    due: Due<V>,
+)
+    ensures { place.new ≡ None }
+{
+    let mut state = state;
+    let Some(at) = place.take() else {
+        drop(state);
+        due.wake();
+        return;
+    };
+    let left = state.leave_senders(Some(at));
+    drop(state);
+    due.wake();
+    left.end();
 }
 
 impl<T: Drop, S: Wake, V: Wake, R: Wait + Drop> Sender<T, S, V, R> {
@@ -204,7 +222,7 @@ impl<T: Drop, S: Wake, V: Wake, R: Wait + Drop> Sender<T, S, V, R> {
     pub fn poll_send(&mut self, w: &S, message: &mut Option<T>) -> Poll<Result<(), T>>
         ensures waits { result ≡ waits → message.new ≡ message.old }
         ensures taken { IfReady result (λ _. message.new ≡ None) }
-        ensures back { IfReady result (λ answer. IfErr answer (λ failed. message.old ≡ Some failed)) }
+        ensures back { GivesBack result message.old }
         ensures same { arc_value self.new.channel ≡ arc_value self.old.channel }
     {
         self.channel.poll_send(w, message, &mut self.place)
@@ -285,7 +303,7 @@ impl<T: Drop, S: Wake, V: Wake, R: Wait + Drop> Future<S> for Send<'_, T, S, V, 
     fn poll(&mut self, w: &S) -> Poll<Result<(), T>>
         ensures waits { result ≡ waits → self.new.message ≡ self.old.message }
         ensures taken { IfReady result (λ _. self.new.message ≡ None) }
-        ensures back { IfReady result (λ answer. IfErr answer (λ failed. self.old.message ≡ Some failed)) }
+        ensures back { GivesBack result self.old.message }
         ensures same { self.new.sender.now ≡ self.old.sender.now }
     {
         self.sender

@@ -82,10 +82,12 @@ impl<T: Drop, S: Drop, V: Drop> State<T, S, V> {
     /// A channel with a sender and a receiver, that takes so many messages, and has memory for these
     /// from the first.
     pub(crate) fn new(alloc: Global, capacity: usize, reserved: usize) -> Result<Self, AllocError>
-        ensures messages { IfOk result (λ state. (state.messages.items ≡ []) × (state.capacity ≡ capacity)) }
+        ensures none { IfOk result (λ state. state.messages.items ≡ []) }
+        ensures capacity { IfOk result (λ state. state.capacity ≡ capacity) }
         ensures reserved { IfOk result (λ state. reserved ≤ deque_capacity state.messages) }
         ensures open { IfOk result (λ state. state.is_closed ≡ false) }
-        ensures ends { IfOk result (λ state. (state.senders.ends ≡ 1) × (state.receivers.ends ≡ 1)) }
+        ensures sender { IfOk result (λ state. state.senders.ends ≡ 1) }
+        ensures receiver { IfOk result (λ state. state.receivers.ends ≡ 1) }
     {
         Ok(State {
             messages: VecDeque::with_capacity(alloc, reserved)?,
@@ -129,15 +131,15 @@ impl<T: Drop, S: Drop, V: Drop> State<T, S, V> {
 
     /// Takes so many messages at most, the first one first, until there is none or a sender is to be
     /// woken, and puts them behind those of the list, which has room for all.
-    pub(crate) fn receive_many(&mut self, messages: &mut Vec<T>, most: usize) -> Batch<S>
-        requires { vec_len messages.old + most ≤ vec_capacity messages.old }
-        ensures taken { ReceivesMany self.old messages.old.items most result messages.new.items self.new }
-        ensures room { vec_capacity messages.new ≡ vec_capacity messages.old }
+    pub(crate) fn receive_many(&mut self, list: &mut Vec<T>, most: usize) -> Batch<S>
+        requires { vec_len list.old + most ≤ vec_capacity list.old }
+        ensures taken { ReceivesMany self.old list.old.items most result list.new.items self.new }
+        ensures room { vec_capacity list.new ≡ vec_capacity list.old }
     {
         for count in 0..most {
             let due = match self.receive() {
                 Received::Message(message, due) => {
-                    messages.push_reserved(message);
+                    list.push_reserved(message);
                     due
                 }
                 Received::Empty | Received::Closed => {

@@ -1,12 +1,13 @@
 //! A barrier, at which so many wait until the last of them has come, again and again.
-ghost use Rattle.std.specs.Prelude.{◌≡◌, ◌<◌, None, Some, IfOk, IsSome, true};
+ghost use Rattle.std.specs.Prelude.{◌≡◌, ◌<◌, None, Some, IfOk, true};
 ghost use Rattle.std.specs.Arc.{arc_value};
-ghost use Rattle.async_utilities.specs.Barriers.{Answers};
+ghost use Rattle.async_utilities.specs.Barriers.{Answers, KeepsPlace};
 ghost use Rattle.async_utilities.specs.Polls.{IfReady};
 ghost use Rattle.executor_core.specs.declared.task.future.Poll.TheVariants.{Pending as waits};
 
 pub(crate) mod state;
 
+use crate::locked::locked;
 use crate::locks::barrier::state::{Arrival, State};
 use crate::wait_queue::rounds::Told;
 use async_executor::{Future, OutOfMemory, Poll, Wake};
@@ -61,8 +62,9 @@ impl BarrierWaitResult {
 }
 
 impl<W: Wake, R: Wait + Drop> Shared<W, R> {
+    #[inline(always)]
     fn state(&self) -> MutexGuard<'_, State<W>> {
-        self.state.lock(&self.rt)
+        locked(&self.state, &self.rt)
     }
 
     // Wakes all of the rounds that are over, the first one first, each without the lock.
@@ -207,7 +209,7 @@ impl<W: Wake, R: Wait + Drop> Future<W> for BarrierWait<W, R> {
         ensures kept { IfReady result (λ answer. self.new.answer ≡ Some answer) }
         ensures left { IfReady result (λ _. self.old.answer ≡ None → self.new.arrival ≡ None) }
         ensures waits { result ≡ waits → self.new.answer ≡ None }
-        ensures came { result ≡ waits → IsSome self.old.arrival → self.new.arrival ≡ self.old.arrival }
+        ensures came { result ≡ waits → KeepsPlace self.old.arrival self.new.arrival }
         ensures same { arc_value self.new.shared ≡ arc_value self.old.shared }
     {
         if let Some(answer) = self.answer {

@@ -6,6 +6,7 @@ ghost use Rattle.executor_core.specs.declared.task.future.Poll.TheVariants.{Pend
 
 pub(crate) mod state;
 
+use crate::locked::locked;
 use crate::locks::event::state::State;
 use crate::wait_queue::rounds::Told;
 use async_executor::{Future, OutOfMemory, Poll, Wake};
@@ -44,8 +45,9 @@ pub(crate) struct Shared<W: Wake, R: Wait + Drop> {
 }
 
 impl<W: Wake, R: Wait + Drop> Shared<W, R> {
+    #[inline(always)]
     fn state(&self) -> MutexGuard<'_, State<W>> {
-        self.state.lock(&self.rt)
+        locked(&self.state, &self.rt)
     }
 
     // Tells so many of those who listen now, the first one first, each without the lock. Says how many.
@@ -103,7 +105,7 @@ impl<W: Wake, R: Wait + Drop> Event<W, R> {
     ///
     /// Example: `uses::hears`, at `Event`.
     pub fn listen(&self) -> Result<EventListener<W, R>, OutOfMemory>
-        ensures same { IfOk result (λ listener. arc_value listener.shared ≡ arc_value self.now.shared) }
+        ensures same { IfOk result (λ one. arc_value one.shared ≡ arc_value self.now.shared) }
         ensures listens { IfOk result (λ listener. IsSome listener.place) }
     {
         let shared = Arc::try_clone(&self.shared)?;

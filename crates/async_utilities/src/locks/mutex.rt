@@ -7,6 +7,7 @@ ghost use Rattle.executor_core.specs.declared.task.future.Poll.TheVariants.{Pend
 
 pub(crate) mod state;
 
+use crate::locked::locked;
 use crate::locks::Unavailable;
 use crate::locks::mutex::state::{GaveBack, State};
 use crate::wait_queue::keep;
@@ -43,8 +44,9 @@ pub(crate) struct Shared<T: Drop, W: Wake, R: Wait + Drop> {
 }
 
 impl<T: Drop, W: Wake, R: Wait + Drop> Shared<T, W, R> {
+    #[inline(always)]
     fn state(&self) -> sync::MutexGuard<'_, State<T, W>> {
-        self.state.lock(&self.rt)
+        locked(&self.state, &self.rt)
     }
 
     // Takes the value, or has one wait for it at this place.

@@ -9,6 +9,7 @@ pub(crate) mod given;
 pub(crate) mod state;
 pub(crate) mod wish;
 
+use crate::locked::locked;
 use crate::locks::Unavailable;
 use crate::locks::semaphore::given::{Given, Gone};
 use crate::locks::semaphore::state::State;
@@ -51,8 +52,9 @@ pub(crate) struct Shared<W: Wake, R: Wait + Drop> {
 pub struct TooManyPermits;
 
 impl<W: Wake, R: Wait + Drop> Shared<W, R> {
+    #[inline(always)]
     fn state(&self) -> MutexGuard<'_, State<W>> {
-        self.state.lock(&self.rt)
+        locked(&self.state, &self.rt)
     }
 
     // Gives so many permits, those who wait first, each without the lock.

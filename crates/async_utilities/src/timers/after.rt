@@ -3,7 +3,7 @@ ghost use Rattle.std.specs.Prelude.{◌≡◌, ◌≤◌, None, Some, IfOk, IfSo
 ghost use Rattle.std.specs.Arc.{arc_value};
 ghost use Rattle.std.specs.Duration.{as_nanos};
 ghost use Rattle.async_utilities.specs.Polls.{IfReady};
-ghost use Rattle.async_utilities.specs.Times.{IsAt, IsLater, IsReached};
+ghost use Rattle.async_utilities.specs.Times.{IsAt, IsLater, IsReached, time_of};
 
 use crate::due::wake_unless_kept;
 use crate::timers::deadlines::{Deadline, News};
@@ -165,7 +165,7 @@ impl<W: Wake, R: Wait + Drop> Future<W> for After<W, R> {
     type Output = Reading;
 
     fn poll(&mut self, w: &W) -> Poll<Reading>
-        ensures never_early { IfReady result (λ now. IsReached self.old.nanos (as_nanos now.since_start)) }
+        ensures never_early { IfReady result (λ now. IsReached self.old.nanos (time_of now)) }
         ensures time { self.new.nanos ≡ self.old.nanos }
         ensures same { arc_value self.new.shared ≡ arc_value self.old.shared }
     {

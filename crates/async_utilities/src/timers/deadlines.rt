@@ -1,8 +1,9 @@
 //! The deadlines of a timer, which stand under its lock.
-ghost use Rattle.std.specs.Prelude.{◌≡◌, ◌+◌, ◌<◌, ◌≤◌, ◌↔◌, max, All, Some, None, IsSome, IfSome, IfOk, IfErr, IsOk, drop, slice_get, false, if◌then◌else◌};
-ghost use Rattle.std.specs.Duration.{as_nanos};
-ghost use Rattle.std.specs.BTreeMap.{get, keys, Updates, ContainsKey, IsUnchanged, IsEmpty};
-ghost use Rattle.async_utilities.specs.Deadlines.{by_time, fired, is_fired, is_nearer, news_of, IsFresh};
+ghost use Rattle.std.specs.Prelude.{◌≡◌, ◌<◌, ◌≤◌, ◌↔◌, max, Some, None, IsSome, IfSome, IfOk, IfErr, OnErr, OnOk, IsOk, false};
+ghost use Rattle.std.specs.BTreeMap.{get, Updates, ContainsKey, IsUnchanged, IsEmpty};
+ghost use Rattle.async_utilities.specs.Deadlines.{AreAfter, IsFirst, IsFresh, IsLeft, by_time, fired};
+ghost use Rattle.async_utilities.specs.Deadlines.{is_fired, is_nearer, left_by, news_of};
+ghost use Rattle.async_utilities.specs.Times.{time_of};
 
 use crate::due::Due;
 use crate::timers::reading::Reading;
@@ -74,7 +75,7 @@ impl<W: Drop> Deadlines<W> {
 
     /// The clock was read at this time. A time before the latest one counts as that. Gives the latest.
     pub(crate) fn advance(&mut self, now: Reading) -> Reading
-        ensures latest { as_nanos self.new.latest.since_start ≡ max (as_nanos self.old.latest.since_start) (as_nanos now.since_start) }
+        ensures latest { time_of self.new.latest ≡ max (time_of self.old.latest) (time_of now) }
         ensures result { result ≡ self.new.latest }
         ensures waiting { self.new.waiting ≡ self.old.waiting }
     {
@@ -84,7 +85,7 @@ impl<W: Drop> Deadlines<W> {
 
     /// The latest time, if this one is reached.
     pub(crate) fn reached(&self, nanos: u64) -> Option<Reading>
-        ensures reached { IsSome result ↔ (nanos ≤ as_nanos self.now.latest.since_start) }
+        ensures reached { IsSome result ↔ (nanos ≤ time_of self.now.latest) }
         ensures latest { IfSome result (λ now. now ≡ self.now.latest) }
     {
         if u128::from(nanos) <= self.latest.nanos() {
@@ -106,10 +107,12 @@ impl<W: Drop> Deadlines<W> {
 
     /// Sets a deadline at this time, with a waker. If memory is refused, the waker comes back.
     pub(crate) fn set(&mut self, nanos: u64, waker: W) -> Result<(Deadline, News), W>
-        ensures set { IfOk result (λ set. (get by_time self.old.waiting set.0 ≡ None) × Updates by_time self.old.waiting self.new.waiting set.0 (Some waker)) }
+        ensures free { IfOk result (λ set. get by_time self.old.waiting set.0 ≡ None) }
+        ensures set { IfOk result (λ set. IsLeft self.old.waiting self.new.waiting set.0 waker) }
         ensures time { IfOk result (λ set. set.0.nanos ≡ nanos) }
-        ensures news { IfOk result (λ set. set.1 ≡ news_of (is_nearer nanos self.old.waiting.entries)) }
-        ensures refused { IfErr result (λ back. (back ≡ waker) × IsUnchanged self.old.waiting self.new.waiting) }
+        ensures news { IfOk result (λ s. s.1 ≡ news_of (is_nearer nanos self.old.waiting.entries)) }
+        ensures refused { IfErr result (λ back. back ≡ waker) }
+        ensures unchanged { OnErr result (IsUnchanged self.old.waiting self.new.waiting) }
         ensures latest { self.new.latest ≡ self.old.latest }
     {
         let number = self.next_number;
@@ -130,8 +133,10 @@ impl<W: Drop> Deadlines<W> {
     /// Leaves a waker at a deadline, in place of the earlier one, which comes back. If the deadline is
     /// gone, this one does.
     pub(crate) fn leave(&mut self, deadline: Deadline, waker: W) -> Result<W, W>
-        ensures left { IfOk result (λ earlier. (get by_time self.old.waiting deadline ≡ Some earlier) × Updates by_time self.old.waiting self.new.waiting deadline (Some waker)) }
-        ensures gone { IfErr result (λ back. (back ≡ waker) × IsUnchanged self.old.waiting self.new.waiting) }
+        ensures earlier { IfOk result (λ w. get by_time self.old.waiting deadline ≡ Some w) }
+        ensures left { OnOk result (IsLeft self.old.waiting self.new.waiting deadline waker) }
+        ensures gone { IfErr result (λ back. back ≡ waker) }
+        ensures unchanged { OnErr result (IsUnchanged self.old.waiting self.new.waiting) }
         ensures variant { IsOk result ↔ ContainsKey by_time self.old.waiting deadline }
         ensures latest { self.new.latest ≡ self.old.latest }
     {
@@ -152,10 +157,10 @@ impl<W: Drop> Deadlines<W> {
 
     /// Takes the first deadline, if the latest time has reached it, with the waker that was left there.
     pub(crate) fn fire(&mut self) -> Fired<W>
-        ensures answer { result ≡ fired (as_nanos self.old.latest.since_start) self.old.waiting.entries }
-        ensures taken { self.new.waiting.entries ≡ (if is_fired result then drop 1 self.old.waiting.entries else self.old.waiting.entries) }
-        ensures earliest { IfSome (slice_get self.old.waiting.entries 0) (λ first. All (λ deadline. first.0.nanos ≤ deadline.nanos) (keys self.old.waiting)) }
-        ensures rest { is_fired result ≡ false → All (λ deadline. as_nanos self.old.latest.since_start < deadline.nanos) (keys self.new.waiting) }
+        ensures answer { result ≡ fired (time_of self.old.latest) self.old.waiting.entries }
+        ensures taken { self.new.waiting.entries ≡ left_by result self.old.waiting.entries }
+        ensures earliest { IsFirst self.old.waiting }
+        ensures rest { is_fired result ≡ false → AreAfter self.old.latest self.new.waiting }
         ensures latest { self.new.latest ≡ self.old.latest }
     {
         match self.waiting.first_key_value() {

@@ -1,9 +1,8 @@
 //! A time that comes again and again.
 ghost use Rattle.std.specs.Prelude.{◌≡◌};
-ghost use Rattle.std.specs.Duration.{as_nanos};
 ghost use Rattle.executor_core.specs.declared.task.future.Poll.TheVariants.{Pending as waits};
 ghost use Rattle.async_utilities.specs.Polls.{IfReady};
-ghost use Rattle.async_utilities.specs.Times.{IsLater, IsReached};
+ghost use Rattle.async_utilities.specs.Times.{ComesAgain, IsReached, time_of};
 
 use crate::timers::after::After;
 use crate::timers::reading::Reading;
@@ -46,8 +45,8 @@ impl<W: Wake, R: Wait + Drop> Interval<W, R> {
     ///
     /// Example: `uses::repeats`.
     pub fn poll_next(&mut self, w: &W) -> Poll<Reading>
-        ensures never_early { IfReady result (λ now. IsReached self.old.after.nanos (as_nanos now.since_start)) }
-        ensures next { IfReady result (λ _. IsLater self.old.after.nanos (as_nanos self.old.period) self.new.after.nanos) }
+        ensures never_early { IfReady result (λ now. IsReached self.old.after.nanos (time_of now)) }
+        ensures next { ComesAgain result self.old.after.nanos self.old.period self.new.after.nanos }
         ensures waits { result ≡ waits → self.new.after.nanos ≡ self.old.after.nanos }
         ensures period { self.new.period ≡ self.old.period }
     {

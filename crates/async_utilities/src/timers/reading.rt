@@ -1,6 +1,7 @@
 //! Times of a clock.
 ghost use Rattle.std.specs.Prelude.{◌≡◌, ◌<◌, ◌+◌, ◌*◌, ◌^◌, ◌↔◌, max, IsSome, IfSome};
 ghost use Rattle.std.specs.Duration.{as_nanos, FitsDuration};
+ghost use Rattle.async_utilities.specs.Times.{time_of};
 
 use std::io;
 use std::time::{Clock, Duration};
@@ -41,8 +42,8 @@ impl Reading {
     ///
     /// Example: `uses::looks_ahead`, at `Reading`.
     pub fn checked_add(self, duration: Duration) -> Option<Reading>
-        ensures variant { IsSome result ↔ FitsDuration (as_nanos self.since_start + as_nanos duration) }
-        ensures later { IfSome result (λ later. as_nanos later.since_start ≡ as_nanos self.since_start + as_nanos duration) }
+        ensures variant { IsSome result ↔ FitsDuration (time_of self + as_nanos duration) }
+        ensures later { IfSome result (λ later. time_of later ≡ time_of self + as_nanos duration) }
     {
         Some(Reading {
             since_start: self.since_start.checked_add(duration)?,
@@ -70,7 +71,7 @@ impl Reading {
 
     /// The later one of both.
     pub(crate) fn later(self, other: Reading) -> Reading
-        ensures { as_nanos result.since_start ≡ max (as_nanos self.since_start) (as_nanos other.since_start) }
+        ensures { time_of result ≡ max (time_of self) (time_of other) }
     {
         if self.nanos() < other.nanos() {
             other

@@ -2,6 +2,7 @@
 ghost use Rattle.std.specs.Prelude.{◌≡◌, ◌≤◌, ◌-◌};
 ghost use Rattle.std.specs.Duration.{as_nanos};
 
+use crate::locked::locked;
 use crate::timers::deadlines::{Deadlines, Fired};
 use crate::timers::drivers::Drivers;
 use crate::timers::reading::Reading;
@@ -29,8 +30,9 @@ impl<W: Wake, R: Wait + Drop> Shared<W, R> {
         }
     }
 
+    #[inline(always)]
     pub(crate) fn deadlines(&self) -> MutexGuard<'_, Deadlines<W>> {
-        self.deadlines.lock(&self.rt)
+        locked(&self.deadlines, &self.rt)
     }
 
     /// The latest time that the clock was read at, which is this one if none was later.

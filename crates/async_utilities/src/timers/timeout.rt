@@ -1,10 +1,9 @@
 //! A future that is given a time.
-ghost use Rattle.std.specs.Prelude.{◌≡◌, None, Some, IsSome, IfSome, IfErr, is_none};
-ghost use Rattle.std.specs.Duration.{as_nanos};
+ghost use Rattle.std.specs.Prelude.{◌≡◌, None, Some, IsSome, IfSome, is_none};
 ghost use Rattle.executor_core.specs.declared.task.future.Poll.TheVariants.{Pending as waits};
 ghost use Rattle.async_executor.specs.Answers.{is_ready};
-ghost use Rattle.async_utilities.specs.Polls.{IfReady};
-ghost use Rattle.async_utilities.specs.Times.{IsReached};
+ghost use Rattle.async_utilities.specs.Polls.{IfGoesOn};
+ghost use Rattle.async_utilities.specs.Times.{IsTimedOut};
 
 use crate::timers::after::After;
 use crate::timers::reading::Reading;
@@ -66,8 +65,8 @@ impl<G: Future<W>, W: Wake, R: Wait + Drop> Future<W> for Timeout<G, W, R> {
     fn poll(&mut self, w: &W) -> Poll<Result<G::Output, TimedOut<G>>>
         ensures ended { IsSome self.old.inner → is_none self.new.inner ≡ is_ready result }
         ensures again { self.old.inner ≡ None → (result ≡ waits) × (self.new.inner ≡ None) }
-        ensures never_early { IfSome self.old.inner (λ inner. IfReady result (λ answer. IfErr answer (λ timed_out. IsReached inner.1.nanos (as_nanos timed_out.now.since_start)))) }
-        ensures time { IfSome self.old.inner (λ old. IfSome self.new.inner (λ new. new.1.nanos ≡ old.1.nanos)) }
+        ensures never_early { IfSome self.old.inner (λ inner. IsTimedOut inner.1.nanos result) }
+        ensures time { IfGoesOn self.old.inner self.new.inner (λ a b. b.1.nanos ≡ a.1.nanos) }
     {
         let Some((future, after)) = &mut self.inner else {
             return Poll::Pending;

@@ -1,7 +1,7 @@
 //! The order of those who wait: keys that are linked, so that each enters and leaves it in constant
 //! time, whatever stands beside it.
 ghost use Rattle.std.specs.Prelude.{◌≡◌, ◌≢◌, ◌==◌, ℕ, ◌+◌, ◌<◌, ◌≤◌, ◌^◌, [], ◌∷◌, ◌++◌, length, slice_get, vec_len, IsOk, OnOk};
-ghost use Rattle.async_utilities.specs.Links.{IsIn, without, Inserts, Skips, IsLink, end, next_of, previous_of};
+ghost use Rattle.async_utilities.specs.Links.{IsIn, without, Inserts, KeepsLinks, Skips, IsLink, end, next_of, previous_of};
 
 use std::alloc::{AllocError, Global};
 use std::marker::Model;
@@ -29,8 +29,8 @@ impl Chain {
         ensures room { OnOk result (key < vec_len self.new.links) }
         ensures succeeds { key < vec_len self.old.links → IsOk result }
         ensures grows { vec_len self.old.links ≤ vec_len self.new.links }
-        ensures next { (at : ℕ) → IsLink self.old at → next_of self.new at ≡ next_of self.old at }
-        ensures previous { (at : ℕ) → IsLink self.old at → previous_of self.new at ≡ previous_of self.old at }
+        ensures next { KeepsLinks next_of self.old self.new }
+        ensures previous { KeepsLinks previous_of self.old self.new }
     {
         if key < self.links.len() {
             return Ok(());
@@ -48,7 +48,7 @@ impl Chain {
     fn set_next(&mut self, at: usize, to: usize)
         requires { IsLink self.old at }
         ensures here { next_of self.new at ≡ to }
-        ensures others { (other : ℕ) → other ≢ at → next_of self.new other ≡ next_of self.old other }
+        ensures others { (k : ℕ) → k ≢ at → next_of self.new k ≡ next_of self.old k }
         ensures previous { (other : ℕ) → previous_of self.new other ≡ previous_of self.old other }
         ensures len { vec_len self.new.links ≡ vec_len self.old.links }
     {
@@ -62,7 +62,7 @@ impl Chain {
     fn set_previous(&mut self, at: usize, to: usize)
         requires { IsLink self.old at }
         ensures here { previous_of self.new at ≡ to }
-        ensures others { (other : ℕ) → other ≢ at → previous_of self.new other ≡ previous_of self.old other }
+        ensures others { (k : ℕ) → k ≢ at → previous_of self.new k ≡ previous_of self.old k }
         ensures next { (other : ℕ) → next_of self.new other ≡ next_of self.old other }
         ensures len { vec_len self.new.links ≡ vec_len self.old.links }
     {

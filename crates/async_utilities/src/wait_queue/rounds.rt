@@ -7,7 +7,7 @@
 ghost use Rattle.std.specs.Prelude.{◌≡◌, ◌+◌, ◌++◌, ◌∷◌, ◌^◌, ◌%◌, [], IfErr, IfOk, None, OnErr, Option, Some};
 ghost use Rattle.async_utilities.specs.Links.{without};
 ghost use Rattle.async_utilities.specs.Rounds.{Comes, Tells, WaitsOn, due_first, waker_in_entry};
-ghost use Rattle.async_utilities.specs.WaitQueue.{Moves, Stays, Steps, due_to, is_notified, place_at, waker_of};
+ghost use Rattle.async_utilities.specs.WaitQueue.{Parts, Stays, Steps, due_to, is_notified, place_at, waker_of};
 
 use crate::due::Due;
 use crate::wait_queue::WaitQueue;
@@ -171,7 +171,7 @@ impl<W: Drop> Rounds<W> {
     pub(crate) fn leave(&mut self, place: usize) -> Parted<W>
         ensures waker { result.waker ≡ waker_in_entry (waker_of (place_at self.old.waiters place)) }
         ensures told { result.was_told ≡ is_notified (place_at self.old.waiters place) }
-        ensures leaves { Moves self.old.waiters self.new.waiters place None (without place self.old.waiters.waiting) }
+        ensures leaves { Parts self.old.waiters place self.new.waiters }
         ensures round { self.new.round ≡ self.old.round }
     {
         let was_told = self.is_told(place);

@@ -1,6 +1,6 @@
 //! Permits that are given, and what comes of them.
 ghost use Rattle.std.specs.Prelude.{◌≡◌, ◌<◌};
-ghost use Rattle.async_utilities.specs.Wishes.{Gives, IsShort, waker_in_wish, with_more};
+ghost use Rattle.async_utilities.specs.Wishes.{GivesAlso, IsShort, waker_in_wish};
 
 use crate::due::Due;
 use crate::locks::semaphore::wish::Wish;
@@ -37,7 +37,7 @@ impl<W: Drop> Given<W> {
         waiters: &mut WaitQueue<Wish<W>>,
         more: usize,
     ) -> Given<W>
-        ensures gives { Gives (with_more permits.old more) waiters.old result permits.new waiters.new }
+        ensures gives { GivesAlso permits.old more waiters.old result permits.new waiters.new }
         ensures short { IsShort permits.new waiters.new }
         ensures fewer { IsShort permits.old waiters.old → 0 < more → result.left < more }
     {

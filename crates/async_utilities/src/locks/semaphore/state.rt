@@ -22,7 +22,7 @@ pub(crate) struct State<W> {
 }
 
 impl<W: Drop> State<W> {
-    ghost use Rattle.async_utilities.specs.Semaphores.{Goes, Same, Takes, Waits, is_due};
+    ghost use Rattle.async_utilities.specs.Semaphores.{GivesMore, Goes, Same, Takes, Waits, is_due};
 
     /// So many permits, and nobody waits.
     pub(crate) fn new(alloc: Global, permits: usize) -> State<W>
@@ -110,7 +110,7 @@ impl<W: Drop> State<W> {
 
     /// Gives so many permits, of which the first one that waits has its share.
     pub(crate) fn give(&mut self, more: usize) -> Given<W>
-        ensures gives { Gives (with_more self.old.permits more) self.old.waiters result self.new.permits self.new.waiters }
+        ensures gives { GivesMore self.old more result self.new }
         ensures total { self.new.total ≡ self.old.total }
         ensures fewer { 0 < more → result.left < more }
     {
@@ -120,8 +120,10 @@ impl<W: Drop> State<W> {
     /// Counts so many permits more in all, if that many can be counted.
     pub(crate) fn count(&mut self, more: usize) -> bool
         ensures counted { result ≡ true → self.new.total ≡ self.old.total + more }
-        ensures refused { result ≡ false → (self.new.total ≡ self.old.total) × (usize.MAX < self.old.total + more) }
-        ensures stays { (self.new.permits ≡ self.old.permits) × (self.new.waiters ≡ self.old.waiters) }
+        ensures many { result ≡ false → usize.MAX < self.old.total + more }
+        ensures refused { result ≡ false → self.new.total ≡ self.old.total }
+        ensures permits { self.new.permits ≡ self.old.permits }
+        ensures waiters { self.new.waiters ≡ self.old.waiters }
     {
         match self.total.checked_add(more) {
             Some(total) => {

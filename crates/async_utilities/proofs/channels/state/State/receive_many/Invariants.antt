@@ -6,10 +6,10 @@ use Rattle.async_utilities.proofs.channels.state.State.receive_many.Given as goa
 -- so many messages stand behind the others, and nothing else changed
 abbrev pub invariant-loop-count : goal.invariant-loop-count
 invariant-loop-count g l = record {
-  moved : l.messages.items ++ l.self.messages.items ≡ l.fn.messages.items ++ l.fn.self.messages.items;
-  count : vec_len l.messages ≡ vec_len l.fn.messages + l.count;
-  front : take (vec_len l.fn.messages) l.messages.items ≡ l.fn.messages.items;
-  room : vec_capacity l.messages ≡ vec_capacity l.fn.messages;
+  moved : l.list.items ++ l.self.messages.items ≡ l.fn.list.items ++ l.fn.self.messages.items;
+  count : vec_len l.list ≡ vec_len l.fn.list + l.count;
+  front : take (vec_len l.fn.list) l.list.items ≡ l.fn.list.items;
+  room : vec_capacity l.list ≡ vec_capacity l.fn.list;
   ends : SameEnds l.fn.self l.self;
   receivers : l.self.receivers.waiters ≡ l.fn.self.receivers.waiters;
 }
