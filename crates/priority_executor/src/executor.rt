@@ -1,11 +1,11 @@
 //! An executor for each level of urgency.
-ghost use Rattle.std.specs.Prelude.{◌≡◌, ◌<◌, ◌-◌, ◌^◌, None, false, IfOk, IfErr, IsSomeAnd, All, length, map, vec_len};
+ghost use Rattle.std.specs.Prelude.{◌≡◌, ◌<◌, ◌-◌, ◌^◌, None, Some, false, IfOk, IfErr, IsSomeAnd, All, length, map, vec_len};
 ghost use Rattle.executor_core.specs.SpawnError.{refused_future};
 ghost use Rattle.async_executor.specs.declared.runner.run.RunError.TheVariants as RunError;
 
 use crate::answers::Answers;
 use crate::asker::{Asker, choose};
-use crate::run::{Going, PriorityRun};
+use crate::run::PriorityRun;
 use crate::tick::{LevelSleepers, PriorityTick};
 use async_executor::{
     Executor, Future, OutOfMemory, RunError, Sleeper, SpawnError, Task, TaskWaker, Wake,
@@ -174,16 +174,15 @@ where
         &self,
         future: G,
     ) -> Result<PriorityRun<'_, F, W, R, G, N>, RunError<G>>
-        ensures ok { IfOk result (λ run. IsSomeAnd run.going (λ g. All (λ s. s.inner.number ≡ None) g.sleepers.levels.items)) }
+        ensures ok { IfOk result (λ run. IsSomeAnd run.sleepers (λ own. All (λ s. s.inner.number ≡ None) own.levels.items)) }
+        ensures own { IfOk result (λ run. run.own ≡ Some future) }
         ensures refused { IfErr result (λ e. e ≡ RunError.OutOfMemory future) }
     {
         match self.sleepers() {
             Ok(sleepers) => Ok(PriorityRun {
-                going: Some(Going {
-                    own: future,
-                    sleepers,
-                    is_asleep: false,
-                }),
+                own: Some(future),
+                sleepers: Some(sleepers),
+                is_asleep: false,
             }),
             Err(OutOfMemory) => Err(RunError::OutOfMemory(future)),
         }

@@ -31,48 +31,44 @@ where
     R: Wait + Clone + Drop,
     G: Future<W>,
 {
-    pub(crate) going: Option<Going<Sleeper<'a, F, W, R>, G, N>>,
-}
-
-/// A run that has not ended, with what T is of each level, which is its sleeper. Its own future is dropped
-/// first: it may hold handles, whose tasks are queued as they are cancelled.
-#[derive(Drop)]
-pub(crate) struct Going<T, G, const N: usize> {
-    pub(crate) own: G,
-    pub(crate) sleepers: LevelSleepers<T, N>,
+    // Dropped first: it may hold handles, whose tasks are queued as they are cancelled. It stands in an
+    // `Option` of its own, since the drop of one struct with both has no proof in a caller.
+    pub(crate) own: Option<G>,
+    pub(crate) sleepers: Option<LevelSleepers<Sleeper<'a, F, W, R>, N>>,
     // Whether the last poll left it among the sleepers of every level.
     pub(crate) is_asleep: bool,
+    ghost both: { is_some own ≡ is_some sleepers },
 }
 
-impl<F, W, R, G, const N: usize> Going<Sleeper<'_, F, W, R>, G, N>
+impl<F, W, R, const N: usize> LevelSleepers<Sleeper<'_, F, W, R>, N>
 where
     F: Future<TaskWaker<W, R>>,
     W: Wake,
     R: Wait + Clone + Drop,
-    G: Future<W>,
 {
     // Runs the tasks of a turn, and goes to sleep if there are fewer. If it does not sleep, it wakes the
-    // waker.
-    fn serve(&mut self, w: &W)
-        ensures asleep { self.new.is_asleep ≡ true → All (λ s. is_some s.inner.number ≡ true) self.new.sleepers.levels.items }
-        ensures awake { self.new.is_asleep ≡ false → All (λ s. s.inner.number ≡ None) self.new.sleepers.levels.items }
+    // waker. It says whether it sleeps.
+    fn serve(&mut self, w: &W) -> bool
+        ensures asleep { IsTrue result → All (λ s. is_some s.inner.number ≡ true) self.new.levels.items }
+        ensures awake { result ≡ false → All (λ s. s.inner.number ≡ None) self.new.levels.items }
     {
-        self.is_asleep = !self.ran_a_turn() && self.sleepers.sleep(w);
-        if !self.is_asleep {
+        let is_asleep = !self.ran_a_turn() && self.sleep(w);
+        if !is_asleep {
             w.wake();
         }
+        is_asleep
     }
 
     // Runs tasks, and says whether there were as many as a turn has. Then it is awake in each level.
     fn ran_a_turn(&mut self) -> bool
-        ensures awake { IsTrue result → All (λ s. s.inner.number ≡ None) self.new.sleepers.levels.items }
+        ensures awake { IsTrue result → All (λ s. s.inner.number ≡ None) self.new.levels.items }
     {
         for _ in 0..TURN {
-            if !self.sleepers.run_first() {
+            if !self.run_first() {
                 return false;
             }
         }
-        self.sleepers.leave();
+        self.leave();
         true
     }
 }
@@ -99,20 +95,23 @@ where
     /// let (one, two) = block_on(rt, alloc, run)?;
     /// ```
     fn poll(&mut self, w: &W) -> Poll<G::Output>
-        ensures ended { is_some self.old.going ≡ true → is_none self.new.going ≡ is_ready result }
-        ensures again { self.old.going ≡ None → (self.new.going ≡ None) × (is_ready result ≡ false) }
-        ensures asleep { IfSome self.new.going (λ g. g.is_asleep ≡ true → All (λ s. is_some s.inner.number ≡ true) g.sleepers.levels.items) }
-        ensures awake { IfSome self.new.going (λ g. g.is_asleep ≡ false → All (λ s. s.inner.number ≡ None) g.sleepers.levels.items) }
+        ensures ended { is_some self.old.own ≡ true → is_none self.new.own ≡ is_ready result }
+        ensures again { self.old.own ≡ None → (self.new.own ≡ None) × (is_ready result ≡ false) }
+        ensures asleep { IfSome self.new.sleepers (λ s. self.new.is_asleep ≡ true → All (λ l. is_some l.inner.number ≡ true) s.levels.items) }
+        ensures awake { IfSome self.new.sleepers (λ s. self.new.is_asleep ≡ false → All (λ l. l.inner.number ≡ None) s.levels.items) }
     {
-        let Some(mut going) = self.going.take() else {
+        let Some(own) = &mut self.own else {
             w.wake();
             return Poll::Pending;
         };
-        if let Poll::Ready(output) = going.own.poll(w) {
+        if let Poll::Ready(output) = own.poll(w) {
+            self.own = None;
+            self.sleepers = None;
             return Poll::Ready(output);
         }
-        going.serve(w);
-        self.going = Some(going);
+        if let Some(sleepers) = &mut self.sleepers {
+            self.is_asleep = sleepers.serve(w);
+        }
         Poll::Pending
     }
 }
