@@ -1,16 +1,17 @@
 //! An executor for each level of urgency.
-ghost use Rattle.std.specs.Prelude.{◌≡◌, ◌<◌, ◌-◌, ◌^◌, None, Some, false, IfOk, IfErr, IsSomeAnd, All, length, map, vec_len};
+ghost use Rattle.std.specs.Prelude.{◌≡◌, ◌<◌, ◌-◌, ◌^◌, None, false, IfOk, IfErr, IsSomeAnd, All, length, map, vec_len};
 ghost use Rattle.executor_core.specs.SpawnError.{refused_future};
 ghost use Rattle.async_executor.specs.declared.runner.run.RunError.TheVariants as RunError;
 
 use crate::answers::Answers;
 use crate::asker::{Asker, choose};
-use crate::run::PriorityRun;
+use crate::run::{Going, PriorityRun};
 use crate::tick::{LevelSleepers, PriorityTick};
 use async_executor::{
     Executor, Future, OutOfMemory, RunError, Sleeper, SpawnError, Task, TaskWaker, Wake,
 };
 use std::alloc::Global;
+use std::marker::PhantomData;
 use std::sync::Wait;
 
 /// An executor that runs the tasks of lower levels first, of which it has N, named 0 to N - 1.
@@ -174,15 +175,20 @@ where
         &self,
         future: G,
     ) -> Result<PriorityRun<'_, F, W, R, G, N>, RunError<G>>
-        ensures ok { IfOk result (λ run. IsSomeAnd run.sleepers (λ own. All (λ s. s.inner.number ≡ None) own.levels.items)) }
-        ensures own { IfOk result (λ run. run.own ≡ Some future) }
+        ensures ok { IfOk result (λ run. IsSomeAnd run.going (λ g. All (λ s. s.inner.number ≡ None) g.sleepers.levels.items)) }
+        ensures future { IfOk result (λ run. IsSomeAnd run.going (λ g. g.own ≡ future)) }
+        ensures own { IfOk result (λ run. IsSomeAnd run.going (λ g.
+            map (λ s. s.inner.executor.now) g.sleepers.levels.items ≡ map (λ level. level.inner) self.now.levels.items)) }
         ensures refused { IfErr result (λ e. e ≡ RunError.OutOfMemory future) }
     {
         match self.sleepers() {
             Ok(sleepers) => Ok(PriorityRun {
-                own: Some(future),
-                sleepers: Some(sleepers),
-                is_asleep: false,
+                going: Some(Going {
+                    own: future,
+                    sleepers,
+                    is_asleep: false,
+                    of: PhantomData,
+                }),
             }),
             Err(OutOfMemory) => Err(RunError::OutOfMemory(future)),
         }

@@ -3,7 +3,8 @@ ghost use Rattle.std.specs.Prelude.{◌≡◌, true, false, None, All, IfSome, I
 ghost use Rattle.async_executor.specs.Answers.{is_ready};
 
 use crate::tick::LevelSleepers;
-use async_executor::{Future, Poll, Sleeper, TaskWaker, Wake};
+use async_executor::{Executor, Future, Poll, Sleeper, TaskWaker, Wake};
+use std::marker::PhantomData;
 use std::sync::Wait;
 
 /// A poll of a run runs so many tasks at most: then it polls its own future again.
@@ -31,44 +32,56 @@ where
     R: Wait + Clone + Drop,
     G: Future<W>,
 {
-    // Dropped first: it may hold handles, whose tasks are queued as they are cancelled. It stands in an
-    // `Option` of its own, since the drop of one struct with both has no proof in a caller.
-    pub(crate) own: Option<G>,
-    pub(crate) sleepers: Option<LevelSleepers<Sleeper<'a, F, W, R>, N>>,
-    // Whether the last poll left it among the sleepers of every level.
-    pub(crate) is_asleep: bool,
-    ghost both: { is_some own ≡ is_some sleepers },
+    pub(crate) going: Option<Going<'a, F, W, R, G, N>>,
 }
 
-impl<F, W, R, const N: usize> LevelSleepers<Sleeper<'_, F, W, R>, N>
+/// A run that has not ended. Its own future is dropped first: it may hold handles, whose tasks are queued as
+/// they are cancelled.
+#[derive(Drop)]
+pub(crate) struct Going<'a, F, W, R, G, const N: usize>
 where
     F: Future<TaskWaker<W, R>>,
     W: Wake,
     R: Wait + Clone + Drop,
+    G: Future<W>,
+{
+    pub(crate) own: G,
+    pub(crate) sleepers: LevelSleepers<Sleeper<'a, F, W, R>, N>,
+    // Whether the last poll left it among the sleepers of every level.
+    pub(crate) is_asleep: bool,
+    // A caller is proved only if what it borrows stands outside of a list, too.
+    pub(crate) of: PhantomData<&'a Executor<F, W, R>>,
+}
+
+impl<F, W, R, G, const N: usize> Going<'_, F, W, R, G, N>
+where
+    F: Future<TaskWaker<W, R>>,
+    W: Wake,
+    R: Wait + Clone + Drop,
+    G: Future<W>,
 {
     // Runs the tasks of a turn, and goes to sleep if there are fewer. If it does not sleep, it wakes the
-    // waker. It says whether it sleeps.
-    fn serve(&mut self, w: &W) -> bool
-        ensures asleep { IsTrue result → All (λ s. is_some s.inner.number ≡ true) self.new.levels.items }
-        ensures awake { result ≡ false → All (λ s. s.inner.number ≡ None) self.new.levels.items }
+    // waker.
+    fn serve(&mut self, w: &W)
+        ensures asleep { self.new.is_asleep ≡ true → All (λ s. is_some s.inner.number ≡ true) self.new.sleepers.levels.items }
+        ensures awake { self.new.is_asleep ≡ false → All (λ s. s.inner.number ≡ None) self.new.sleepers.levels.items }
     {
-        let is_asleep = !self.ran_a_turn() && self.sleep(w);
-        if !is_asleep {
+        self.is_asleep = !self.ran_a_turn() && self.sleepers.sleep(w);
+        if !self.is_asleep {
             w.wake();
         }
-        is_asleep
     }
 
     // Runs tasks, and says whether there were as many as a turn has. Then it is awake in each level.
     fn ran_a_turn(&mut self) -> bool
-        ensures awake { IsTrue result → All (λ s. s.inner.number ≡ None) self.new.levels.items }
+        ensures awake { IsTrue result → All (λ s. s.inner.number ≡ None) self.new.sleepers.levels.items }
     {
         for _ in 0..TURN {
-            if !self.run_first() {
+            if !self.sleepers.run_first() {
                 return false;
             }
         }
-        self.leave();
+        self.sleepers.leave();
         true
     }
 }
@@ -95,23 +108,20 @@ where
     /// let (one, two) = block_on(rt, alloc, run)?;
     /// ```
     fn poll(&mut self, w: &W) -> Poll<G::Output>
-        ensures ended { is_some self.old.own ≡ true → is_none self.new.own ≡ is_ready result }
-        ensures again { self.old.own ≡ None → (self.new.own ≡ None) × (is_ready result ≡ false) }
-        ensures asleep { IfSome self.new.sleepers (λ s. self.new.is_asleep ≡ true → All (λ l. is_some l.inner.number ≡ true) s.levels.items) }
-        ensures awake { IfSome self.new.sleepers (λ s. self.new.is_asleep ≡ false → All (λ l. l.inner.number ≡ None) s.levels.items) }
+        ensures ended { is_some self.old.going ≡ true → is_none self.new.going ≡ is_ready result }
+        ensures again { self.old.going ≡ None → (self.new.going ≡ None) × (is_ready result ≡ false) }
+        ensures asleep { IfSome self.new.going (λ g. g.is_asleep ≡ true → All (λ s. is_some s.inner.number ≡ true) g.sleepers.levels.items) }
+        ensures awake { IfSome self.new.going (λ g. g.is_asleep ≡ false → All (λ s. s.inner.number ≡ None) g.sleepers.levels.items) }
     {
-        let Some(own) = &mut self.own else {
+        let Some(mut going) = self.going.take() else {
             w.wake();
             return Poll::Pending;
         };
-        if let Poll::Ready(output) = own.poll(w) {
-            self.own = None;
-            self.sleepers = None;
+        if let Poll::Ready(output) = going.own.poll(w) {
             return Poll::Ready(output);
         }
-        if let Some(sleepers) = &mut self.sleepers {
-            self.is_asleep = sleepers.serve(w);
-        }
+        going.serve(w);
+        self.going = Some(going);
         Poll::Pending
     }
 }
