@@ -28,7 +28,7 @@ give_up() {
 # each request.
 lay_out() {
     copy_sources
-    add_crate refusals ': executor_core async_executor async_utilities sharded_executor pools slab'
+    add_crate refusals ': executor_core async_executor async_utilities priority_executor sharded_executor pools slab'
     mkdir "$copy/cases"
     python3 -B "$top/checks/lib/choose.py" program "$copy" "$@"
     number=0

@@ -53,7 +53,7 @@ fn main(rt: HostRuntime) -> io::Result<ExitCode> {
     }
     let wrong = outcome.wrong.saturating_add(refused.wrong);
     println!(rt;
-        "refused: Cells::spawn {}, Cells::reserve_runner {}, Ring::new {}, Sleepers::reserve {}, Core::reserve {}, World::new {}, World::new_with {}, World::run {}, World::step {}, Executor::new {}, Executor::new_with {}, Executor::spawn {}, Executor::spawn_many {}, Executor::tick {}, Executor::run {}, block_on {}, run_until {}, JoinAll::new {}, Signal::new {}, Signal::waiting {}, bounded {}, Sender::copy {}, Receiver::copy {}, Timer::new {}, After::poll {}, Timeout::poll {}, Timer::block_on {}, Pool::new {}, ShardedPool::new {}, Pool::unblock {}, lists {}, steps {}, orders {}; wrong: {}",
+        "refused: Cells::spawn {}, Cells::reserve_runner {}, Ring::new {}, Sleepers::reserve {}, Core::reserve {}, World::new {}, World::new_with {}, World::run {}, World::step {}, Executor::new {}, Executor::new_with {}, Executor::spawn {}, Executor::spawn_many {}, Executor::tick {}, Executor::run {}, block_on {}, run_until {}, JoinAll::new {}, Signal::new {}, Signal::waiting {}, bounded {}, Sender::copy {}, Receiver::copy {}, Timer::new {}, After::poll {}, Timeout::poll {}, Timer::block_on {}, Pool::new {}, ShardedPool::new {}, PoolOf::new {}, Pool::unblock {}, lists {}, steps {}, orders {}; wrong: {}",
         outcome.cells_spawn,
         outcome.cells_reserve_runner,
         outcome.ring_new,
@@ -83,6 +83,7 @@ fn main(rt: HostRuntime) -> io::Result<ExitCode> {
         refused.driver,
         refused.pool,
         refused.sharded_pool,
+        refused.priority_pool,
         refused.unblock,
         refused.list,
         outcome.steps,

@@ -3,9 +3,10 @@ use crate::outcome::count;
 use crate::utilities::Refused;
 use async_executor::{Future, OutOfMemory, Poll, TaskWaker, Wake};
 use async_utilities::{
-    Job, Never, NoopWaker, Pool, PoolError, Ready, ThreadWaker, Timer, TimerError, TimerFailed, Work,
+    Job, Never, NoopWaker, Pool, PoolError, PoolOf, Ready, ThreadWaker, Timer, TimerError, TimerFailed, Work,
 };
-use pools::ShardedPool;
+use pools::{Levels, PriorityPool, ShardedPool};
+use priority_executor::PriorityExecutor;
 use std::alloc::Global;
 use std::cell::Cell;
 use std::sync::Wait;
@@ -157,6 +158,14 @@ fn pool_of_shards<R: Wait + Threads + Clone + Drop + Send + Sync + 'static>(
     ShardedPool::new(rt.clone()?, alloc, 1)
 }
 
+fn pool_of_levels<R: Wait + Threads + Clone + Drop + Send + Sync + 'static>(
+    rt: &R,
+    alloc: Global,
+) -> Result<PriorityPool<Ready<u64>, R, 2>, PoolError> {
+    let levels = Levels::new(PriorityExecutor::new(rt.clone()?, alloc)?);
+    PoolOf::new(rt.clone()?, alloc, 1, levels)
+}
+
 /// Starts a pool of each kind and stops it.
 pub fn start_pools<R: Wait + Threads + Clone + Drop + Send + Sync + 'static>(
     rt: &R,
@@ -165,6 +174,7 @@ pub fn start_pools<R: Wait + Threads + Clone + Drop + Send + Sync + 'static>(
 ) {
     start_and_stop!(&mut *refused, pool, pool(rt, alloc));
     start_and_stop!(&mut *refused, sharded_pool, pool_of_shards(rt, alloc));
+    start_and_stop!(&mut *refused, priority_pool, pool_of_levels(rt, alloc));
 }
 
 /// Gives its number.

@@ -1,10 +1,11 @@
-//! Threads that run the tasks of one executor: of one queue, and of shards.
+//! Threads that run the tasks of one executor: of one queue, of shards, and of levels.
 use crate::tests::support::running::halt::TURNS;
 use crate::tests::support::running::record::{AtDrop, Moment, Record};
 use crate::tests::support::running::refusal::{MOST, is_order_left, refuse};
 use async_executor::{Future, Poll, SpawnError, Task, TaskWaker, Wake};
-use async_utilities::{JoinAll, Pool, PoolError, ThreadWaker, block_on};
-use pools::ShardedPool;
+use async_utilities::{JoinAll, Pool, PoolError, PoolOf, ThreadWaker, block_on};
+use pools::{Levels, PriorityPool, ShardedPool};
+use priority_executor::PriorityExecutor;
 use std::sync::atomic::{AtomicU64, Ordering};
 use std::sync::{Arc, Wait};
 use std::test::Fail;
@@ -64,6 +65,27 @@ where
     }
 }
 
+// The tasks of a test are of level 1.
+impl<F, R> Kind<F, R> for PriorityPool<F, R, 2>
+where
+    F: Future<TaskWaker<ThreadWaker, R>> + Send + 'static,
+    F::Output: Send + 'static,
+    R: Wait + Threads + Clone + Drop + Send + Sync + AllocGlobal + 'static,
+{
+    fn start(rt: &R, count: usize) -> Result<Self, PoolError> {
+        let levels = Levels::new(PriorityExecutor::new(rt.clone()?, rt.alloc())?);
+        PoolOf::new(rt.clone()?, rt.alloc(), count, levels)
+    }
+
+    fn spawn(&self, future: F) -> Result<Task<F, ThreadWaker, R>, SpawnError<F>> {
+        self.executor().spawn(1, future)
+    }
+
+    fn end(self) -> Vec<Ended> {
+        self.join()
+    }
+}
+
 // Gives its number at its second poll, for which it asks.
 #[derive(Drop)]
 struct Gives {
@@ -116,6 +138,7 @@ fn a_pool_runs_all_tasks(rt: HostRuntime) -> Result<(), Fail> {
     for count in [1, 2, 4] {
         assert_eq!(rt; sums::<Pool<Gives, _>, _>(&rt, count)?, (499500, count));
         assert_eq!(rt; sums::<ShardedPool<Gives, _>, _>(&rt, count)?, (499500, count));
+        assert_eq!(rt; sums::<PriorityPool<Gives, _, 2>, _>(&rt, count)?, (499500, count));
     }
     Ok(())
 }
@@ -184,7 +207,8 @@ where
 #[test]
 fn the_drop_of_a_pool_stops_its_threads(rt: HostRuntime) -> Result<(), Fail> {
     starts_and_drops::<Pool<Gives, _>, _>(&rt)?;
-    starts_and_drops::<ShardedPool<Gives, _>, _>(&rt)
+    starts_and_drops::<ShardedPool<Gives, _>, _>(&rt)?;
+    starts_and_drops::<PriorityPool<Gives, _, 2>, _>(&rt)
 }
 
 // Never ready. Its drop is counted.
@@ -227,6 +251,7 @@ fn a_pool_that_goes_drops_the_tasks_that_are_left(rt: HostRuntime) -> Result<(),
     for joins in [true, false] {
         assert_eq!(rt; leaves::<Pool<Stays, _>, _>(&rt, joins)?, 1);
         assert_eq!(rt; leaves::<ShardedPool<Stays, _>, _>(&rt, joins)?, 1);
+        assert_eq!(rt; leaves::<PriorityPool<Stays, _, 2>, _>(&rt, joins)?, 1);
     }
     Ok(())
 }
@@ -277,5 +302,11 @@ fn a_pool_is_refused_with_its_thread(rt: HostRuntime) -> Result<(), Fail> {
 #[test]
 fn a_pool_of_shards_is_refused_with_its_thread(rt: HostRuntime) -> Result<(), Fail> {
     assert!(rt; is_refused_with_its_thread::<ShardedPool<Gives, _>, _>(&rt, 7));
+    Ok(())
+}
+
+#[test]
+fn a_pool_of_levels_is_refused_with_its_thread(rt: HostRuntime) -> Result<(), Fail> {
+    assert!(rt; is_refused_with_its_thread::<PriorityPool<Gives, _, 2>, _>(&rt, 4));
     Ok(())
 }

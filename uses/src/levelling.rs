@@ -1,19 +1,23 @@
-//! Threads that run the tasks of all levels of urgency: one that awaits two tasks meanwhile, and two that
-//! each poll one tick after another.
-use crate::common::added;
+//! Threads that run the tasks of all levels of urgency: a pool of them, one that awaits two tasks
+//! meanwhile, and two that each poll one tick after another.
+use crate::common::{added, total_of};
+use crate::futures::Sum;
 use async_executor::{Future, Poll};
-use async_utilities::{Ready, Signal, ThreadWaker, Waiting, Zip, block_on, poll_until_ready};
+use async_utilities::{
+    PoolOf, Ready, Signal, ThreadWaker, Waiting, Zip, block_on, poll_until_ready,
+};
+use pools::{Levels, PriorityPool};
 use priority_executor::PriorityExecutor;
 use std::alloc::Global;
 use std::io;
 use std::sync::Wait;
 use std::thread::{self, Threads};
 
-type Levels<R> = PriorityExecutor<Ready<u64>, ThreadWaker, R, 2>;
+type TwoLevels<R> = PriorityExecutor<Ready<u64>, ThreadWaker, R, 2>;
 
 /// Runs the tasks of two levels on this thread, which awaits one of each, and adds what they give.
 pub fn runs_levels<R: Wait + Clone + Drop + Send + Sync>(rt: &R, alloc: Global) -> io::Result<u64> {
-    let executor: Levels<R> = PriorityExecutor::new(rt.clone()?, alloc)?;
+    let executor: TwoLevels<R> = PriorityExecutor::new(rt.clone()?, alloc)?;
     let later = executor.spawn(1, Ready::new(1))?;
     let urgent = executor.spawn(0, Ready::new(2))?;
     let run = executor.run(Zip::new(later, urgent))?;
@@ -22,13 +26,33 @@ pub fn runs_levels<R: Wait + Clone + Drop + Send + Sync>(rt: &R, alloc: Global) 
     Ok(one?.saturating_add(two?))
 }
 
+/// A server by levels: a pool of two threads runs a task for each of twenty requests, of which each fifth is
+/// urgent. Gives the sum of the answers.
+pub fn serves_by_levels<R: Wait + Threads + Clone + Drop + Send + Sync + 'static>(
+    rt: &R,
+    alloc: Global,
+) -> io::Result<u64> {
+    let levels = Levels::new(PriorityExecutor::new(rt.clone()?, alloc)?);
+    let pool: PriorityPool<Sum, R, 2> = PoolOf::new(rt.clone()?, alloc, 2, levels)?;
+    let mut tasks = Vec::new(alloc);
+    for request in 0..20 {
+        let level = if request % 5 == 0 { 0 } else { 1 };
+        tasks.push(pool.executor().spawn(level, Sum::of(request, 1))?)?;
+    }
+    let total = total_of(rt, alloc, tasks)?;
+    for ended in pool.join() {
+        ended?;
+    }
+    Ok(total)
+}
+
 type Stopped<R> = Waiting<ThreadWaker, R>;
 
 // Runs a task, and parks while none is scheduled. Says whether the signal was set instead.
 fn ticks_or_stops<R: Wait + Clone + Drop + Send + Sync>(
     rt: &R,
     mine: &ThreadWaker,
-    executor: &Levels<R>,
+    executor: &TwoLevels<R>,
     stopped: &mut Stopped<R>,
 ) -> Option<bool> {
     let mut tick = executor.tick().ok()?;
@@ -47,7 +71,7 @@ fn ticks_or_stops<R: Wait + Clone + Drop + Send + Sync>(
 fn serve<R: Wait + Clone + Drop + Send + Sync>(
     rt: &R,
     alloc: Global,
-    executor: &Levels<R>,
+    executor: &TwoLevels<R>,
     stopped: Stopped<R>,
 ) -> Option<()> {
     let mine = ThreadWaker::new(alloc).ok()?;
@@ -64,7 +88,7 @@ fn serve<R: Wait + Clone + Drop + Send + Sync>(
 fn total<R: Wait + Clone + Drop + Send + Sync>(
     rt: &R,
     alloc: Global,
-    executor: &Levels<R>,
+    executor: &TwoLevels<R>,
     stop: &Signal<ThreadWaker, R>,
 ) -> Option<u64> {
     let later = executor.spawn(1, Ready::new(1)).ok();
@@ -83,7 +107,7 @@ pub fn serves_levels<R: Wait + Threads + Clone + Drop + Send + Sync>(
     rt: &R,
     alloc: Global,
 ) -> Option<u64> {
-    let levels: Levels<R> = PriorityExecutor::new(rt.clone().ok()?, alloc).ok()?;
+    let levels: TwoLevels<R> = PriorityExecutor::new(rt.clone().ok()?, alloc).ok()?;
     let stop = Signal::new(rt.clone().ok()?, alloc).ok()?;
     let (one, two) = stop.waiting().ok().zip(stop.waiting().ok())?;
     let executor = &levels;

@@ -65,7 +65,7 @@ pub use fanning::fans_out;
 pub use handling::{cancels, cancels_half_way, detaches, drops, falls_back, lets_go};
 pub use interleaving::interleaves;
 pub use lasting::{keeps, lasts, prints, serves};
-pub use levelling::{runs_levels, serves_levels};
+pub use levelling::{runs_levels, serves_by_levels, serves_levels};
 pub use limiting::keeps_turns;
 pub use locking::{hears, makes_once, meets, takes_permits, takes_turns};
 pub use messaging::{closes_a_channel, gives_up, runs_here, sends_to_a_task, takes_many, tries};

@@ -11,6 +11,7 @@ use async_executor::{
     Executor, Future, OutOfMemory, RunError, Sleeper, SpawnError, Task, TaskWaker, Wake,
 };
 use std::alloc::Global;
+use std::marker::PhantomData;
 use std::sync::Wait;
 
 /// An executor that runs the tasks of lower levels first, of which it has N, named 0 to N - 1.
@@ -147,6 +148,9 @@ where
         future: G,
     ) -> Result<PriorityRun<'_, F, W, R, G, N>, RunError<G>>
         ensures ok { IfOk result (λ run. IsSomeAnd run.going (λ g. All (λ s. s.inner.number ≡ None) g.sleepers.levels.items)) }
+        ensures future { IfOk result (λ run. IsSomeAnd run.going (λ g. g.own ≡ future)) }
+        ensures own { IfOk result (λ run. IsSomeAnd run.going (λ g.
+            map (λ s. s.inner.executor.now) g.sleepers.levels.items ≡ map (λ level. level.inner) self.now.levels.items)) }
         ensures refused { IfErr result (λ e. e ≡ RunError.OutOfMemory future) }
     {
         match self.sleepers() {
@@ -155,6 +159,7 @@ where
                     own: future,
                     sleepers,
                     is_asleep: false,
+                    of: PhantomData,
                 }),
             }),
             Err(OutOfMemory) => Err(RunError::OutOfMemory(future)),

@@ -3,7 +3,8 @@ ghost use Rattle.std.specs.Prelude.{◌≡◌, true, false, None, All, IfSome, I
 ghost use Rattle.async_executor.specs.Answers.{is_ready};
 
 use crate::tick::LevelSleepers;
-use async_executor::{Future, Poll, Sleeper, TaskWaker, Wake};
+use async_executor::{Executor, Future, Poll, Sleeper, TaskWaker, Wake};
+use std::marker::PhantomData;
 use std::sync::Wait;
 
 /// A poll of a run runs so many tasks at most: then it polls its own future again.
@@ -37,20 +38,28 @@ where
     R: Wait + Clone + Drop,
     G: Future<W>,
 {
-    pub(crate) going: Option<Going<Sleeper<'a, F, W, R>, G, N>>,
+    pub(crate) going: Option<Going<'a, F, W, R, G, N>>,
 }
 
-/// A run that has not ended, with what T is of each level, which is its sleeper. Its own future is dropped
-/// first: it may hold handles, whose tasks are queued as they are cancelled.
+/// A run that has not ended. Its own future is dropped first: it may hold handles, whose tasks are queued as
+/// they are cancelled.
 #[derive(Drop)]
-pub(crate) struct Going<T, G, const N: usize> {
+pub(crate) struct Going<'a, F, W, R, G, const N: usize>
+where
+    F: Future<TaskWaker<W, R>>,
+    W: Wake,
+    R: Wait + Clone + Drop,
+    G: Future<W>,
+{
     pub(crate) own: G,
-    pub(crate) sleepers: LevelSleepers<T, N>,
+    pub(crate) sleepers: LevelSleepers<Sleeper<'a, F, W, R>, N>,
     // Whether the last poll left it among the sleepers of every level.
     pub(crate) is_asleep: bool,
+    // A caller is proved only if what it borrows stands outside of a list, too.
+    pub(crate) of: PhantomData<&'a Executor<F, W, R>>,
 }
 
-impl<F, W, R, G, const N: usize> Going<Sleeper<'_, F, W, R>, G, N>
+impl<F, W, R, G, const N: usize> Going<'_, F, W, R, G, N>
 where
     F: Future<TaskWaker<W, R>>,
     W: Wake,
