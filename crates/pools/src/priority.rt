@@ -1,5 +1,6 @@
 //! Threads that run the tasks of all levels of urgency.
-ghost use Rattle.std.specs.Prelude.{◌≡◌};
+ghost use Rattle.std.specs.Prelude.{◌≡◌, ◌≢◌, IfErr};
+ghost use Rattle.async_utilities.specs.declared.pooling.PoolError.TheVariants.{NoThread};
 
 use async_executor::{Future, TaskWaker};
 use async_utilities::{Done, Driven, PoolError, PoolOf, PoolThread, ThreadWaker, Waiting};
@@ -20,16 +21,22 @@ use std::sync::Wait;
 /// ```text
 /// let levels = Levels::new(PriorityExecutor::new(rt.clone()?, alloc)?);
 /// let pool: PriorityPool<Sum, R, 2> = PoolOf::new(rt.clone()?, alloc, 2, levels)?;
+/// let mut tasks = Vec::new(alloc);
+/// for request in 0..20 {
+///     let level = if request % 5 == 0 { 0 } else { 1 };
+///     tasks.push(pool.executor().spawn(level, Sum::of(request, 1))?)?;
+/// }
+/// let total = total_of(rt, alloc, tasks)?;
+/// for ended in pool.join() {
+///     ended?;
+/// }
+/// Ok(total)
 /// ```
 pub type PriorityPool<F, R, const N: usize> = PoolOf<Levels<F, R, N>, R>;
 
 /// What the threads of a `PriorityPool` drive. It derefs to the executor, to spawn tasks on.
 ///
-/// Example: `uses::serves_by_levels`.
-///
-/// ```text
-/// tasks.push(pool.executor().spawn(level, Sum::of(request, 1))?)?;
-/// ```
+/// Example: `uses::serves_by_levels`, at `PriorityPool`.
 #[derive(Drop)]
 pub struct Levels<F, R, const N: usize>
 where
@@ -46,11 +53,7 @@ where
 {
     /// Those of this executor.
     ///
-    /// Example: `uses::serves_by_levels`.
-    ///
-    /// ```text
-    /// let levels = Levels::new(PriorityExecutor::new(rt.clone()?, alloc)?);
-    /// ```
+    /// Example: `uses::serves_by_levels`, at `PriorityPool`.
     pub fn new(executor: PriorityExecutor<F, ThreadWaker, R, N>) -> Levels<F, R, N>
         ensures { result.executor ≡ executor }
     {
@@ -82,7 +85,9 @@ where
         _number: usize,
         stopped: Waiting<ThreadWaker, R>,
         thread: PoolThread<'_, R>,
-    ) -> Result<Done, PoolError> {
+    ) -> Result<Done, PoolError>
+        ensures refused { IfErr result (λ error. error ≢ NoThread) }
+    {
         thread.until_ready(self.executor.run(stopped)?)
     }
 }
