@@ -9,10 +9,8 @@ last line.
 import glob
 import re
 
-CRATES = "async_executor priority_executor sharded_executor async_utilities pools".split()
+CRATES = "executor_core async_executor priority_executor sharded_executor async_utilities pools".split()
 LONGEST = 12
-# The files whose examples are still lines of a longer caller, each of which stands in the folder uses.
-CUT = [f"crates/async_executor/src/{name}.rt" for name in ("runner/run", "scheduler/many", "waker")]
 
 
 def bodies_in(lines):
@@ -51,11 +49,9 @@ def examples_in(lines):
             said, block = "", []
 
 
-bodies, shown = {}, set()
+bodies = {}
 for path in glob.glob("uses/src/*.rs"):
-    lines = open(path, encoding="utf-8").read().split("\n")
-    bodies.update(bodies_in(lines))
-    shown.update(line.strip() for line in lines)
+    bodies.update(bodies_in(open(path, encoding="utf-8").read().split("\n")))
 
 examples = [
     (path, *example)
@@ -68,9 +64,8 @@ for path, said, block, item in examples:
     callers = re.findall(r"`uses::(\w+)`", said)
     is_short = sum(not line.lstrip().startswith("//") for line in block) <= LONGEST
     is_whole = is_short and any(block == bodies.get(caller) for caller in callers)
-    is_cut = path in CUT and all(line.strip() in shown for line in block)
     is_named = callers and all(caller in bodies for caller in callers)
     is_there = all(pair in stands_at for pair in re.findall(r"`uses::(\w+)`, at `([\w:]+)`", said))
-    if not (is_named and is_there and (not block or is_whole or is_cut)):
+    if not (is_named and is_there and (not block or is_whole)):
         print(f"{path}, {item}: {said}", *block, sep="\n    ")
 print(len(examples))

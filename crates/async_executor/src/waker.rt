@@ -18,12 +18,6 @@ use std::sync::{Arc, Wait};
 /// `Wake`, an executor may be driven from within a task of another one.
 ///
 /// Example: `uses::receives`, whose copy `uses::send` wakes.
-///
-/// ```text
-/// channel.waker = Some(waker);
-/// let waker = channel.waker.take();
-/// waker.wake();
-/// ```
 #[derive(Drop)]
 pub struct TaskWaker<W, R> {
     state: Arc<ExecutorState<W, R>>,
@@ -90,13 +84,7 @@ impl<W: Wake, R: Wait + Clone + Drop> Wake for TaskWaker<W, R> {
     /// Schedules the task if it waits for a wake. If it is being polled, it is scheduled once
     /// that poll ends.
     ///
-    /// Example: `uses::send`, which `uses::receives` calls.
-    ///
-    /// ```text
-    /// if let Some(waker) = waker {
-    ///     waker.wake();
-    /// }
-    /// ```
+    /// Example: `uses::send`, at `Wake`.
     #[inline(always)]
     fn wake(&self) {
         if let Some(mark) = &self.mark {
@@ -119,12 +107,6 @@ impl<W: Wake, R: Wait + Clone + Drop> Wake for TaskWaker<W, R> {
     /// `OutOfMemory` if another share of the state is refused.
     ///
     /// Example: `uses::receives`, whose copy `uses::send` wakes.
-    ///
-    /// ```text
-    /// let (Ok(waker), Some(mut channel)) = (w.copy(), self.channel.try_lock()) else {
-    ///     w.wake();
-    ///     return Poll::Pending;
-    /// ```
     fn copy(&self) -> Result<Self, OutOfMemory> {
         let state = Arc::try_clone(&self.state)?;
         Ok(TaskWaker {

@@ -35,10 +35,16 @@ pub(crate) use worker::WorkerIn;
 
 /// Why there is no run, with the future that it was to run. Nothing else changed.
 ///
-/// Example: `uses::keeps_turns`, which lets it go.
+/// Example: `uses::helped`, which `uses::winds_up` calls.
 ///
 /// ```text
-/// let mut run = executor.run(AllRan { ran, polls: 0 }).ok()?;
+/// match run_until(rt, alloc, executor, task) {
+///     Ok(output) => output.ok(),
+///     Err(refused) => {
+///         refused.into_inner().detach();
+///         None
+///     }
+/// }
 /// ```
 #[derive(Debug, PartialEq, Eq, Drop, Error)]
 pub enum RunError<G> {
@@ -64,13 +70,7 @@ impl<G> RunError<G> {
 
     /// The future that was refused.
     ///
-    /// Example: `uses::helped`, which `uses::winds_up` calls.
-    ///
-    /// ```text
-    /// match run_until(rt, alloc, executor, task) {
-    /// Err(refused) => {
-    ///     refused.into_inner().detach();
-    /// ```
+    /// Example: `uses::helped`, at `RunError`.
     pub fn into_inner(self) -> G
         ensures { result ≡ run_future self }
     {

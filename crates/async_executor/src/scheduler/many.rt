@@ -14,10 +14,14 @@ use thiserror::Error;
 
 /// Why not every future was spawned. Those that were stay, and their handles are in the Vec.
 ///
-/// Example: `uses::spawns_many`, which lets it go.
+/// Example: `uses::spawn_two`, which `uses::winds_up` calls.
 ///
 /// ```text
-/// executor.spawn_many(sums, &mut tasks).ok()?;
+/// let sums = (1..3).map(|number| Sum::of(number, number));
+/// match executor.spawn_many(sums, tasks) {
+///     Ok(_) => Ok(()),
+///     Err(refused) => Err(refused.into_inner()),
+/// }
 /// ```
 #[derive(Debug, PartialEq, Eq, Drop, Error)]
 #[error("no more than {spawned} tasks were spawned")]
@@ -51,13 +55,7 @@ impl<F> SpawnMany<F> {
 
     /// The future that was refused.
     ///
-    /// Example: `uses::spawn_two`, which `uses::winds_up` calls.
-    ///
-    /// ```text
-    /// match executor.spawn_many(sums, tasks) {
-    ///     Ok(_) => Ok(()),
-    ///     Err(refused) => Err(refused.into_inner()),
-    /// ```
+    /// Example: `uses::spawn_two`, at `SpawnMany`.
     pub fn into_inner(self) -> Option<F>
         ensures { result ≡ self.refused }
     {
