@@ -22,7 +22,7 @@ const TURN: u32 = 64;
 /// Example: `uses::runs_levels`.
 ///
 /// ```text
-/// let executor: Levels<R> = PriorityExecutor::new(rt.clone()?, alloc)?;
+/// let executor: TwoLevels<R> = PriorityExecutor::new(rt.clone()?, alloc)?;
 /// let later = executor.spawn(1, Ready::new(1))?;
 /// let urgent = executor.spawn(0, Ready::new(2))?;
 /// let run = executor.run(Zip::new(later, urgent))?;
