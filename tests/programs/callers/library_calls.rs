@@ -126,10 +126,7 @@ fn of_other_executors<R: Wait + Clone + Drop + Send + Sync>(
             "ticks_any_level",
             levels::ticks_any_level(rt, alloc)? == woken,
         ),
-        (
-            "spreads",
-            shards::spreads(rt, alloc)? == [true, true, true],
-        ),
+        ("spreads", shards::spreads(rt, alloc)? == [true, true, true]),
         ("runs_shards", shards::runs_shards(rt, alloc)? == (1, 2)),
     ])
 }
