@@ -52,7 +52,7 @@ def compared(found):
         cells = rows.setdefault(name, ([], []))
         for cell, time in zip(cells, times):
             cell.append(f"{time:,.0f}")
-    return [(f"`{name}`", *map(", ".join, cells)) for name, cells in rows.items()]
+    return [(name, *map(", ".join, cells)) for name, cells in rows.items()]
 
 
 def expected(found):
