@@ -155,7 +155,7 @@ else
     pass "FROM_SMOL.md: what it names is there"
 fi
 
-for page in README.md docs/PROVED.md docs/ARCHITECTURE.md docs/BUGS.md docs/MEASURED.md $callings; do
+for page in README.md docs/PROVED.md docs/ARCHITECTURE.md docs/BUGS.md docs/MEASURED.md docs/PROCESSORS.md $callings; do
     quoted "$page" | while read -r word; do
         # Of a call with its arguments the name has to be there.
         call=${word%%(*}

@@ -52,7 +52,7 @@ def compared(found):
         cells = rows.setdefault(name, ([], []))
         for cell, time in zip(cells, times):
             cell.append(f"{time:,.0f}")
-    return [(f"`{name}`", *map(", ".join, cells)) for name, cells in rows.items()]
+    return [(name, *map(", ".join, cells)) for name, cells in rows.items()]
 
 
 def expected(found):
@@ -74,4 +74,4 @@ def furthest(found):
     for rule, _, _, predicted, measured in predictions(found):
         factors.setdefault(rule, []).append(measured / predicted)
     said = [f"{min(all_of):.2f} to {max(all_of):.2f}" for all_of in factors.values()]
-    return f"By rule, it takes {throughput.listed(said)} times what is predicted."
+    return f"By rule, it takes {throughput.listed(said)} times what is predicted; so the first is a bound."
