@@ -29,7 +29,7 @@ HEADS = {
     "bench": ("row", "one operation", "instructions (the Rust crate)", "nanoseconds"),
     "utilities": ("row", "one operation", "instructions (smol's crates)", "nanoseconds (smol's crates)"),
     "busy": ("work", "runs never park", "the Rust crate", "runs park", "the Rust crate", "tokio 1.24"),
-    "shards": ("row", "one operation", "T", "shards", "one executor", "the Rust crate", "tokio 1.24"),
+    "shards": ("row", "one operation", "shards", "one executor", "the Rust crate", "tokio 1.24"),
     "processors": ("row", "predicted", "measured"),
     "expected": ("what", *map(str, processors.PROCESSORS)),
     "exsim": ("lines", "milliseconds", "million instructions", "peak memory, MB"),
@@ -108,7 +108,8 @@ def rows(kind, found):
         return [(*never, *parked[1:]) for never, parked in zip(found["busy"], found["parked_busy"])]
     if kind == "shards":
         spawner = next(row for row in found["threads"] if row[0] == "one_spawner_T")
-        return [*found["shards"], (*spawner[:3], "-", *spawner[3:], "-")]
+        # The page says that T is 1, 2, 4 but in the last row.
+        return [(*row[:2], *row[3:]) for row in found["shards"]] + [(*spawner[:2], "-", *spawner[3:], "-")]
     if kind == "processors":
         return processors.compared(found)
     if kind == "expected":
