@@ -46,7 +46,7 @@ def examples_in(lines):
         elif said and text.startswith("/// "):
             said += text.removeprefix("///")
         elif said and not text.startswith(("///", "#[")):
-            item = re.match(r"(?:pub )?(?:struct|enum|trait|fn) (\w+)", text)
+            item = re.match(r"(?:pub )?(?:struct|enum|trait|type|fn) (\w+)", text)
             yield said, block, (owner if line != text else "") + (item[1] if item else text)
             said, block = "", []
 
