@@ -9,7 +9,7 @@ last line.
 import glob
 import re
 
-CRATES = "async_executor priority_executor sharded_executor async_utilities pools".split()
+CRATES = "executor_core async_executor priority_executor sharded_executor async_utilities pools".split()
 LONGEST = 12
 # The files whose examples are still lines of a longer caller, each of which stands in the folder uses.
 CUT = [f"crates/async_executor/src/{name}.rt" for name in ("runner/run", "scheduler/many", "waker")]

@@ -67,6 +67,8 @@ pub use ticker::{ListChange, Phase};
 ///
 /// ```text
 /// let mut world: World<(), u64> = World::new(alloc, 4).ok()?;
+/// world.step(Step::Spawn(()));
+/// world.step(Step::TryTick);
 /// world.step(Step::Wake(0));
 /// Some(matches!(world.step(Step::Pend(0)), Reply::Queued(0)))
 /// ```

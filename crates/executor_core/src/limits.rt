@@ -20,13 +20,7 @@ const MOST_LOCAL: usize = 65_536;
 /// The limits of an executor. Its runs keep them. The fields are public, so that a caller writes down those
 /// that differ from `Limits::default()`; whether they are lawful is asked when an executor is made.
 ///
-/// Example: `uses::keeps_turns`.
-///
-/// ```text
-/// let limits = Limits {
-///     turn,
-///     ..Limits::default()
-/// ```
+/// Example: `uses::limits_turns`, at `Executor::new_with`.
 #[derive(Debug, Clone, Copy, PartialEq, Eq)]
 pub struct Limits {
     /// For how many tasks a run's own queue has room: 1 to 65,536.
@@ -50,13 +44,7 @@ impl Limits {
 impl Default for Limits {
     /// Room for 512 tasks, turns of 200 tasks, and a fair part with each 64th task.
     ///
-    /// Example: `uses::keeps_turns`.
-    ///
-    /// ```text
-    /// let limits = Limits {
-    ///     turn,
-    ///     ..Limits::default()
-    /// ```
+    /// Example: `uses::limits_turns`, at `Executor::new_with`.
     fn default() -> Limits
         ensures { result ≡ default_limits }
     {
@@ -70,11 +58,7 @@ impl Default for Limits {
 
 /// Why nothing was made.
 ///
-/// Example: `uses::keeps_turns`, which lets it go.
-///
-/// ```text
-/// let executor = Executor::new_with(rt.clone().ok()?, alloc, limits).ok()?;
-/// ```
+/// Example: `uses::limits_turns`, at `Executor::new_with`, where `?` makes an `io::Error` of it.
 #[derive(Debug, Clone, Copy, PartialEq, Eq, Error)]
 pub enum NewError {
     /// A limit is not in its range. No memory was asked for.

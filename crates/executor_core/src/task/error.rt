@@ -7,11 +7,7 @@ use thiserror::Error;
 
 /// A growth of memory was refused. Nothing else changed.
 ///
-/// Example: `uses::sleeps`, which lets it go.
-///
-/// ```text
-/// let mut tick = executor.tick().ok()?;
-/// ```
+/// Example: `uses::ticks`, at `Executor::tick`, where `?` makes an `io::Error` of it.
 #[derive(Debug, Clone, Copy, PartialEq, Eq, Error)]
 #[error("out of memory")]
 pub struct OutOfMemory;
@@ -30,6 +26,7 @@ impl From<AllocError> for OutOfMemory {
 /// match executor.spawn(future) {
 ///     Ok(task) => Ok(task),
 ///     Err(refused) => Err(refused.into_inner()),
+/// }
 /// ```
 #[derive(Debug, PartialEq, Eq, Drop, Error)]
 pub enum SpawnError<P> {
@@ -45,11 +42,7 @@ pub enum SpawnError<P> {
 impl<P> SpawnError<P> {
     /// The future that was refused.
     ///
-    /// Example: `uses::gives_back`.
-    ///
-    /// ```text
-    /// Err(refused) => Err(refused.into_inner()),
-    /// ```
+    /// Example: `uses::gives_back`, at `SpawnError`.
     pub fn into_inner(self) -> P
         ensures { result ≡ refused_future self }
     {

@@ -6,6 +6,10 @@ use crate::task::error::OutOfMemory;
 /// Example: `uses::send`, which `uses::receives` calls.
 ///
 /// ```text
+/// let mut channel = sender.lock(rt);
+/// channel.number = Some(number);
+/// let waker = channel.waker.take();
+/// drop(channel);
 /// if let Some(waker) = waker {
 ///     waker.wake();
 /// }
@@ -24,13 +28,7 @@ pub trait Wake: Drop {
 
 /// The answer of a poll. It stands for `std::task::Poll`.
 ///
-/// Example: `uses::keeps_turns`.
-///
-/// ```text
-/// if let Poll::Ready(polls) = run.poll(&Nobody) {
-///     return Some(polls);
-/// }
-/// ```
+/// Example: `uses::polls_by_hand`, at `Future`.
 #[derive(Debug, PartialEq, Eq, Drop)]
 pub enum Poll<T> {
     /// The future gave this, and is not to be polled again.
@@ -41,12 +39,13 @@ pub enum Poll<T> {
 
 /// What is polled to its end, by wakers of the type W. It stands for `std::future::Future`.
 ///
-/// Example: `uses::overtakes`, and of two kinds in one type `uses::mixes`.
+/// Example: `uses::polls_by_hand`, of a `Twice`, and of two kinds in one type `uses::mixes`.
 ///
 /// ```text
-/// fn poll(&mut self, _w: &W) -> Poll<u64> {
-///     Poll::Ready(self.ran.fetch_add(1, Ordering::SeqCst))
-/// }
+/// let mut twice = Twice { polls: 0 };
+/// let first = twice.poll(&NoopWaker);
+/// // [Pending, Ready(2)]
+/// [first, twice.poll(&NoopWaker)]
 /// ```
 pub trait Future<W>: Drop {
     /// What it gives in the end.
@@ -58,10 +57,14 @@ pub trait Future<W>: Drop {
 
 /// A future on the heap is polled there, and only its address is moved.
 ///
-/// Example: `uses::boxes`.
+/// Example: `uses::runs_a_box`.
 ///
 /// ```text
-/// runs(rt, alloc, Box::new(alloc, Sum::of(1, 2)).ok()?)
+/// let executor = Executor::new(rt.clone()?, alloc)?;
+/// let future = Box::new(alloc, Ready::new(7))?;
+/// let task = executor.spawn(future)?;
+/// // 7
+/// Ok(run_until(rt, alloc, &executor, task)??)
 /// ```
 impl<W, F: Future<W>> Future<W> for Box<F> {
     type Output = F::Output;
