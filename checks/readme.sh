@@ -229,19 +229,21 @@ else
     pass "each example is in the folder uses"
 fi
 
-# The public calls of these crates whose comment names no example. The machines of ticks and runs, and the
-# words of a search, are in modules that are not public.
+# The public calls and types of these crates whose comment names no example. The machines of ticks and runs,
+# the words of a search, and many types of async_executor are in modules that are not public.
 for source in $(cd crates && find async_executor/src async_utilities/src priority_executor/src \
     sharded_executor/src pools/src -name '*.rt' ! -path '*/machine/*' ! -path '*/runner/words.rt'); do
     awk -v source="$source" '
         /^ *\/\/\/ Example: / { example = 1 }
-        /^ *pub fn / { if (!example) print source ": " $3 }
+        /^ *pub fn / || (/^pub (struct|enum|trait) / && source !~ /^async_executor/) {
+            if (!example) print source ": " $3
+        }
         !/^ *(\/\/\/|#\[)/ { example = 0 }' "crates/$source"
 done > "$copy/log"
 if [ -s "$copy/log" ]; then
-    fail "calls without an example:" "$copy/log"
+    fail "calls and types without an example:" "$copy/log"
 else
-    pass "each public call has an example"
+    pass "each public call and type has an example"
 fi
 
 python3 -B checks/lib/examples.py > "$copy/examples" 2>&1
