@@ -25,6 +25,7 @@ PAGES = ("README.md", "docs/MEASURED.md", "docs/EXSIM.md")
 HEADS = {
     "beside": ("what", "async-executor 1.14.1", "tokio 1.24", "the kit's futures and tokio", "here"),
     "bench": ("row", "one operation", "instructions (the Rust crate)", "nanoseconds"),
+    "utilities": ("row", "one operation", "instructions (smol's crates)", "nanoseconds (smol's crates)"),
     "busy": ("work", "runs never park", "the Rust crate", "runs park", "the Rust crate", "tokio 1.24"),
     "shards": ("row", "one operation", "T", "shards", "one executor", "the Rust crate", "tokio 1.24"),
     "exsim": ("lines", "milliseconds", "million instructions", "peak memory, MB"),
@@ -61,13 +62,19 @@ def commands(found):
 
 
 def families(rows):
-    """Rows whose names differ in their last number alone, one after another, as one row."""
+    """Rows whose names differ in their last number alone, one after another, as one row: instructions, and
+    nanoseconds, here and of others."""
     for _, family in itertools.groupby(rows, lambda row: row[0].rstrip("0123456789")):
         (name, said, *_), *others = family = list(family)
         names = [f"`{name}`", *(re.search(r"\d+$", row[0])[0] for row in others)]
         cells = zip(*(row[2:] for row in family))
-        ours, theirs, times = ("-" if set(cell) == {"-"} else ", ".join(cell) for cell in cells)
-        yield ", ".join(names), said, ours if theirs == "-" else f"{ours} ({theirs})", times
+        ours, theirs, *times = ("-" if set(cell) == {"-"} else ", ".join(cell) for cell in cells)
+        yield ", ".join(names), said, next_to(ours, theirs), next_to(*times)
+
+
+def next_to(ours, theirs="-"):
+    """Figures here, and those of others in brackets, if there are any."""
+    return ours if theirs == "-" else f"{ours} ({theirs})"
 
 
 def medians(times):
@@ -91,8 +98,8 @@ def rows(kind, found):
     """The rows of a table of this kind."""
     if kind == "beside":
         return beside(found)
-    if kind == "bench":
-        return list(families(found["bench"]))
+    if kind in ("bench", "utilities"):
+        return list(families(found[kind]))
     if kind == "busy":
         return [(*never, *parked[1:]) for never, parked in zip(found["busy"], found["parked_busy"])]
     if kind == "shards":
