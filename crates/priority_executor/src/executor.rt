@@ -11,7 +11,6 @@ use async_executor::{
     Executor, Future, OutOfMemory, RunError, Sleeper, SpawnError, Task, TaskWaker, Wake,
 };
 use std::alloc::Global;
-use std::marker::PhantomData;
 use std::sync::Wait;
 
 /// An executor that runs the tasks of lower levels first, of which it has N, named 0 to N - 1.
@@ -159,7 +158,7 @@ where
                     own: future,
                     sleepers,
                     is_asleep: false,
-                    of: PhantomData,
+                    levels: &self.levels,
                 }),
             }),
             Err(OutOfMemory) => Err(RunError::OutOfMemory(future)),

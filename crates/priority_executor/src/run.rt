@@ -4,7 +4,6 @@ ghost use Rattle.async_executor.specs.Answers.{is_ready};
 
 use crate::tick::LevelSleepers;
 use async_executor::{Executor, Future, Poll, Sleeper, TaskWaker, Wake};
-use std::marker::PhantomData;
 use std::sync::Wait;
 
 /// A poll of a run runs so many tasks at most: then it polls its own future again.
@@ -56,7 +55,7 @@ where
     // Whether the last poll left it among the sleepers of every level.
     pub(crate) is_asleep: bool,
     // A caller is proved only if what it borrows stands outside of a list, too.
-    pub(crate) of: PhantomData<&'a Executor<F, W, R>>,
+    pub(crate) levels: &'a Vec<Executor<F, W, R>>,
 }
 
 impl<F, W, R, G, const N: usize> Going<'_, F, W, R, G, N>
