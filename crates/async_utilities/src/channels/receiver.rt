@@ -61,7 +61,8 @@ impl<T: Drop, S: Wake, V: Wake, R: Wait + Drop> Channel<T, S, V, R> {
     // Takes so many messages at most, under one lock unless senders are to be woken between them.
     fn receive_many(&self, messages: &mut Vec<T>, most: usize) -> Result<usize, NoMessage>
         requires { vec_len messages.old + most ≤ vec_capacity messages.old }
-        ensures count { IfOk result (λ n. (n ≤ most) × (vec_len messages.new ≡ vec_len messages.old + n)) }
+        ensures most { IfOk result (λ n. n ≤ most) }
+        ensures count { IfOk result (λ n. vec_len messages.new ≡ vec_len messages.old + n) }
         ensures front { take (vec_len messages.old) messages.new.items ≡ messages.old.items }
         ensures none { OnErr result (messages.new.items ≡ messages.old.items) }
         ensures room { vec_capacity messages.new ≡ vec_capacity messages.old }
@@ -204,7 +205,8 @@ impl<T: Drop, S: Wake, V: Wake, R: Wait + Drop> Receiver<T, S, V, R> {
     ///
     /// Example: `uses::takes_many`.
     pub fn try_receive_many(&self, messages: &mut Vec<T>, limit: usize) -> Result<usize, NoMessage>
-        ensures count { IfOk result (λ n. (n ≤ limit) × (vec_len messages.new ≡ vec_len messages.old + n)) }
+        ensures limit { IfOk result (λ n. n ≤ limit) }
+        ensures count { IfOk result (λ n. vec_len messages.new ≡ vec_len messages.old + n) }
         ensures front { take (vec_len messages.old) messages.new.items ≡ messages.old.items }
         ensures none { OnErr result (messages.new.items ≡ messages.old.items) }
         ensures room { vec_capacity messages.new ≡ vec_capacity messages.old }

@@ -131,15 +131,15 @@ impl<T: Drop, S: Drop, V: Drop> State<T, S, V> {
 
     /// Takes so many messages at most, the first one first, until there is none or a sender is to be
     /// woken, and puts them behind those of the list, which has room for all.
-    pub(crate) fn receive_many(&mut self, messages: &mut Vec<T>, most: usize) -> Batch<S>
-        requires { vec_len messages.old + most ≤ vec_capacity messages.old }
-        ensures taken { ReceivesMany self.old messages.old.items most result messages.new.items self.new }
-        ensures room { vec_capacity messages.new ≡ vec_capacity messages.old }
+    pub(crate) fn receive_many(&mut self, list: &mut Vec<T>, most: usize) -> Batch<S>
+        requires { vec_len list.old + most ≤ vec_capacity list.old }
+        ensures taken { ReceivesMany self.old list.old.items most result list.new.items self.new }
+        ensures room { vec_capacity list.new ≡ vec_capacity list.old }
     {
         for count in 0..most {
             let due = match self.receive() {
                 Received::Message(message, due) => {
-                    messages.push_reserved(message);
+                    list.push_reserved(message);
                     due
                 }
                 Received::Empty | Received::Closed => {
