@@ -23,7 +23,6 @@ const ON_ONE_THREAD: [Named; 34] = [
     ("idle_thousand", Row::WakeOneOf(1_000)),
     ("idle_million", Row::WakeOneOf(1_000_000)),
     ("spawn_tick", Row::SpawnTick),
-    ("job_try_tick", Row::JobTryTick),
     ("yield_tick", Row::YieldTick),
     ("sleep_wake", Row::SleepWake),
     ("priority_try_tick", Row::PriorityTryTick),

@@ -4,7 +4,6 @@ use crate::busy::Busy;
 use crate::closing::{close_idle, close_queued, drop_idle};
 use crate::crossing::Crossing;
 use crate::futures::{IdleWaker, Large, Yields};
-use crate::jobs::job_try_tick;
 use crate::locking::Locking;
 use crate::messaging::Messaging;
 use crate::names;
@@ -54,8 +53,6 @@ pub enum Row {
     WakeOneOf(usize),
     /// Spawn, detach and run a task, by a tick of its own.
     SpawnTick,
-    /// Hand in a job by a spawner, and run the task that a server has made of it.
-    JobTryTick,
     /// Run one task that wakes itself, by a tick for each of its polls.
     YieldTick,
     /// Put a tick to sleep, wake it by a spawn, and have it run the task.
@@ -220,7 +217,6 @@ impl Row {
             Row::Locking(row) => row.run(rt, alloc, operations),
             Row::WakeIdle => wake_idle(rt, alloc, operations),
             Row::SpawnTick => spawn_tick(rt, alloc, operations),
-            Row::JobTryTick => job_try_tick(rt, alloc, operations),
             Row::YieldTick => yield_tick(rt, alloc, operations),
             Row::SleepWake => sleep_wake(rt, alloc, operations),
             Row::PriorityTryTick => priority_try_tick(rt, alloc, operations),
