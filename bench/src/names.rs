@@ -11,7 +11,7 @@ use std::alloc::{AllocError, Global};
 pub type Named = (&'static str, Row);
 
 /// Rows of executors on one thread.
-const ON_ONE_THREAD: [Named; 34] = [
+const ON_ONE_THREAD: [Named; 33] = [
     ("spawn_try_tick", Row::SpawnTryTick),
     ("spawn_drain", Row::SpawnDrain),
     ("yield_try_tick", Row::YieldTryTick),

@@ -96,7 +96,7 @@ pub enum Word {
     Leave,
     NoCopy,
     Yield,
-    FutureTable,
+    Store,
     ExchangeBegins,
     Exchange,
     Notify,

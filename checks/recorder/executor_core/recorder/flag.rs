@@ -17,7 +17,7 @@ impl Flag {
     pub fn store<X, W>(&self, change: Change<X>, sleepers: &mut Sleepers<W>) -> X {
         let answer = if change.notified { Answer::True } else { Answer::False };
         let carried = self.store_it(change, sleepers);
-        step(Word::FutureTable, 0, answer, 0);
+        step(Word::Store, 0, answer, 0);
         carried
     }
 }
