@@ -214,7 +214,7 @@ else
 fi
 
 for crate in executor_core async_executor priority_executor sharded_executor async_utilities pools simulation digests mandelbrot \
-    starter; do
+    starter bank; do
     (cd crates/$crate/src && find . -name '*.rt') | sed 's/^\.\///; s/\.rt$//' |
         grep -vxE 'lib|main|tests(/.*)?' | sort > "$copy/wanted"
     quoted docs/ARCHITECTURE.md | grep -Fxf "$copy/wanted" | sort > "$copy/said"
