@@ -13,33 +13,47 @@ use std::time::{Duration, Instant};
 /// How many tasks wake themselves.
 const TASKS: u64 = 10_000;
 
+/// Where a thread parks, on cache lines of its own: a run that is busy wakes itself, and then takes that
+/// back, with each of its turns.
+#[derive(Drop)]
+struct Lone {
+    _before: [u64; 16],
+    parker: Parker,
+    _behind: [u64; 16],
+}
+
 /// Unparks the thread that parks here.
 #[derive(Drop)]
 pub struct ThreadWaker {
-    parker: Arc<Parker>,
+    lone: Arc<Lone>,
 }
 
 impl ThreadWaker {
     pub fn new(alloc: Global) -> Result<ThreadWaker, AllocError> {
+        let lone = Lone {
+            _before: [0; 16],
+            parker: Parker::new(),
+            _behind: [0; 16],
+        };
         Ok(ThreadWaker {
-            parker: Arc::new(alloc, Parker::new())?,
+            lone: Arc::new(alloc, lone)?,
         })
     }
 
     /// Parks, unless it was woken since the thread parked last.
     pub fn park(&self, rt: &impl Wait) {
-        self.parker.park(rt);
+        self.lone.parker.park(rt);
     }
 }
 
 impl Wake for ThreadWaker {
     fn wake(&self) {
-        self.parker.unpark();
+        self.lone.parker.unpark();
     }
 
     fn copy(&self) -> Result<Self, OutOfMemory> {
-        let parker = Arc::try_clone(&self.parker)?;
-        Ok(ThreadWaker { parker })
+        let lone = Arc::try_clone(&self.lone)?;
+        Ok(ThreadWaker { lone })
     }
 }
 

@@ -86,7 +86,9 @@ impl<W: Wake, R: Wait + Clone + Drop> Future<TaskWaker<W, R>> for Works<'_> {
 }
 
 // Goes so many steps of a chain, in which each waits for the one before. Each step takes no other number
-// than 0 to 0, so its end is never 0, which the compiler does not know.
+// than 0 to 0, so its end is never 0, which the compiler does not know. It is one body for all places that
+// poll a task, so that a poll works as long by a run as by one who helps.
+#[inline(never)]
 fn has_worked(seed: u64, steps: u32) -> bool {
     let mut word = seed | 1;
     for _ in 0..steps {

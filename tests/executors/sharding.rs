@@ -71,6 +71,32 @@ fn tasks_go_to_the_shards_in_turn(rt: HostRuntime) -> Result<(), Fail> {
     Ok(())
 }
 
+// How many tasks stand in each of two shards after so many spawns.
+fn spread<R: Wait + AllocGlobal + Clone + Drop + Send + Sync>(
+    rt: &R,
+    spawns: u64,
+) -> Result<[u64; 2], Fail> {
+    let ran = Arc::new(rt.alloc(), AtomicU64::new(0))?;
+    let ex = shards(rt, 2)?;
+    for _ in 0..spawns {
+        ex.spawn(digit(1, &ran)?).ok().ok_or("refused")?.detach();
+    }
+    let mut counts = [0u64; 2];
+    for (number, count) in counts.iter_mut().enumerate() {
+        while number < ex.shards() && ex.shard(number).try_tick() {
+            *count = count.wrapping_add(1);
+        }
+    }
+    Ok(counts)
+}
+
+#[test]
+fn many_tasks_go_to_each_shard_in_a_row(rt: HostRuntime) -> Result<(), Fail> {
+    let counts = [spread(&rt, 31)?, spread(&rt, 32)?, spread(&rt, 47)?, spread(&rt, 50)?, spread(&rt, 65)?];
+    assert_eq!(rt; counts, [[16, 15], [16, 16], [31, 16], [32, 18], [33, 32]]);
+    Ok(())
+}
+
 #[test]
 fn try_tick_any_asks_the_shards_in_order(rt: HostRuntime) -> Result<(), Fail> {
     let ran = Arc::new(rt.alloc(), AtomicU64::new(0))?;

@@ -1,5 +1,5 @@
 //! The shards.
-ghost use Rattle.std.specs.Prelude.{◌≡◌, ◌↔◌, ◌<◌, ◌^◌, All, false, IfOk, IfErr, IsErr, vec_len};
+ghost use Rattle.std.specs.Prelude.{◌≡◌, ◌↔◌, ◌<◌, ◌≤◌, ◌^◌, ◌%◌, ◌/◌, All, false, IfOk, IfErr, IsErr, vec_len};
 ghost use Rattle.executor_core.specs.Limits.{is_lawful, default_limits};
 ghost use Rattle.executor_core.specs.SpawnError.{refused_future};
 ghost use Rattle.async_executor.specs.RunError.{run_future};
@@ -18,6 +18,9 @@ use std::sync::atomic::Ordering;
 /// So many words lie unused before and behind what each shard allocates as it is made, so that no two shards
 /// have parts on neighbouring cache lines.
 const UNUSED: usize = 512;
+
+/// So many tasks a shard are spread one by one, and after that so many in a row go to each.
+const IN_A_ROW: u64 = 16;
 
 /// An executor of N shards, each of which is an `Executor`.
 ///
@@ -54,7 +57,7 @@ where
     unused: Vec<Vec<u64>>,
     // How many turns the runs of each shard had.
     turns: Vec<Count>,
-    // To which shard the next spawn goes, modulo their number.
+    // How many spawns there were, modulo 2^64.
     next: Count,
     alloc: Global,
     ghost some: { 0 < vec_len shards },
@@ -118,9 +121,11 @@ where
         }
     }
 
-    /// Schedules the future as a new task of the next shard in turn, behind all of that shard that are
-    /// scheduled. It takes no lock to find that shard: threads that spawn at once meet at one atomic
-    /// count. One that has a shard of its own spawns there, by `shard`.
+    /// Schedules the future as a new task of a shard, behind all of that shard that are scheduled. The
+    /// first sixteen tasks of each shard go to the shards in turn, so that few tasks are spread; after
+    /// that sixteen in a row go to each shard in turn, so that many cost less. It takes no lock to find
+    /// the shard: threads that spawn at once meet at one atomic count. One that has a shard of its own
+    /// spawns there, by `shard`.
     ///
     /// # Errors
     ///
@@ -133,9 +138,26 @@ where
         ensures refused { IfErr result (λ e. refused_future e ≡ future) }
     {
         // One count for all: one for each thread would need a place for it.
-        let shard = self.next.count.fetch_add(1, Ordering::SeqCst) % self.shards.len() as u64;
-        self.shards[shard as usize].spawn(future)
+        let number = self.next.count.fetch_add(1, Ordering::SeqCst);
+        self.shards[shard_of(number, self.shards.len())].spawn(future)
     }
+}
+
+// The shard of the spawn of this number, of so many shards. Who spawns on another shard than before takes
+// the cache lines of that shard from the thread that runs it, and gives them back.
+fn shard_of(number: u64, shards: usize) -> usize
+    requires { 0 < shards }
+    ensures inside { result < shards }
+    ensures first { number / shards < 16 → result ≡ number % shards }
+    ensures later { 16 ≤ number / shards → result ≡ number / 16 % shards }
+{
+    let shards = shards as u64;
+    let turn = if number / shards < IN_A_ROW {
+        number
+    } else {
+        number / IN_A_ROW
+    };
+    (turn % shards) as usize
 }
 
 // So many counts of nothing.
