@@ -8,8 +8,8 @@ With the argument --check nothing is written: each page that does not say what d
 is named, and the last line counts the pages.
 
 The arguments --busy FILE put what FILE says of the polls that work into docs/figures.txt first. Its
-lines are 'value WHO ROW NANOSECONDS ..': WHO is ours, rust or tokio, ROW busy_W_T or parked_busy_W_T,
-and each number is that of a pass. A line 'swept ..' says how they were taken. Its other lines are
+lines are 'value WHO ROW NANOSECONDS ..': WHO is ours, rust or tokio, ROW busy_W_T, parked_busy_W_T or
+sharded_busy_W_T, and each number is that of a pass. A line 'swept ..' says how they were taken. Its other lines are
 left out.
 """
 import itertools
@@ -28,7 +28,7 @@ HEADS = {
     "beside": ("what", "async-executor 1.14.1", "tokio 1.24", "the kit's futures and tokio", "here"),
     "bench": ("row", "one operation", "instructions (the Rust crate)", "nanoseconds"),
     "utilities": ("row", "one operation", "instructions (smol's crates)", "nanoseconds (smol's crates)"),
-    "busy": ("work", "runs never park", "the Rust crate", "runs park", "the Rust crate", "tokio 1.24"),
+    "busy": ("work", "runs never park", "by shards", "the Rust crate", "runs park", "the Rust crate", "tokio 1.24"),
     "shards": ("row", "one operation", "shards", "one executor", "the Rust crate", "tokio 1.24"),
     "processors": ("row", "predicted", "measured"),
     "expected": ("what", *map(str, processors.PROCESSORS)),
@@ -105,7 +105,8 @@ def rows(kind, found):
     if kind in ("bench", "utilities"):
         return list(families(found[kind]))
     if kind == "busy":
-        return [(*never, *parked[1:]) for never, parked in zip(found["busy"], found["parked_busy"])]
+        by_kind = zip(*(found[kind] for kind in throughput.SWEPT))
+        return [(*never[:2], *shards[1:], never[2], *parked[1:]) for never, parked, shards in by_kind]
     if kind == "shards":
         spawner = next(row for row in found["threads"] if row[0] == "one_spawner_T")
         # The page says that T is 1, 2, 4 but in the last row.
