@@ -28,7 +28,7 @@ HEADS = {
     "beside": ("what", "async-executor 1.14.1", "tokio 1.24", "the kit's futures and tokio", "here"),
     "bench": ("row", "one operation", "instructions (the Rust crate)", "nanoseconds"),
     "utilities": ("row", "one operation", "instructions (smol's crates)", "nanoseconds (smol's crates)"),
-    "busy": ("work", "runs never park", "by shards", "the Rust crate", "runs park", "the Rust crate", "tokio 1.24"),
+    "busy": ("work", "runs never park", "the Rust crate", "runs park", "by shards", "the Rust crate", "tokio 1.24"),
     "shards": ("row", "one operation", "shards", "one executor", "the Rust crate", "tokio 1.24"),
     "processors": ("row", "predicted", "measured"),
     "expected": ("what", *map(str, processors.PROCESSORS)),
@@ -106,7 +106,7 @@ def rows(kind, found):
         return list(families(found[kind]))
     if kind == "busy":
         by_kind = zip(*(found[kind] for kind in throughput.SWEPT))
-        return [(*never[:2], *shards[1:], never[2], *parked[1:]) for never, parked, shards in by_kind]
+        return [(*never, parked[1], *shards[1:], *parked[2:]) for never, parked, shards in by_kind]
     if kind == "shards":
         spawner = next(row for row in found["threads"] if row[0] == "one_spawner_T")
         # The page says that T is 1, 2, 4 but in the last row.

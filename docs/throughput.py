@@ -10,7 +10,7 @@ import statistics
 import textwrap
 
 KINDS = {"busy": "runs that never park", "parked_busy": "runs that park"}
-# These, and the shards beside them, whose runs never park.
+# These, and the shards beside them, whose runs park.
 SWEPT = (*KINDS, "sharded_busy")
 THREADS = {1: "one thread", 2: "two threads", 4: "four threads"}
 # What draws an executor: its name here, in a file of passes and in the style, its dashes, its mark.
@@ -19,16 +19,12 @@ DRAWN = (
     ("the Rust crate", "rust", "7 4", '<rect x="{x0:g}" y="{y0:g}" width="8" height="8"/>'),
     ("tokio 1.24", "tokio", "2 4", '<path d="M{x:g} {y0:g}l5 9h-10z"/>'),
 )
-# A ShardedExecutor, in the same way.
-SHARDS = ("here, by shards", "shards", "9 3 2 3", '<path d="M{x:g} {y0:g}l5 6l-5 6l-5-6z"/>')
 # The colors of a light page, and those of a dark one.
 COLORS = (
     "text{fill:#1f2328}.ground{fill:#ffffff}.grid{stroke:#dfe3e8}.ideal{stroke:#8a929c}"
-    ".ours{fill:#1f5fa8;stroke:#1f5fa8}.rust{fill:#b8500f;stroke:#b8500f}.tokio{fill:#3c7a3c;stroke:#3c7a3c}"
-    ".shards{fill:#7a3fb0;stroke:#7a3fb0}",
+    ".ours{fill:#1f5fa8;stroke:#1f5fa8}.rust{fill:#b8500f;stroke:#b8500f}.tokio{fill:#3c7a3c;stroke:#3c7a3c}",
     "text{fill:#e6edf3}.ground{fill:#0d1117}.grid{stroke:#30363d}"
-    ".ours{fill:#6cb0ff;stroke:#6cb0ff}.rust{fill:#f0883e;stroke:#f0883e}.tokio{fill:#56d364;stroke:#56d364}"
-    ".shards{fill:#c297ff;stroke:#c297ff}",
+    ".ours{fill:#6cb0ff;stroke:#6cb0ff}.rust{fill:#f0883e;stroke:#f0883e}.tokio{fill:#56d364;stroke:#56d364}",
 )
 STYLE = f"<style>{COLORS[0]}@media(prefers-color-scheme:dark){{{COLORS[1]}}}</style>"
 WIDTH = 720
@@ -148,7 +144,7 @@ def panel(threads, bottom, works, all_worth):
             f'<line x1="{LEFT}" y1="{height(processors):g}" x2="{right}" y2="{height(processors):g}" {stroke}/>',
             f'<text x="{LEFT - 8}" y="{height(processors) + 4:g}" text-anchor="end">{processors}</text>',
         ]
-    for (_, *look), of_executor in reversed(list(zip((*DRAWN, SHARDS), all_worth))):
+    for (_, *look), of_executor in reversed(list(zip(DRAWN, all_worth))):
         points = [(x, height(y)) for x, y in zip(places, of_executor[threads])]
         lines.append(curve(points, *look))
     for x, work in zip(places, works):
@@ -161,8 +157,7 @@ def description(works, all_worth):
     sentences = []
     for threads in THREADS:
         for place, work in enumerate(works):
-            both = zip((*DRAWN, SHARDS), all_worth)
-            values = [f"{name} {of[threads][place]:.2f}" for (name, *_), of in both]
+            values = [f"{name} {of[threads][place]:.2f}" for (name, *_), of in zip(DRAWN, all_worth)]
             sentences.append(f"On {THREADS[threads]}, polls of {said(work)}: {', '.join(values)}.")
     return " ".join(sentences)
 
@@ -173,7 +168,7 @@ def legend(y):
         f'<line x1="{LEFT}" y1="{y}" x2="{LEFT + 34}" y2="{y}" class="ideal" stroke-width="3"/>',
         f'<text x="{LEFT + 44}" y="{y + 5}">ideal</text>',
     ]
-    for x, (name, *look) in zip((LEFT + 100, LEFT + 190, LEFT + 350, LEFT + 490), (*DRAWN, SHARDS)):
+    for x, (name, *look) in zip((LEFT + 130, LEFT + 260, LEFT + 450), DRAWN):
         lines += [curve([(x, y), (x + 34, y)], *look), f'<text x="{x + 44}" y="{y + 5}">{name}</text>']
     return lines
 
@@ -191,8 +186,7 @@ def picture(found):
     """The work that is done in a time, as so many processors, over the work of a poll."""
     rows = [row for row in found["parked_busy"] if row[0] != "0"]
     works = [number(row[0]) for row in rows]
-    shards = [row for row in found["sharded_busy"] if row[0] != "0"]
-    all_worth = [*(worth(rows, executor) for executor in range(len(DRAWN))), worth(shards, 0)]
+    all_worth = [worth(rows, executor) for executor in range(len(DRAWN))]
     lines, bottom = legend(74), 100
     for threads in THREADS:
         bottom += 34 + PROCESSOR * threads
@@ -208,8 +202,8 @@ def picture(found):
             STYLE,
             f'<rect class="ground" width="{WIDTH}" height="{height}"/>',
             f'<text x="10" y="24" font-size="15">{title}</text>',
-            '<text x="10" y="46" font-size="13">Each task wakes itself in each poll. Runs of shards never park, '
-            "the others do. Medians.</text>",
+            '<text x="10" y="46" font-size="13">Each task wakes itself in each poll. The runs park while '
+            "there is nothing to run. Medians.</text>",
             *lines,
             f'<text x="{WIDTH // 2}" y="{height - 10}" text-anchor="middle">work in each poll</text>',
             "</svg>",
