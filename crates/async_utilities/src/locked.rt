@@ -7,13 +7,14 @@ use std::hint::spin_loop;
 use std::sync::{Mutex, MutexGuard, Wait};
 
 // How often a thread tries again before it sleeps.
-const TRIES: u32 = 12;
+const TRIES: u32 = 8;
 
 // Its first pause and its longest, in spins of the processor. A spin takes 12 cycles on some processors and
-// 140 on others, and all pauses together have 2,288.
-const SHORTEST: u32 = 16;
+// 140 on others, and all pauses together have 6,016. A thread that tries sooner takes the line of the lock from
+// the one that holds it.
+const SHORTEST: u32 = 128;
 
-const LONGEST: u32 = 256;
+const LONGEST: u32 = 1024;
 
 /// Waits for a lock.
 #[inline(always)]
