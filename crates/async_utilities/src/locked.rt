@@ -10,8 +10,8 @@ use std::sync::{Mutex, MutexGuard, Wait};
 const TRIES: u32 = 8;
 
 // Its first pause and its longest, in spins of the processor. A spin takes 12 cycles on some processors and
-// 140 on others, and all pauses together have 6,016. A thread that tries sooner takes the line of the lock from
-// the one that holds it.
+// 140 on others, and all pauses together have 6,016. A thread that tries sooner takes the line of the lock
+// from the one that holds it.
 const SHORTEST: u32 = 128;
 
 const LONGEST: u32 = 1024;
