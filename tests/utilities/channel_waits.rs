@@ -221,6 +221,29 @@ fn a_closed_channel_gives_what_is_inside_and_takes_nothing(rt: HostRuntime) -> R
     Ok(())
 }
 
+// What a channel says of itself.
+fn looks<R: Wait + Drop>(sender: &Sender<u64, TestWaker, TestWaker, R>) -> (usize, [bool; 3]) {
+    let channel = sender.channel();
+    (channel.len(), [channel.is_empty(), channel.is_full(), channel.is_closed()])
+}
+
+// What a channel with room for one message says: before it, with it inside, and closed.
+fn says<R: AllocGlobal + Wait + Clone + Drop>(rt: &R) -> Result<[(usize, [bool; 3]); 3], Fail> {
+    let (sender, receiver) = channel(rt, 1)?;
+    let first = looks(&sender);
+    sent(sender.try_send(1))?;
+    let second = looks(&sender);
+    receiver.channel().close();
+    Ok([first, second, looks(&sender)])
+}
+
+#[test]
+fn a_channel_says_what_is_inside_and_whether_it_is_closed(rt: HostRuntime) -> Result<(), Fail> {
+    let wanted = [(0, [true, false, false]), (1, [false, true, false]), (1, [false, true, true])];
+    assert_eq!(rt; says(&rt)?, wanted);
+    Ok(())
+}
+
 // The counts of a channel that has taken so many messages, and its ends.
 fn counts<R: AllocGlobal + Wait + Clone + Drop>(
     rt: &R,

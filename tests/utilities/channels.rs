@@ -108,6 +108,47 @@ fn a_channel_without_receivers_gives_the_message_back(rt: HostRuntime) -> Result
     Ok(())
 }
 
+// What three polls of a sender answer, and what is left of the message.
+#[derive(Debug, PartialEq, Drop)]
+struct PolledSends {
+    answers: [Poll<Result<(), u64>>; 3],
+    left: [Option<u64>; 2],
+    wakes: u64,
+    last: Result<u64, NoMessage>,
+}
+
+// Sends by the polls of a sender to a channel with room for one message, and makes room after the second.
+fn polls_to_send<R: AllocGlobal + Wait + Clone + Drop>(rt: &R) -> Result<PolledSends, Fail> {
+    let waker = new_waker(rt.alloc())?;
+    let (mut sender, receiver) = channel(rt, 1)?;
+    let (mut one, mut two) = (Some(1), Some(2));
+    let first = sender.poll_send(&waker, &mut one);
+    let second = sender.poll_send(&waker, &mut two);
+    let kept = two;
+    if receiver.try_receive() != Ok(1) {
+        return Err("another message".into());
+    }
+    let third = sender.poll_send(&waker, &mut two);
+    Ok(PolledSends {
+        answers: [first, second, third],
+        left: [kept, two],
+        wakes: wakes(&waker),
+        last: receiver.try_receive(),
+    })
+}
+
+#[test]
+fn a_sender_sends_by_its_polls_once_there_is_room(rt: HostRuntime) -> Result<(), Fail> {
+    let wanted = PolledSends {
+        answers: [Poll::Ready(Ok(())), Poll::Pending, Poll::Ready(Ok(()))],
+        left: [Some(2), None],
+        wakes: 1,
+        last: Ok(2),
+    };
+    assert_eq!(rt; polls_to_send(&rt)?, wanted);
+    Ok(())
+}
+
 // Two receivers wait, one after the other. Gives how often each was woken after one message, and
 // after the last sender is gone.
 fn tells<R: AllocGlobal + Wait + Clone + Drop>(rt: &R) -> Result<[[u64; 2]; 2], Fail> {

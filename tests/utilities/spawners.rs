@@ -286,8 +286,8 @@ fn so_many_tasks_run_at_once(rt: HostRuntime) -> Result<(), Fail> {
     Ok(())
 }
 
-// Hands in jobs until one comes back, of whose tasks none ends before. Says what came back, and whether
-// all others were done.
+// Hands in jobs until one comes back, of whose tasks none ends before. Says whether those that there is room
+// for were taken and another one came back, and whether all that were taken were done.
 fn fills<R: AllocGlobal + Wait + Threads + Clone + Drop + Send + Sync + 'static>(
     rt: &R,
 ) -> Result<(bool, bool), Fail> {
@@ -305,7 +305,7 @@ fn fills<R: AllocGlobal + Wait + Threads + Clone + Drop + Send + Sync + 'static>
     let handles = spawned(rt, &pool, servers)?;
     let mut taken = 0u32;
     let mut is_full = false;
-    // One task runs, and two jobs wait: at least one of four comes back.
+    // One task runs, and two jobs wait: two are taken at least, and one of four comes back at least.
     for number in 0..4 {
         match jobs.spawner().spawn(number) {
             Ok(()) => taken += 1,
@@ -314,7 +314,7 @@ fn fills<R: AllocGlobal + Wait + Threads + Clone + Drop + Send + Sync + 'static>
         }
     }
     gate.is_open.store(true, Ordering::SeqCst);
-    Ok((is_full, ended(rt, jobs, handles)? == u64::from(taken)))
+    Ok((is_full && taken >= 2, ended(rt, jobs, handles)? == u64::from(taken)))
 }
 
 #[test]

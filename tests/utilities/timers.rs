@@ -88,6 +88,28 @@ fn a_deadline_is_reached_at_its_time_and_not_before(rt: HostRuntime) -> Result<(
     Ok(())
 }
 
+// Polls one that is due at 10, and again once another reading of the clock has reached that, before a firing.
+// Gives what the second poll says, and how often the waker was woken by the firing.
+fn is_ready_first<R: AllocGlobal + Wait + Clone + Drop>(
+    rt: &R,
+) -> Result<(Option<u128>, u64), Fail> {
+    let (timer, clock) = timer(rt)?;
+    let waker = new_waker(rt.alloc())?;
+    let mut after = timer.after(nanos(10))?;
+    reached(&mut after, &waker);
+    clock.set(10);
+    timer.after(nanos(1))?;
+    let second = reached(&mut after, &waker);
+    fire(&timer)?;
+    Ok((second, wakes(&waker)))
+}
+
+#[test]
+fn one_that_is_ready_before_a_firing_is_not_woken(rt: HostRuntime) -> Result<(), Fail> {
+    assert_eq!(rt; is_ready_first(&rt)?, (Some(10), 0));
+    Ok(())
+}
+
 // Writes its number behind those that were written before.
 #[derive(Drop)]
 struct Writer {

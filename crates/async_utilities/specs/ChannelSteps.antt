@@ -81,6 +81,7 @@ module _ {T S V : Type 0} where
   Closes old None new = (old.is_closed ≡ true) × Same old new
   Closes old (Some closing) new =
       (old.is_closed ≡ false) × (new.is_closed ≡ true) × (new.messages.items ≡ old.messages.items)
+      × (new.capacity ≡ old.capacity) × (new.senders.ends ≡ old.senders.ends) × (new.receivers.ends ≡ old.receivers.ends)
       × (closing.senders.waiters ≡ old.senders.waiters) × (closing.receivers.waiters ≡ old.receivers.waiters)
       × AreGone new.senders.waiters new.receivers.waiters
 

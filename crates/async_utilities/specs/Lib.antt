@@ -7,6 +7,7 @@ pub mod Events
 pub mod Halves
 pub mod Joining
 pub mod Joins
+pub mod Kinds
 pub mod Links
 pub mod Mutexes
 pub mod Places

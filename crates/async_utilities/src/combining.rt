@@ -6,6 +6,7 @@ ghost use Rattle.executor_core.specs.declared.task.future.Poll.TheVariants.{Pend
 ghost use Rattle.async_executor.specs.Answers.{is_ready};
 ghost use Rattle.async_utilities.specs.Polls.{IfGoesOn, IsMade, IfReady};
 ghost use Rattle.async_utilities.specs.Halves.{GaveBoth, KeepBoth, Keeps, is_either_open, is_open};
+ghost use Rattle.async_utilities.specs.Kinds.{is_left};
 ghost use Rattle.async_utilities.specs.Stages.{StaysSecond};
 
 use async_executor::{Future, Poll};
@@ -34,7 +35,9 @@ pub enum Either<A, B> {
 impl<W, A: Future<W>, B: Future<W, Output = A::Output>> Future<W> for Either<A, B> {
     type Output = A::Output;
 
-    fn poll(&mut self, w: &W) -> Poll<A::Output> {
+    fn poll(&mut self, w: &W) -> Poll<A::Output>
+        ensures same { is_left self.new ≡ is_left self.old }
+    {
         match self {
             Either::Left(future) => future.poll(w),
             Either::Right(future) => future.poll(w),

@@ -1,5 +1,20 @@
 //! What stands behind a lock that is usually free: it is tried once inline, and only then waited for.
+//!
+//! A hold is short beside the sleep of a thread and the call that ends it. So the lock is tried again for a
+//! while before the thread sleeps, each time after twice as long a pause, up to the longest.
+use std::cmp::min;
+use std::hint::spin_loop;
 use std::sync::{Mutex, MutexGuard, Wait};
+
+// How often a thread tries again before it sleeps.
+const TRIES: u32 = 8;
+
+// Its first pause and its longest, in spins of the processor. A spin takes 12 cycles on some processors and
+// 140 on others, and all pauses together have 6,016. A thread that tries sooner takes the line of the lock
+// from the one that holds it.
+const SHORTEST: u32 = 128;
+
+const LONGEST: u32 = 1024;
 
 /// Waits for a lock.
 #[inline(always)]
@@ -14,5 +29,15 @@ pub(crate) fn locked<'a, T, R: Wait>(mutex: &'a Mutex<T>, rt: &R) -> MutexGuard<
 #[cold]
 #[inline(never)]
 fn wait_for<'a, T, R: Wait>(mutex: &'a Mutex<T>, rt: &R) -> MutexGuard<'a, T> {
+    let mut pause = SHORTEST;
+    for _ in 0..TRIES {
+        for _ in 0..pause {
+            spin_loop();
+        }
+        if let Some(guard) = mutex.try_lock() {
+            return guard;
+        }
+        pause = min(pause.saturating_mul(2), LONGEST);
+    }
     mutex.lock(rt)
 }

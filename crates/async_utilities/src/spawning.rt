@@ -6,6 +6,7 @@
 //! its `Jobs` is dropped, and so does each job until its task is ready. The last one closes the channel of
 //! the jobs, and each server ends.
 ghost use Rattle.std.specs.Prelude.{◌≡◌, ◌↔◌, ◌<◌, None, Some, IfErr, IfOk, IfSome, IsSome, IsTrue, vec_len};
+ghost use Rattle.std.specs.Arc.{arc_value};
 ghost use Rattle.executor_core.specs.declared.task.future.Poll.TheVariants.{Ready as gave};
 ghost use Rattle.async_utilities.specs.Polls.{IfReady};
 ghost use Rattle.async_utilities.specs.Unsent.{unsent};
@@ -75,7 +76,9 @@ impl<J: Drop, R: Wait + Clone + Drop> Spawner<J, R> {
     /// `OutOfMemory` if another holder cannot be counted.
     ///
     /// Example: `uses::fans_out`.
-    pub fn copy(&self) -> Result<Spawner<J, R>, OutOfMemory> {
+    pub fn copy(&self) -> Result<Spawner<J, R>, OutOfMemory>
+        ensures same { IfOk result (λ copy. arc_value copy.desk ≡ arc_value self.now.desk) }
+    {
         let desk = Arc::try_clone(&self.desk)?;
         Ok(Spawner { desk })
     }

@@ -187,7 +187,9 @@ impl<W: Wake, C: Clock + Drop, R: Wait + Drop> Timer<W, C, R> {
     /// `OutOfMemory` if memory for its waker or for its place is refused.
     ///
     /// Example: `uses::rest`, at `Driver`.
-    pub fn driver(&self) -> Result<Driver<'_, W, C, R>, OutOfMemory> {
+    pub fn driver(&self) -> Result<Driver<'_, W, C, R>, OutOfMemory>
+        ensures same { IfOk result (λ driver. driver.timer.now ≡ self.now) }
+    {
         Driver::new(self)
     }
 

@@ -1,6 +1,7 @@
 //! Work that blocks, which the threads of a pool do for futures.
 ghost use Rattle.std.specs.Prelude.{◌≡◌, Some, None, IsSome, IfErr};
-ghost use Rattle.executor_core.specs.declared.task.future.Poll.TheVariants.{Pending as waits};
+ghost use Rattle.std.specs.Arc.{arc_value};
+ghost use Rattle.executor_core.specs.declared.task.future.Poll.TheVariants.{Pending as waits, Ready as ready};
 
 use crate::channels::{Receiver, Sender, bounded};
 use crate::noop::NoopWaker;
@@ -61,7 +62,9 @@ impl<W, J: Job, V: Wake, R: Wait + Drop> Future<W> for Work<J, V, R> {
 
     fn poll(&mut self, _w: &W) -> Poll<()>
         ensures done { self.new.job ≡ None }
+        ensures ended { IsSome self.old.job → result ≡ ready tt }
         ensures again { self.old.job ≡ None → result ≡ waits }
+        ensures same { arc_value self.new.answers.channel ≡ arc_value self.old.answers.channel }
     {
         let Some(job) = self.job.take() else {
             return Poll::Pending;
@@ -84,7 +87,9 @@ pub struct Answer<T: Drop, V: Wake, R: Wait + Drop> {
 impl<T: Drop, V: Wake, R: Wait + Drop> Future<V> for Answer<T, V, R> {
     type Output = Result<T, Cancelled>;
 
-    fn poll(&mut self, w: &V) -> Poll<Result<T, Cancelled>> {
+    fn poll(&mut self, w: &V) -> Poll<Result<T, Cancelled>>
+        ensures same { arc_value self.new.answers.channel ≡ arc_value self.old.answers.channel }
+    {
         match self.answers.poll_receive(w) {
             Poll::Ready(Some(output)) => Poll::Ready(Ok(output)),
             Poll::Ready(None) => Poll::Ready(Err(Cancelled)),

@@ -1,5 +1,5 @@
 //! Who drives a timer.
-ghost use Rattle.std.specs.Prelude.{◌≡◌, true, IfErr};
+ghost use Rattle.std.specs.Prelude.{◌≡◌, true, IfErr, IfOk};
 ghost use Rattle.async_utilities.specs.TimerErrors.{is_clock};
 
 use crate::blocking::ThreadWaker;
@@ -51,7 +51,9 @@ pub struct Driver<'a, W: Wake, C: Clock + Drop, R: Wait + Drop> {
 
 impl<'a, W: Wake, C: Clock + Drop, R: Wait + Drop> Driver<'a, W, C, R> {
     // One more who drives it.
-    pub(crate) fn new(timer: &'a Timer<W, C, R>) -> Result<Driver<'a, W, C, R>, OutOfMemory> {
+    pub(crate) fn new(timer: &'a Timer<W, C, R>) -> Result<Driver<'a, W, C, R>, OutOfMemory>
+        ensures same { IfOk result (λ driver. driver.timer.now ≡ timer.now) }
+    {
         // For as long as it drives: nobody fires who is not told of a nearer deadline, and no place is
         // left behind. One that never parks pays for it too.
         let waker = ThreadWaker::new(timer.shared.alloc)?;

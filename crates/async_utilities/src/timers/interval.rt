@@ -60,7 +60,9 @@ impl<W: Wake, R: Wait + Drop> Interval<W, R> {
     /// A future of the next time that it comes.
     ///
     /// Example: `uses::comes_twice`, at `Interval`.
-    pub fn next(&mut self) -> Next<'_, W, R> {
+    pub fn next(&mut self) -> Next<'_, W, R>
+        ensures { result.interval.now ≡ self.old }
+    {
         Next { interval: self }
     }
 }
@@ -77,7 +79,10 @@ pub struct Next<'a, W: Wake, R: Wait + Drop> {
 impl<W: Wake, R: Wait + Drop> Future<W> for Next<'_, W, R> {
     type Output = Reading;
 
-    fn poll(&mut self, w: &W) -> Poll<Reading> {
+    fn poll(&mut self, w: &W) -> Poll<Reading>
+        ensures never_early { IfReady result
+            (λ now. IsReached self.old.interval.now.after.nanos (time_of now)) }
+    {
         self.interval.poll_next(w)
     }
 }
