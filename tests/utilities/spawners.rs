@@ -1,6 +1,6 @@
 //! Tasks that hand in jobs, of each of which a pool makes a task.
 use crate::tests::support::running::refusal::{MOST, is_order_left, refuse};
-use async_executor::{Future, Poll, Task, Wake};
+use async_executor::{Cancelled, Executor, Future, Poll, Task, Wake};
 use async_utilities::{
     JobLimits, Jobs, JoinAll, MakeTask, Pool, Server, Spawner, ThreadWaker, Unsent, block_on,
     servers,
@@ -283,6 +283,42 @@ fn so_many_tasks_run_at_once(rt: HostRuntime) -> Result<(), Fail> {
     for tasks in [1, 2, 3] {
         assert_eq!(rt; passes(&rt, tasks)?, (tasks, 10, true));
     }
+    Ok(())
+}
+
+// Ticks a server of three jobs until nothing is left to run. Gives what its handle says then.
+fn ticks<R: AllocGlobal + Wait + Clone + Drop + Send + Sync>(
+    rt: &R,
+) -> Result<Poll<Result<u64, Cancelled>>, Fail> {
+    let executor: Executor<Server<u32, Tree, R>, ThreadWaker, R> =
+        Executor::new(rt.clone()?, rt.alloc())?;
+    let (jobs, servers) = servers(rt.clone()?, rt.alloc(), limits(1), Tree::refusing(0))?;
+    let mut tasks = Vec::new(rt.alloc());
+    match executor.spawn_many(servers.into_iter(), &mut tasks) {
+        Ok(_) => {}
+        Err(_) => return Err("no memory for the servers".into()),
+    }
+    for _ in 0..3 {
+        if jobs.spawner().spawn(0).is_err() {
+            return Err("no room for a job".into());
+        }
+    }
+    drop(jobs);
+    for _ in 0..100 {
+        if !executor.try_tick() {
+            break;
+        }
+    }
+    let waker = ThreadWaker::new(rt.alloc())?;
+    match tasks.first_mut() {
+        Some(task) => Ok(task.poll(&waker)),
+        None => Err("no server".into()),
+    }
+}
+
+#[test]
+fn a_server_that_is_ticked_does_its_jobs(rt: HostRuntime) -> Result<(), Fail> {
+    assert_eq!(rt; ticks(&rt)?, Poll::Ready(Ok(3)));
     Ok(())
 }
 
