@@ -359,3 +359,30 @@ fn a_refused_copy_keeps_the_message_and_asks_again(rt: HostRuntime) -> Result<()
     assert_eq!(rt; (are_pending, counts.as_slice(), message), (true, [1, 1].as_slice(), Some(2)));
     Ok(())
 }
+
+// A receive and a send wait, each with one waker and then with another. Gives how often each was woken once
+// a message has come, and room.
+fn changes_wakers<R: AllocGlobal + Wait + Clone + Drop>(rt: &R) -> Result<Vec<u64>, Fail> {
+    let (sender, receiver) = channel(rt, 1)?;
+    let all = wakers(rt.alloc(), 4)?;
+    let [one, two, three, four] = &all[..] else {
+        return Err("four wakers".into());
+    };
+    let mut receive = receiver.receive();
+    receive.poll(one);
+    receive.poll(two);
+    sent(sender.try_send(1))?;
+    let mut send = sender.send(2);
+    send.poll(three);
+    send.poll(four);
+    if receiver.try_receive() != Ok(1) {
+        return Err("no message".into());
+    }
+    wakes(rt.alloc(), &all)
+}
+
+#[test]
+fn another_waker_takes_the_place_of_the_earlier_one(rt: HostRuntime) -> Result<(), Fail> {
+    assert_eq!(rt; changes_wakers(&rt)?.as_slice(), [0, 1, 0, 1].as_slice());
+    Ok(())
+}
