@@ -4,10 +4,10 @@ Each function that an edit changes gets the body that the edit makes of its own,
 number of the edit is chosen. The crates of tests become one, the suite. Of their tests those stay
 that an edit names, and each edit has a copy of its test, of the edit's name, which chooses that
 number first. All code is first written as the edits need it, which does the same.
-Usage: choose.py all COPY EDIT.., which also keeps every test that the gate leaves out, or choose.py
-beside COPY EDIT.., or choose.py program COPY EDIT.., which leaves the tests, or choose.py one COPY
-MODULE::TEST, which keeps that one alone. COPY is a copy of the repository, and EDIT a file. With status 1
-it says why one cannot be applied.
+Usage: choose.py all COPY, which keeps every test that the gate leaves out, or choose.py beside COPY
+EDIT.., or choose.py program COPY EDIT.., which leaves the tests, or choose.py one COPY MODULE::TEST, which
+keeps that one alone. COPY is a copy of the repository, and EDIT a file. With status 1 it says why one
+cannot be applied.
 """
 import os
 import re
