@@ -18,7 +18,7 @@ pub(crate) mod side;
 pub(crate) mod state;
 
 use crate::channels::state::State;
-use crate::locked::locked;
+use crate::locked::lock;
 use async_executor::{OutOfMemory, Wake};
 pub use receiver::{NoMessage, Receive, Receiver};
 pub use sender::{Send, Sender, Unsent};
@@ -143,7 +143,7 @@ fn ends_of<T: Drop, S: Wake, V: Wake, R: Wait + Drop>(
 impl<T: Drop, S: Wake, V: Wake, R: Wait + Drop> Channel<T, S, V, R> {
     #[inline(always)]
     pub(crate) fn state(&self) -> MutexGuard<'_, State<T, S, V>> {
-        locked(&self.state, &self.rt)
+        lock(&self.state, &self.rt)
     }
 
     pub(crate) fn alloc(&self) -> Global {

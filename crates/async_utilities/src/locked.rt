@@ -2,9 +2,35 @@
 //!
 //! A hold is short beside the sleep of a thread and the call that ends it. So the lock is tried again for a
 //! while before the thread sleeps, each time after twice as long a pause, up to the longest.
+use async_executor::OutOfMemory;
+use std::alloc::Global;
 use std::cmp::min;
 use std::hint::spin_loop;
-use std::sync::{Mutex, MutexGuard, Wait};
+use std::sync::{Arc, Mutex, MutexGuard, Wait};
+
+/// A state behind a lock, which handles, futures and guards share, and the right to wait for that lock.
+#[derive(Drop)]
+pub(crate) struct Locked<S, R> {
+    state: Mutex<S>,
+    pub(crate) rt: R,
+}
+
+impl<S: Drop, R: Wait + Drop> Locked<S, R> {
+    /// With its first holder.
+    pub(crate) fn share(rt: R, alloc: Global, state: S) -> Result<Arc<Locked<S, R>>, OutOfMemory> {
+        let state = Mutex::new(state);
+        match Arc::new(alloc, Locked { state, rt }) {
+            Ok(shared) => Ok(shared),
+            Err(_) => Err(OutOfMemory),
+        }
+    }
+
+    /// Waits for the lock.
+    #[inline(always)]
+    pub(crate) fn state(&self) -> MutexGuard<'_, S> {
+        lock(&self.state, &self.rt)
+    }
+}
 
 // How often a thread tries again before it sleeps.
 const TRIES: u32 = 8;
@@ -18,7 +44,7 @@ const LONGEST: u32 = 1024;
 
 /// Waits for a lock.
 #[inline(always)]
-pub(crate) fn locked<'a, T, R: Wait>(mutex: &'a Mutex<T>, rt: &R) -> MutexGuard<'a, T> {
+pub(crate) fn lock<'a, T, R: Wait>(mutex: &'a Mutex<T>, rt: &R) -> MutexGuard<'a, T> {
     match mutex.try_lock() {
         Some(guard) => guard,
         None => wait_for(mutex, rt),

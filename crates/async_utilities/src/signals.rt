@@ -6,16 +6,17 @@ ghost use Rattle.async_utilities.specs.WaitQueue.{Parts, Stays, place_at, waker_
 ghost use Rattle.executor_core.specs.declared.task.future.Poll.TheVariants.{Pending as waits, Ready as ready};
 
 use crate::due::AllDue;
-use crate::locked::locked;
+use crate::locked::Locked;
 use crate::wait_queue::WaitQueue;
 use async_executor::{Future, OutOfMemory, Poll, Wake};
 use std::alloc::Global;
 use std::mem::replace;
-use std::sync::{Arc, Mutex, MutexGuard, Wait};
+use std::sync::{Arc, Wait};
 
 /// A signal that is set once, and stays set. Any number of futures await it, each by a `Waiting` of
-/// its own, as runs that are to stop together. W is the waker that they are polled with, and R the
-/// right to wait for the lock.
+/// its own, as runs that are to stop together. Nothing sets it but `set`: if its last holder is dropped
+/// before, they are pending for ever. W is the waker that they are polled with, and R the right to wait
+/// for the lock.
 ///
 /// Example: `uses::tells`, and of threads that run tasks `uses::pools`.
 ///
@@ -35,15 +36,7 @@ use std::sync::{Arc, Mutex, MutexGuard, Wait};
 /// ```
 #[derive(Drop)]
 pub struct Signal<W: Wake, R: Wait + Drop> {
-    shared: Arc<Shared<W, R>>,
-}
-
-#[derive(Drop)]
-struct Shared<W: Wake, R: Wait + Drop> {
-    state: Mutex<State<W>>,
-    alloc: Global,
-    // Kept, so that a poll can take the lock.
-    rt: R,
+    shared: Arc<Locked<State<W>, R>>,
 }
 
 /// Whether a signal is set, and who waits for it. Once it is set, nobody does.
@@ -51,6 +44,7 @@ struct Shared<W: Wake, R: Wait + Drop> {
 pub(crate) struct State<W> {
     is_set: bool,
     waiters: WaitQueue<W>,
+    alloc: Global,
     ghost nobody_waits: { is_set ≡ true → waiters.waiting ≡ [] },
 }
 
@@ -64,6 +58,7 @@ impl<W: Drop> State<W> {
         State {
             is_set: false,
             waiters: WaitQueue::new(alloc),
+            alloc,
         }
     }
 
@@ -101,7 +96,7 @@ impl<W: Drop> State<W> {
     }
 
     // Sets the signal, and gives all who wait for it. There are none if it was set before.
-    fn set(&mut self, alloc: Global) -> Option<AllDue<W>>
+    fn set(&mut self) -> Option<AllDue<W>>
         ensures { Sets self.old result self.new }
     {
         if self.is_set {
@@ -109,15 +104,8 @@ impl<W: Drop> State<W> {
         }
         self.is_set = true;
         // Taken out, so that all are woken in order without the lock.
-        let waiters = replace(&mut self.waiters, WaitQueue::new(alloc));
+        let waiters = replace(&mut self.waiters, WaitQueue::new(self.alloc));
         Some(AllDue { waiters })
-    }
-}
-
-impl<W: Wake, R: Wait + Drop> Shared<W, R> {
-    #[inline(always)]
-    fn state(&self) -> MutexGuard<'_, State<W>> {
-        locked(&self.state, &self.rt)
     }
 }
 
@@ -130,11 +118,8 @@ impl<W: Wake, R: Wait + Drop> Signal<W, R> {
     ///
     /// Example: `uses::tells`, at `Signal`.
     pub fn new(rt: R, alloc: Global) -> Result<Signal<W, R>, OutOfMemory> {
-        let state = Mutex::new(State::new(alloc));
-        match Arc::new(alloc, Shared { state, alloc, rt }) {
-            Ok(shared) => Ok(Signal { shared }),
-            Err(_) => Err(OutOfMemory),
-        }
+        let shared = Locked::share(rt, alloc, State::new(alloc))?;
+        Ok(Signal { shared })
     }
 
     /// The same signal, for another holder.
@@ -156,7 +141,7 @@ impl<W: Wake, R: Wait + Drop> Signal<W, R> {
     ///
     /// Example: `uses::tells`, at `Signal`.
     pub fn set(&self) {
-        let all = self.shared.state().set(self.shared.alloc);
+        let all = self.shared.state().set();
         if let Some(all) = all {
             all.wake();
         }
@@ -193,7 +178,7 @@ impl<W: Wake, R: Wait + Drop> Signal<W, R> {
 ///
 /// Example: `uses::tells`, at `Signal`.
 pub struct Waiting<W: Wake, R: Wait + Drop> {
-    shared: Arc<Shared<W, R>>,
+    shared: Arc<Locked<State<W>, R>>,
     // None once it was ready: no place is left then, and no lock is taken for it.
     place: Option<usize>,
 }

@@ -7,12 +7,12 @@ ghost use Rattle.executor_core.specs.declared.task.future.Poll.TheVariants.{Pend
 
 pub(crate) mod state;
 
-use crate::locked::locked;
+use crate::locked::Locked;
 use crate::locks::barrier::state::{Arrival, State};
 use crate::wait_queue::rounds::Told;
 use async_executor::{Future, OutOfMemory, Poll, Wake};
 use std::alloc::Global;
-use std::sync::{Arc, Mutex, MutexGuard, Wait};
+use std::sync::{Arc, Wait};
 
 /// A barrier for so many. Each waits there until the last of a round has come, and then a new round
 /// begins. W is the waker that waits, and R the right to wait for the lock.
@@ -36,11 +36,8 @@ pub struct Barrier<W: Wake, R: Wait + Drop> {
     shared: Arc<Shared<W, R>>,
 }
 
-#[derive(Drop)]
-pub(crate) struct Shared<W: Wake, R: Wait + Drop> {
-    state: Mutex<State<W>>,
-    rt: R,
-}
+// What its handles and futures share.
+type Shared<W, R> = Locked<State<W>, R>;
 
 /// What one learns that waited at a barrier.
 ///
@@ -62,11 +59,6 @@ impl BarrierWaitResult {
 }
 
 impl<W: Wake, R: Wait + Drop> Shared<W, R> {
-    #[inline(always)]
-    fn state(&self) -> MutexGuard<'_, State<W>> {
-        locked(&self.state, &self.rt)
-    }
-
     // Wakes all of the rounds that are over, the first one first, each without the lock.
     fn wake_all(&self) {
         for _ in self.rt.forever() {
@@ -148,11 +140,8 @@ impl<W: Wake, R: Wait + Drop> Barrier<W, R> {
     pub fn new(rt: R, alloc: Global, size: usize) -> Result<Barrier<W, R>, OutOfMemory>
         requires { 0 < size }
     {
-        let state = Mutex::new(State::new(alloc, size));
-        match Arc::new(alloc, Shared { state, rt }) {
-            Ok(shared) => Ok(Barrier { shared }),
-            Err(_) => Err(OutOfMemory),
-        }
+        let shared = Locked::share(rt, alloc, State::new(alloc, size))?;
+        Ok(Barrier { shared })
     }
 
     /// The same barrier, for another holder.

@@ -6,12 +6,12 @@ ghost use Rattle.executor_core.specs.declared.task.future.Poll.TheVariants.{Pend
 
 pub(crate) mod state;
 
-use crate::locked::locked;
+use crate::locked::Locked;
 use crate::locks::event::state::State;
 use crate::wait_queue::rounds::Told;
 use async_executor::{Future, OutOfMemory, Poll, Wake};
 use std::alloc::Global;
-use std::sync::{Arc, Mutex, MutexGuard, Wait};
+use std::sync::{Arc, Wait};
 
 /// An event. Who listens for it is told by a `notify` that comes later, also if it was not polled yet:
 /// so one listens first, looks then whether there is something to wait for, and awaits the listener.
@@ -38,18 +38,10 @@ pub struct Event<W: Wake, R: Wait + Drop> {
     shared: Arc<Shared<W, R>>,
 }
 
-#[derive(Drop)]
-pub(crate) struct Shared<W: Wake, R: Wait + Drop> {
-    state: Mutex<State<W>>,
-    rt: R,
-}
+// What its handles and futures share.
+type Shared<W, R> = Locked<State<W>, R>;
 
 impl<W: Wake, R: Wait + Drop> Shared<W, R> {
-    #[inline(always)]
-    fn state(&self) -> MutexGuard<'_, State<W>> {
-        locked(&self.state, &self.rt)
-    }
-
     // Tells so many of those who listen now, the first one first, each without the lock. Says how many.
     fn tell(&self, count: usize, counts_told: bool) -> usize
         ensures { result ≤ count }
@@ -75,11 +67,8 @@ impl<W: Wake, R: Wait + Drop> Event<W, R> {
     ///
     /// Example: `uses::hears`, at `Event`.
     pub fn new(rt: R, alloc: Global) -> Result<Event<W, R>, OutOfMemory> {
-        let state = Mutex::new(State::new(alloc));
-        match Arc::new(alloc, Shared { state, rt }) {
-            Ok(shared) => Ok(Event { shared }),
-            Err(_) => Err(OutOfMemory),
-        }
+        let shared = Locked::share(rt, alloc, State::new(alloc))?;
+        Ok(Event { shared })
     }
 
     /// The same event, for another holder.

@@ -7,14 +7,14 @@ ghost use Rattle.executor_core.specs.declared.task.future.Poll.TheVariants.{Pend
 
 pub(crate) mod state;
 
-use crate::locked::locked;
+use crate::locked::Locked;
 use crate::locks::Unavailable;
 use crate::locks::mutex::state::{GaveBack, State};
 use crate::wait_queue::keep;
 use async_executor::{Future, OutOfMemory, Poll, Wake};
 use std::alloc::Global;
 use std::ops::{Deref, DerefMut};
-use std::sync::{self, Arc, Wait};
+use std::sync::{Arc, Wait};
 
 /// A value that one holder at a time may use, also between polls. The value moves into the guard, and
 /// back as the guard is dropped. Who waits for it gets it in the order in which it began to wait. W is
@@ -37,18 +37,10 @@ pub struct Mutex<T: Drop, W: Wake, R: Wait + Drop> {
     shared: Arc<Shared<T, W, R>>,
 }
 
-#[derive(Drop)]
-pub(crate) struct Shared<T: Drop, W: Wake, R: Wait + Drop> {
-    state: sync::Mutex<State<T, W>>,
-    rt: R,
-}
+// What its handles, futures and guards share.
+type Shared<T, W, R> = Locked<State<T, W>, R>;
 
 impl<T: Drop, W: Wake, R: Wait + Drop> Shared<T, W, R> {
-    #[inline(always)]
-    fn state(&self) -> sync::MutexGuard<'_, State<T, W>> {
-        locked(&self.state, &self.rt)
-    }
-
     // Takes the value, or has one wait for it at this place.
     fn poll(&self, w: &W, place: &mut Option<usize>) -> Option<T>
         ensures taken { OnSome result (place.new ≡ None) }
@@ -101,11 +93,8 @@ impl<T: Drop, W: Wake, R: Wait + Drop> Mutex<T, W, R> {
     ///
     /// Example: `uses::locks`, at `Mutex`.
     pub fn new(rt: R, alloc: Global, value: T) -> Result<Mutex<T, W, R>, OutOfMemory> {
-        let state = sync::Mutex::new(State::new(alloc, value));
-        match Arc::new(alloc, Shared { state, rt }) {
-            Ok(shared) => Ok(Mutex { shared }),
-            Err(_) => Err(OutOfMemory),
-        }
+        let shared = Locked::share(rt, alloc, State::new(alloc, value))?;
+        Ok(Mutex { shared })
     }
 
     /// The same mutex, for another holder.

@@ -9,14 +9,14 @@ pub(crate) mod given;
 pub(crate) mod state;
 pub(crate) mod wish;
 
-use crate::locked::locked;
+use crate::locked::Locked;
 use crate::locks::Unavailable;
 use crate::locks::semaphore::given::{Given, Gone};
 use crate::locks::semaphore::state::State;
 use crate::wait_queue::keep;
 use async_executor::{Future, OutOfMemory, Poll, Wake};
 use std::alloc::Global;
-use std::sync::{Arc, Mutex, MutexGuard, Wait};
+use std::sync::{Arc, Wait};
 
 /// Permits, of which each holder has one or more. Who waits for permits gets them in the order in which
 /// it began to wait, however many it waits for: nobody who comes later takes them before. W is the waker
@@ -39,11 +39,8 @@ pub struct Semaphore<W: Wake, R: Wait + Drop> {
     shared: Arc<Shared<W, R>>,
 }
 
-#[derive(Drop)]
-pub(crate) struct Shared<W: Wake, R: Wait + Drop> {
-    state: Mutex<State<W>>,
-    rt: R,
-}
+// What its handles, futures and guards share.
+type Shared<W, R> = Locked<State<W>, R>;
 
 /// More permits than a `usize` counts would be there in all.
 ///
@@ -52,11 +49,6 @@ pub(crate) struct Shared<W: Wake, R: Wait + Drop> {
 pub struct TooManyPermits;
 
 impl<W: Wake, R: Wait + Drop> Shared<W, R> {
-    #[inline(always)]
-    fn state(&self) -> MutexGuard<'_, State<W>> {
-        locked(&self.state, &self.rt)
-    }
-
     // Gives so many permits, those who wait first, each without the lock.
     fn give(&self, permits: usize) {
         if permits > 0 {
@@ -120,11 +112,8 @@ impl<W: Wake, R: Wait + Drop> Semaphore<W, R> {
     ///
     /// Example: `uses::acquires`, at `Semaphore`.
     pub fn new(rt: R, alloc: Global, permits: usize) -> Result<Semaphore<W, R>, OutOfMemory> {
-        let state = Mutex::new(State::new(alloc, permits));
-        match Arc::new(alloc, Shared { state, rt }) {
-            Ok(shared) => Ok(Semaphore { shared }),
-            Err(_) => Err(OutOfMemory),
-        }
+        let shared = Locked::share(rt, alloc, State::new(alloc, permits))?;
+        Ok(Semaphore { shared })
     }
 
     /// The same semaphore, for another holder.

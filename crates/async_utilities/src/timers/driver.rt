@@ -69,7 +69,9 @@ impl<'a, W: Wake, C: Clock + Drop, R: Wait + Drop> Driver<'a, W, C, R> {
     /// The waker that is told. To wake it ends a rest.
     ///
     /// Example: `uses::rest`, at `Driver`.
-    pub fn waker(&self) -> &ThreadWaker {
+    pub fn waker(&self) -> &ThreadWaker
+        ensures { result.now ≡ self.now.waker }
+    {
         &self.waker
     }
 

@@ -2,7 +2,7 @@
 ghost use Rattle.std.specs.Prelude.{◌≡◌, ◌≤◌, ◌-◌};
 ghost use Rattle.std.specs.Duration.{as_nanos};
 
-use crate::locked::locked;
+use crate::locked::lock;
 use crate::timers::deadlines::{Deadlines, Fired};
 use crate::timers::drivers::Drivers;
 use crate::timers::reading::Reading;
@@ -32,7 +32,7 @@ impl<W: Wake, R: Wait + Drop> Shared<W, R> {
 
     #[inline(always)]
     pub(crate) fn deadlines(&self) -> MutexGuard<'_, Deadlines<W>> {
-        locked(&self.deadlines, &self.rt)
+        lock(&self.deadlines, &self.rt)
     }
 
     /// The latest time that the clock was read at, which is this one if none was later.
