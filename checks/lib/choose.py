@@ -4,7 +4,7 @@ Each function that an edit changes gets the body that the edit makes of its own,
 number of the edit is chosen. The crates of tests become one, the suite. Of their tests those stay
 that an edit names, and each edit has a copy of its test, of the edit's name, which chooses that
 number first. All code is first written as the edits need it, which does the same.
-Usage: choose.py all COPY, which keeps every test that the gate leaves out, or choose.py beside COPY
+Usage: choose.py folder COPY NAME, which keeps every test of this folder of tests, or choose.py beside COPY
 EDIT.., or choose.py program COPY EDIT.., which leaves the tests, or choose.py one COPY MODULE::TEST, which
 keeps that one alone. COPY is a copy of the repository, and EDIT a file. With status 1 it says why one
 cannot be applied.
@@ -186,7 +186,8 @@ def copies_of(test, function, path, edits, is_kept):
 
 
 def main(way, copy, *paths):
-    edits = [] if way == "one" else [(number, Edit(path)) for number, path in enumerate(paths, 1)]
+    kept = set(paths) if way in ("folder", "one") else set()
+    edits = [] if kept else [(number, Edit(path)) for number, path in enumerate(paths, 1)]
     try:
         for _, edit in edits:
             edit.rewrite(copy)
@@ -194,9 +195,8 @@ def main(way, copy, *paths):
     except Unapplied as why:
         sys.exit(str(why))
     if way != "program":
-        kept = {"all": set(modules_left_out(copy)), "one": set(paths)}.get(way, set())
-        tests = {edit.test for _, edit in edits} | ({*paths} if way == "one" else set())
-        join_tests(copy, {test.rpartition("::")[0] for test in tests} | (kept if way == "all" else set()))
+        tests = {edit.test for _, edit in edits} | kept
+        join_tests(copy, kept if way == "folder" else {test.rpartition("::")[0] for test in tests})
         keep_tests(f"{copy}/crates/{SUITE}/src/tests", edits, kept)
     lowest = f"{copy}/crates/{LOWEST}/src"
     write(f"{lowest}/choice.rt", CHOICE)
