@@ -368,8 +368,9 @@ fn outlives<R: AllocGlobal + Wait + Clone + Drop + Send + Sync>(
     let (Some(other), Some(first)) = (servers.pop(), servers.pop()) else {
         return Err("no server".into());
     };
-    let first = ex.spawn(first)?;
-    let mut other = ex.spawn(other)?;
+    let (Ok(first), Ok(mut other)) = (ex.spawn(first), ex.spawn(other)) else {
+        return Err("no memory for a server".into());
+    };
     let is_taken = jobs.spawner().spawn(1).is_ok();
     ex.try_tick();
     drop(first);
