@@ -8,7 +8,7 @@
 //! What they share stands under one lock (`job_queue`), which a job takes twice: as it is handed in, and as
 //! a server takes it. The end of a task is counted in the hold in which its server takes the next job, or
 //! waits for one. No lock is held while a task is made, polled or dropped, or a waker copied or woken.
-ghost use Rattle.std.specs.Prelude.{◌≡◌, ◌↔◌, ◌<◌, None, Some, IfErr, IfOk, IfSome, IsSome, IsTrue, is_some, true, vec_len};
+ghost use Rattle.std.specs.Prelude.{◌≡◌, ◌↔◌, ◌<◌, None, Some, IfErr, IfOk, IfSome, IsSome, IsTrue, is_some, vec_len};
 ghost use Rattle.executor_core.specs.declared.task.future.Poll.TheVariants.{Ready as gave};
 ghost use Rattle.async_utilities.specs.Polls.{IfReady};
 ghost use Rattle.async_utilities.specs.Unsent.{unsent};
@@ -18,6 +18,7 @@ pub(crate) mod job_queue;
 
 use crate::blocking::ThreadWaker;
 use crate::channels::Unsent;
+use crate::due::wake_unless_kept;
 use crate::locked::locked;
 use crate::spawning::job_queue::JobQueue;
 use async_executor::{Future, OutOfMemory, Poll, TaskWaker, Wake};
@@ -76,7 +77,7 @@ impl<J: Drop, R: Wait + Clone + Drop> Desk<J, R> {
             return Poll::Ready(Some(job));
         }
         if jobs.is_last(*is_counted) {
-            end_last(jobs, self.alloc);
+            end_one(jobs, self.alloc);
             *is_counted = false;
             return Poll::Ready(None);
         }
@@ -87,8 +88,8 @@ impl<J: Drop, R: Wait + Clone + Drop> Desk<J, R> {
         };
         let unused = jobs.rest(*is_counted, place, waker);
         drop(jobs);
-        drop(unused);
-        *is_counted = false;
+        *is_counted = *is_counted && unused.is_err();
+        wake_unless_kept(unused);
         Poll::Pending
     }
 
@@ -101,23 +102,23 @@ impl<J: Drop, R: Wait + Clone + Drop> Desk<J, R> {
         left.end();
     }
 
-    // One that is counted hands in no more jobs. If all is done then, the servers that wait are woken.
+    // One that is counted hands in no more jobs.
     fn end_one(&self) {
-        let ended = self.jobs().end_one(self.alloc);
-        if let Some(all) = ended {
-            all.wake();
-        }
+        end_one(self.jobs(), self.alloc);
     }
 }
 
-// All is done: the servers that wait are woken. Apart, since it happens once.
+// One that is counted hands in no more jobs. If all is done then, the servers that wait are woken. Apart, since
+// a server does so once.
 #[cold]
 #[inline(never)]
-fn end_last<J: Drop, R: Wait + Clone + Drop>(jobs: LockedJobs<'_, J, R>, alloc: Global) {
+fn end_one<J: Drop, R: Wait + Clone + Drop>(jobs: LockedJobs<'_, J, R>, alloc: Global) {
     let mut jobs = jobs;
-    let all = jobs.end_last(alloc);
+    let ended = jobs.end_one(alloc);
     drop(jobs);
-    all.wake();
+    if let Some(all) = ended {
+        all.wake();
+    }
 }
 
 /// Hands in jobs. A task may have a copy, and so may a thread.
@@ -211,11 +212,10 @@ where
 
     // Takes the next job, unless one is left of which no task was made.
     fn take_job(&mut self, w: &PoolWaker<R>) -> Poll<Option<J>>
-        requires { IsSome self.old.unmade → self.old.is_counted ≡ true }
         ensures left { IfSome self.old.unmade (λ job. result ≡ gave (Some job)) }
         ensures taken { self.new.unmade ≡ None }
         ensures task { self.new.task ≡ self.old.task }
-        ensures counted { IfReady result (λ job. self.new.is_counted ≡ is_some job) }
+        ensures counted { self.old.unmade ≡ None → IfReady result (λ job. self.new.is_counted ≡ is_some job) }
     {
         if let Some(job) = self.unmade.take() {
             return Poll::Ready(Some(job));
