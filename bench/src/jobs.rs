@@ -1,30 +1,29 @@
 //! The rows of a spawner, of whose jobs a server makes tasks.
-use crate::futures::Yields;
 use async_executor::{Executor, Future, Poll, Task};
-use async_utilities::{JobLimits, Jobs, MakeTask, Server, Spawner, ThreadWaker, servers};
+use async_utilities::{JobLimits, Jobs, MakeTask, Ready, Server, Spawner, ThreadWaker, servers};
 use std::alloc::Global;
 use std::sync::Wait;
 
-/// Makes a task that is the job itself.
+/// Makes a task of each number, which gives it at once.
 #[derive(Drop)]
-struct Same;
+struct Numbers;
 
-impl<R: Wait + Clone + Drop> MakeTask<Yields, R> for Same {
-    type Task = Yields;
+impl<R: Wait + Clone + Drop> MakeTask<u64, R> for Numbers {
+    type Task = Ready<u64>;
 
-    fn make(&self, job: Yields, _spawner: &Spawner<Yields, R>) -> Result<Yields, Yields> {
-        Ok(job)
+    fn make(&self, number: u64, _spawner: &Spawner<u64, R>) -> Result<Ready<u64>, u64> {
+        Ok(Ready::new(number))
     }
 }
 
-type Serving<R> = Executor<Server<Yields, Same, R>, ThreadWaker, R>;
+type NumberServer<R> = Server<u64, Numbers, R>;
 
 // A server of jobs that runs on an executor by ticks of its own.
 #[derive(Drop)]
 struct Served<R: Wait + Clone + Drop + Send + Sync> {
-    jobs: Jobs<Yields, R>,
-    ex: Serving<R>,
-    server: Task<Server<Yields, Same, R>, ThreadWaker, R>,
+    jobs: Jobs<u64, R>,
+    ex: Executor<NumberServer<R>, ThreadWaker, R>,
+    server: Task<NumberServer<R>, ThreadWaker, R>,
 }
 
 impl<R: Wait + Clone + Drop + Send + Sync> Served<R> {
@@ -34,7 +33,7 @@ impl<R: Wait + Clone + Drop + Send + Sync> Served<R> {
             tasks: 1,
             room: None,
         };
-        let (jobs, mut servers) = servers(rt.clone().ok()?, alloc, limits, Same).ok()?;
+        let (jobs, mut servers) = servers(rt.clone().ok()?, alloc, limits, Numbers).ok()?;
         let ex = Executor::new(rt.clone().ok()?, alloc).ok()?;
         let server = ex.spawn(servers.pop()?).ok()?;
         ex.try_tick();
@@ -62,7 +61,7 @@ pub fn spawner_job<R: Wait + Clone + Drop + Send + Sync>(
 ) -> Option<u64> {
     let served = Served::new(rt, alloc)?;
     for _ in 0..operations {
-        served.jobs.spawner().spawn(Yields::READY).ok()?;
+        served.jobs.spawner().spawn(7).ok()?;
         served.ex.try_tick();
     }
     served.ended(alloc)
@@ -76,7 +75,7 @@ pub fn spawner_jobs<R: Wait + Clone + Drop + Send + Sync>(
 ) -> Option<u64> {
     let served = Served::new(rt, alloc)?;
     for _ in 0..operations {
-        served.jobs.spawner().spawn(Yields::READY).ok()?;
+        served.jobs.spawner().spawn(7).ok()?;
     }
     for _ in 0..operations {
         if !served.ex.try_tick() {
