@@ -94,6 +94,11 @@ impl<J: Drop, R: Wait + Clone + Drop> Desk<J, R> {
         Poll::Pending
     }
 
+    // The place of a server.
+    fn join(&self) -> Result<usize, OutOfMemory> {
+        Ok(self.jobs().join()?)
+    }
+
     // The server of this place is gone.
     fn part(&self, is_counted: bool, place: usize) {
         if is_counted {
@@ -208,7 +213,7 @@ where
             is_counted: false,
             unmade: None,
             task: None,
-            place: spawner.desk.jobs().join()?,
+            place: spawner.desk.join()?,
             done: 0,
         })
     }
