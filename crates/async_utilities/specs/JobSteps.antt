@@ -16,6 +16,10 @@ abbrev pub room_of : Option ℕ → ℕ
 room_of None = most
 room_of (Some room) = room
 
+-- how many may hand in jobs once a server has one: one that is counted is among them
+abbrev pub counting : Bool → ℕ → ℕ
+counting counted givers = if counted && nat_lt 0 givers then givers else givers + 1
+
 module _ {J W : Type 0} where
   -- no job is left, and nobody may hand one in but the asker, if it is counted
   abbrev pub is_last : JobQueue J W → Bool → Bool
@@ -47,10 +51,6 @@ module _ {J W : Type 0} where
   Gives old job (Ok due) new =
       (is_closed old ≡ false) × (length old.jobs.items < old.room) × (new.jobs.items ≡ old.jobs.items ++ job ∷ []) × (new.givers ≡ old.givers) × SameEnds old new
       × Notifies old.waiters (length new.jobs.items) due new.waiters
-
-  -- how many may hand in jobs once a server has one: one that is counted is among them
-  abbrev pub counting : Bool → ℕ → ℕ
-  counting counted givers = if counted && nat_lt 0 givers then givers else givers + 1
 
   -- the first job is taken, if there is one, and its server is counted and comes
   abbrev pub Takes : JobQueue J W → Bool → ℕ → Option (J × Option W) → JobQueue J W → Type 0
