@@ -1,5 +1,5 @@
 -- What each call under the lock of a spawner's jobs does.
-use Rattle.std.specs.Prelude.{ℕ, ◌≡◌, ◌≤◌, ◌<◌, ◌+◌, ◌-◌, ◌==◌, ◌&&◌, ◌||◌, Option, None, Some, Result, Ok, Err, Bool, true, false, List, [], ◌∷◌, ◌++◌, ◌⊎◌, IfOk, OnErr, cond, if◌then◌else◌, length, nat_le, nat_lt}
+use Rattle.std.specs.Prelude.{ℕ, ◌≡◌, ◌≤◌, ◌<◌, ◌+◌, ◌-◌, ◌==◌, ◌&&◌, ◌||◌, Option, None, Some, Result, Ok, Err, Bool, true, false, [], ◌∷◌, ◌++◌, ◌⊎◌, IfOk, OnErr, cond, if◌then◌else◌, length, nat_le, nat_lt}
 use Rattle.std.specs.VecDeque.{deque_capacity}
 use Rattle.async_utilities.specs.Jobs.{most}
 use Rattle.async_utilities.specs.WaitQueue.{Comes, Leaves, Notifies, Stays, WaitsAt, place_at, waker_of}
