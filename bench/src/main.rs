@@ -13,6 +13,7 @@ pub mod busy;
 pub mod closing;
 pub mod crossing;
 pub mod futures;
+pub mod jobs;
 pub mod locking;
 pub mod messaging;
 pub mod names;

@@ -11,7 +11,7 @@ use std::alloc::{AllocError, Global};
 pub type Named = (&'static str, Row);
 
 /// Rows of executors on one thread.
-const ON_ONE_THREAD: [Named; 33] = [
+const ON_ONE_THREAD: [Named; 35] = [
     ("spawn_try_tick", Row::SpawnTryTick),
     ("spawn_drain", Row::SpawnDrain),
     ("yield_try_tick", Row::YieldTryTick),
@@ -23,6 +23,8 @@ const ON_ONE_THREAD: [Named; 33] = [
     ("idle_thousand", Row::WakeOneOf(1_000)),
     ("idle_million", Row::WakeOneOf(1_000_000)),
     ("spawn_tick", Row::SpawnTick),
+    ("spawner_job", Row::SpawnerJob),
+    ("spawner_jobs", Row::SpawnerJobs),
     ("yield_tick", Row::YieldTick),
     ("sleep_wake", Row::SleepWake),
     ("priority_try_tick", Row::PriorityTryTick),

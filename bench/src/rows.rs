@@ -4,6 +4,7 @@ use crate::busy::Busy;
 use crate::closing::{close_idle, close_queued, drop_idle};
 use crate::crossing::Crossing;
 use crate::futures::{IdleWaker, Large, Yields};
+use crate::jobs::{spawner_job, spawner_jobs};
 use crate::locking::Locking;
 use crate::messaging::Messaging;
 use crate::names;
@@ -53,6 +54,10 @@ pub enum Row {
     WakeOneOf(usize),
     /// Spawn, detach and run a task, by a tick of its own.
     SpawnTick,
+    /// Hand in a job by a spawner, and run the task of it.
+    SpawnerJob,
+    /// Hand in all jobs by a spawner, then run their tasks.
+    SpawnerJobs,
     /// Run one task that wakes itself, by a tick for each of its polls.
     YieldTick,
     /// Put a tick to sleep, wake it by a spawn, and have it run the task.
@@ -217,6 +222,8 @@ impl Row {
             Row::Locking(row) => row.run(rt, alloc, operations),
             Row::WakeIdle => wake_idle(rt, alloc, operations),
             Row::SpawnTick => spawn_tick(rt, alloc, operations),
+            Row::SpawnerJob => spawner_job(rt, alloc, operations),
+            Row::SpawnerJobs => spawner_jobs(rt, alloc, operations),
             Row::YieldTick => yield_tick(rt, alloc, operations),
             Row::SleepWake => sleep_wake(rt, alloc, operations),
             Row::PriorityTryTick => priority_try_tick(rt, alloc, operations),

@@ -389,7 +389,63 @@ fn a_job_comes_back_if_the_pool_is_gone(rt: HostRuntime) -> Result<(), Fail> {
     Ok(())
 }
 
-// Requests of the channel, of what is shared, of the Vec, and of a place for the second server.
+// Drops a server that has a task, and hands in a job. Gives what the other server answers then.
+fn outlives<R: AllocGlobal + Wait + Clone + Drop + Send + Sync>(
+    rt: &R,
+) -> Result<Poll<Result<u64, Cancelled>>, Fail> {
+    let gate = Gate::new(rt.alloc())?;
+    let waiters = Waiters {
+        gate: Arc::try_clone(&gate)?,
+        rt: rt.clone()?,
+    };
+    let (jobs, mut servers) = servers(rt.clone()?, rt.alloc(), limits(2), waiters)?;
+    let ex: Executor<Server<u32, Waiters<R>, R>, ThreadWaker, R> =
+        Executor::new(rt.clone()?, rt.alloc())?;
+    let (Some(other), Some(first)) = (servers.pop(), servers.pop()) else {
+        return Err("no server".into());
+    };
+    let (Ok(first), Ok(mut other)) = (ex.spawn(first), ex.spawn(other)) else {
+        return Err("no memory for a server".into());
+    };
+    let is_taken = jobs.spawner().spawn(1).is_ok();
+    ex.try_tick();
+    drop(first);
+    gate.is_open.store(true, Ordering::SeqCst);
+    let is_next_taken = jobs.spawner().spawn(2).is_ok();
+    drop(jobs);
+    // A tick for each poll of the tasks, and one for each drop.
+    for _ in 0..20 {
+        ex.try_tick();
+    }
+    if !is_taken || !is_next_taken {
+        return Err("no room for a job".into());
+    }
+    Ok(other.poll(&ThreadWaker::new(rt.alloc())?))
+}
+
+#[test]
+fn a_server_that_is_dropped_keeps_no_other(rt: HostRuntime) -> Result<(), Fail> {
+    assert_eq!(rt; outlives(&rt)?, Poll::Ready(Ok(1)));
+    Ok(())
+}
+
+// Hands in a job that is refused memory, and another one.
+fn refused<R: AllocGlobal + Wait + Clone + Drop>(
+    rt: &R,
+) -> Result<(Result<(), Unsent<u32>>, Result<(), Unsent<u32>>), Fail> {
+    let (jobs, _servers) = servers(rt.clone()?, rt.alloc(), limits(1), Tree::refusing(0))?;
+    refuse(rt.alloc(), 1);
+    let refused = jobs.spawner().spawn(7);
+    Ok((refused, jobs.spawner().spawn(8)))
+}
+
+#[test]
+fn a_job_comes_back_if_memory_is_refused(rt: HostRuntime) -> Result<(), Fail> {
+    assert_eq!(rt; refused(&rt)?, (Err(Unsent::Refused(7)), Ok(())));
+    Ok(())
+}
+
+// Requests of the places of servers and of their order, of what is shared, and of the Vec.
 const OWN_REQUESTS: usize = 5;
 
 // Makes servers with this request refused. Says whether the refusal was the answer, or none was met.

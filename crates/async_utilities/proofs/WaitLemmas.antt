@@ -7,7 +7,7 @@ use Rattle.std.proofs.lemmas.List.Sums.{get_or-le-sum_by, sum_by-cons, sum_by-le
 use Rattle.std.proofs.lemmas.Option.{none-some, same_Some}
 use Rattle.slab.specs.Slab.{Slab, Updates, get, slab_len, with_value}
 use Rattle.async_utilities.specs.Links.{IsApart, IsIn, Order, without}
-use Rattle.async_utilities.specs.WaitQueue.{IsQueue, Moves, Steps, Waiters, is_notified, is_waiting, waiters_of}
+use Rattle.async_utilities.specs.WaitQueue.{Comes, IsQueue, Moves, Steps, Waiters, is_notified, is_waiting, waiters_of}
 use Rattle.async_utilities.specs.declared.wait_queue.Place.{Place}
 use Rattle.async_utilities.specs.declared.wait_queue.Place.TheVariants.{Idle, Waiting, Notified}
 use Rattle.async_utilities.proofs.LinkLemmas.{apart_push, apart_without, in_push, in_without, last_in, not_in_without, stays_push, stays_without, without_absent, without_here}
@@ -190,6 +190,19 @@ module _ {W : Type 0} where
   -- taking out one that does not wait leaves those who wait
   pub stays_waiting : (places : Slab (Place W)) (order : Order) (notified key : ℕ) → IsQueue places order notified → is_waiting (get places key) ≡ false → without key order.keys ≡ order.keys
   stays_waiting places order notified key queue idle = without_absent key order.keys (λ found. absurd (cc (queue.waits key found)))
+
+  -- one that did not wait comes from its place, which it keeps
+  pub came_moves : (places : Slab (Place W)) (order : Order) (notified notified' key : ℕ) (was now : Place W) → IsQueue places order notified → get places key ≡ Some was → now ≡ Idle → is_waiting (Some was) ≡ false → notified' + cond (is_notified (Some was)) 1 0 ≡ notified → Comes (waiters_of places order notified) key (waiters_of (with_value places key now) order notified')
+  came_moves places order notified notified' key was now queue there idle waits counted =
+      let updates = set_updates places key was now there in (
+        λ _. record {
+          changed = updates.changed ∙ ap Some idle;
+          others = updates.others;
+          waits = sym (stays_waiting places order notified key queue (ap is_waiting there ∙ waits));
+          counted = ap (λ p. notified' + cond (is_notified p) 1 0) there ∙ counted ∙ sym (add-zero notified);
+        },
+        λ none. absurd (none-some was (sym none ∙ there)),
+      )
 
 module _ {W : Type 0} (places places' : Slab (Place W)) (order : Order) (notified notified' key : ℕ) (queue : IsQueue places order notified) (updates : Updates places places' key None) where
   -- one that did not wait gives its place back

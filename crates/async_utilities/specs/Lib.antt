@@ -5,6 +5,8 @@ pub mod Deadlines
 pub mod ErrorKinds
 pub mod Events
 pub mod Halves
+pub mod JobSteps
+pub mod Jobs
 pub mod Joining
 pub mod Joins
 pub mod Kinds

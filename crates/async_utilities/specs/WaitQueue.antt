@@ -154,6 +154,12 @@ module _ {W : Type 0} where
   abbrev pub Parts : Waiters W → ℕ → Waiters W → Type 0
   Parts old place new = Moves old new place None (without place old.waiting)
 
+  -- one comes from its place, which it keeps
+  abbrev pub Comes : Waiters W → ℕ → Waiters W → Type 0
+  Comes old place new =
+      (IsSome (place_at old place) → Moves old new place (Some Idle) (without place old.waiting))
+      × (place_at old place ≡ None → new ≡ old)
+
   -- how many more values fit, and can be linked
   abbrev pub room_of : Slab (Place W) → Order → ℕ
   room_of places order = if nat_le places.capacity order.limit then places.capacity - slab_len places else 0

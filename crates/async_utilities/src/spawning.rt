@@ -2,23 +2,29 @@
 //!
 //! A job is a plain value, so neither the type of a task nor that of a spawner contains itself. So many
 //! servers are tasks of an executor: each takes a job, makes the task of it, polls that until it is ready,
-//! and takes the next. All is done once nobody who may hand in a job is left: the owner counts as one until
-//! its `Jobs` is dropped, and so does each job until its task is ready. The last one closes the channel of
-//! the jobs, and each server ends.
-ghost use Rattle.std.specs.Prelude.{◌≡◌, ◌↔◌, ◌<◌, None, Some, IfErr, IfOk, IfSome, IsSome, IsTrue, vec_len};
+//! and takes the next. All is done once no job is left and nobody may hand one in: the owner may until its
+//! `Jobs` is dropped, and so may each task until it is ready. Then each server ends.
+//!
+//! What they share stands under one lock (`job_queue`), which a job takes twice: as it is handed in, and as
+//! a server takes it. The end of a task is counted in the hold in which its server takes the next job, or
+//! waits for one. No lock is held while a task is made, polled or dropped, or a waker copied or woken.
+ghost use Rattle.std.specs.Prelude.{◌≡◌, ◌↔◌, ◌<◌, None, Some, IfErr, IfOk, IfSome, IsSome, IsTrue, is_some, vec_len};
 ghost use Rattle.std.specs.Arc.{arc_value};
 ghost use Rattle.executor_core.specs.declared.task.future.Poll.TheVariants.{Ready as gave};
 ghost use Rattle.async_utilities.specs.Polls.{IfReady};
 ghost use Rattle.async_utilities.specs.Unsent.{unsent};
 ghost use Rattle.async_utilities.specs.declared.spawning.Begun.TheVariants as Begun;
 
+pub(crate) mod job_queue;
+
 use crate::blocking::ThreadWaker;
-use crate::channels::{Receiver, Sender, Unsent, bounded, unbounded};
-use crate::noop::NoopWaker;
+use crate::channels::Unsent;
+use crate::due::wake_unless_kept;
+use crate::locked::locked;
+use crate::spawning::job_queue::JobQueue;
 use async_executor::{Future, OutOfMemory, Poll, TaskWaker, Wake};
 use std::alloc::Global;
-use std::sync::atomic::{AtomicUsize, Ordering};
-use std::sync::{Arc, Wait};
+use std::sync::{Arc, Mutex, MutexGuard, Wait};
 
 // A poll of a server ends so many tasks at most: then it lets others of its thread go on.
 const TURN: usize = 16;
@@ -41,22 +47,83 @@ pub trait MakeTask<J: Drop, R: Wait + Clone + Drop>: Drop {
         ensures back { IfErr result (λ failed. failed ≡ job) };
 }
 
-// What the owner, the servers and all spawners share: where jobs are handed in, and how many may still hand
-// one in.
+// The jobs that are under a lock.
+type LockedJobs<'a, J, R> = MutexGuard<'a, JobQueue<J, PoolWaker<R>>>;
+
+// What the owner, the servers and all spawners share.
 #[derive(Drop)]
 struct Desk<J: Drop, R: Wait + Clone + Drop> {
-    jobs: Sender<J, NoopWaker, PoolWaker<R>, R>,
-    // The owner and each job whose task has not ended. To count what waits and what runs would need both
-    // under one lock.
-    open: AtomicUsize,
+    jobs: Mutex<JobQueue<J, PoolWaker<R>>>,
+    alloc: Global,
+    rt: R,
 }
 
 impl<J: Drop, R: Wait + Clone + Drop> Desk<J, R> {
-    // One of those who may hand in a job is done. The last one closes the channel.
-    fn end_one(&self) {
-        if self.open.fetch_sub(1, Ordering::SeqCst) == 1 {
-            self.jobs.channel().close();
+    #[inline(always)]
+    fn jobs(&self) -> LockedJobs<'_, J, R> {
+        locked(&self.jobs, &self.rt)
+    }
+
+    // Takes the first job for the server of this place. If there is none, the server is counted no longer, and
+    // waits with a copy of this waker; or all is done. It is the waker of a task, so no code of a caller's runs
+    // where it is copied.
+    fn take(&self, is_counted: &mut bool, place: usize, w: &PoolWaker<R>) -> Poll<Option<J>>
+        ensures counted { IfReady result (λ job. is_counted.new ≡ is_some job) }
+    {
+        let mut jobs = self.jobs();
+        if let Some((job, waker)) = jobs.take(*is_counted, place) {
+            drop(jobs);
+            drop(waker);
+            *is_counted = true;
+            return Poll::Ready(Some(job));
         }
+        if jobs.is_last(*is_counted) {
+            end_one(jobs, self.alloc);
+            *is_counted = false;
+            return Poll::Ready(None);
+        }
+        let Ok(waker) = w.copy() else {
+            drop(jobs);
+            w.wake();
+            return Poll::Pending;
+        };
+        let unused = jobs.rest(*is_counted, place, waker);
+        drop(jobs);
+        *is_counted = *is_counted && unused.is_err();
+        wake_unless_kept(unused);
+        Poll::Pending
+    }
+
+    // The place of a server.
+    fn join(&self) -> Result<usize, OutOfMemory> {
+        Ok(self.jobs().join()?)
+    }
+
+    // The server of this place is gone.
+    fn part(&self, is_counted: bool, place: usize) {
+        if is_counted {
+            self.end_one();
+        }
+        let left = self.jobs().part(place);
+        left.end();
+    }
+
+    // One that is counted hands in no more jobs.
+    fn end_one(&self) {
+        end_one(self.jobs(), self.alloc);
+    }
+}
+
+// One that is counted hands in no more jobs. If all is done then, the servers that wait are woken. Apart, since
+// a server does so once.
+#[cold]
+#[inline(never)]
+fn end_one<J: Drop, R: Wait + Clone + Drop>(jobs: LockedJobs<'_, J, R>, alloc: Global) {
+    let mut jobs = jobs;
+    let ended = jobs.end_one(alloc);
+    drop(jobs);
+    if let Some(all) = ended {
+        all.wake();
     }
 }
 
@@ -95,14 +162,9 @@ impl<J: Drop, R: Wait + Clone + Drop> Spawner<J, R> {
     pub fn spawn(&self, job: J) -> Result<(), Unsent<J>>
         ensures back { IfErr result (λ failed. unsent failed ≡ job) }
     {
-        let desk = &*self.desk;
-        desk.open.fetch_add(1, Ordering::SeqCst);
-        // Never waits for room: if all tasks that run did, none would end.
-        let sent = desk.jobs.try_send(job);
-        if sent.is_err() {
-            desk.end_one();
-        }
-        sent
+        let due = self.desk.jobs().give(job)?;
+        due.wake();
+        Ok(())
     }
 }
 
@@ -111,19 +173,21 @@ impl<J: Drop, R: Wait + Clone + Drop> Spawner<J, R> {
 /// threads park.
 ///
 /// Example: `uses::hands_in_jobs`, at `servers`.
-#[derive(Drop)]
 pub struct Server<J, M, R>
 where
     J: Drop,
     M: MakeTask<J, R>,
     R: Wait + Clone + Drop,
 {
-    jobs: Receiver<J, NoopWaker, PoolWaker<R>, R>,
     spawner: Spawner<J, R>,
     maker: Arc<M>,
+    // Whether it is counted as one that may hand in jobs.
+    is_counted: bool,
     unmade: Option<J>,
-    // Polled here: its job takes no place in the table of tasks, and no memory but that of the channel.
+    // Polled here: its job takes no place in the table of tasks, and no memory but that of the queue.
     task: Option<M::Task>,
+    // Where it waits, which is its own.
+    place: usize,
     done: u64,
 }
 
@@ -142,17 +206,14 @@ where
     R: Wait + Clone + Drop,
 {
     // A server that has no job yet.
-    fn new(
-        jobs: &Receiver<J, NoopWaker, PoolWaker<R>, R>,
-        spawner: &Spawner<J, R>,
-        maker: &Arc<M>,
-    ) -> Result<Server<J, M, R>, OutOfMemory> {
+    fn new(spawner: &Spawner<J, R>, maker: &Arc<M>) -> Result<Server<J, M, R>, OutOfMemory> {
         Ok(Server {
-            jobs: jobs.copy()?,
             spawner: spawner.copy()?,
             maker: Arc::try_clone(maker)?,
+            is_counted: false,
             unmade: None,
             task: None,
+            place: spawner.desk.join()?,
             done: 0,
         })
     }
@@ -162,11 +223,12 @@ where
         ensures left { IfSome self.old.unmade (λ job. result ≡ gave (Some job)) }
         ensures taken { self.new.unmade ≡ None }
         ensures task { self.new.task ≡ self.old.task }
+        ensures counted { self.old.unmade ≡ None → IfReady result (λ job. self.new.is_counted ≡ is_some job) }
     {
-        match self.unmade.take() {
-            Some(job) => Poll::Ready(Some(job)),
-            None => self.jobs.poll_receive(w),
+        if let Some(job) = self.unmade.take() {
+            return Poll::Ready(Some(job));
         }
+        self.spawner.desk.take(&mut self.is_counted, self.place, w)
     }
 
     // Makes a task of the next job. If it is refused one, it keeps the job, and asks for another poll.
@@ -195,7 +257,8 @@ where
         }
     }
 
-    // Polls the task that the server has under way, and says whether it ended.
+    // Polls the task that the server has under way, and says whether it ended. It is counted on until the
+    // server takes the next job, or waits for one.
     fn poll_task(&mut self, w: &PoolWaker<R>) -> bool
         ensures ended { IsTrue result → self.new.task ≡ None }
         ensures job { self.new.unmade ≡ self.old.unmade }
@@ -208,7 +271,6 @@ where
         };
         self.task = None;
         self.done = self.done.saturating_add(1);
-        self.spawner.desk.end_one();
         true
     }
 }
@@ -238,6 +300,29 @@ where
         }
         w.wake();
         Poll::Pending
+    }
+}
+
+impl<J, M, R> Drop for Server<J, M, R>
+where
+    J: Drop,
+    M: MakeTask<J, R>,
+    R: Wait + Clone + Drop,
+{
+    fn drop(self) {
+        let Server {
+            spawner,
+            maker: _,
+            is_counted,
+            unmade,
+            task,
+            place,
+            done: _,
+        } = self;
+        // First, since a task may hand in jobs until it is gone.
+        drop(task);
+        drop(unmade);
+        spawner.desk.part(is_counted, place);
     }
 }
 
@@ -318,12 +403,8 @@ where
     requires room { IfSome limits.room (λ room. 0 < room) }
     ensures count { IfOk result (λ made. vec_len made.1 ≡ limits.tasks) }
 {
-    let (sender, receiver) = match limits.room {
-        Some(room) => bounded(rt, alloc, room)?,
-        None => unbounded(rt, alloc)?,
-    };
-    let open = AtomicUsize::new(1);
-    let Ok(desk) = Arc::new(alloc, Desk { jobs: sender, open }) else {
+    let jobs = Mutex::new(JobQueue::new(alloc, limits.tasks, limits.room)?);
+    let Ok(desk) = Arc::new(alloc, Desk { jobs, alloc, rt }) else {
         return Err(OutOfMemory);
     };
     let Ok(maker) = Arc::new(alloc, maker) else {
@@ -334,7 +415,7 @@ where
     };
     let mut servers = Vec::with_capacity(alloc, limits.tasks)?;
     for made in 0..limits.tasks {
-        servers.push_reserved(Server::new(&receiver, &jobs.spawner, &maker)?);
+        servers.push_reserved(Server::new(&jobs.spawner, &maker)?);
     }
     Ok((jobs, servers))
 }

@@ -15,7 +15,7 @@
 //! but by another that came first.
 ghost use Rattle.std.specs.Prelude.{◌≡◌, ◌==◌, ◌+◌, ◌≤◌, ◌<◌, ◌-◌, ◌∷◌, ◌++◌, [], ℕ, None, Some, true, IfOk, IfErr, OnOk, OnErr, IsOk, IsSome, length, option_copied};
 ghost use Rattle.async_utilities.specs.Links.{without};
-ghost use Rattle.async_utilities.specs.WaitQueue.{Enters, IsServed, KeepsOrder, Leaves, Moves, Notifies, Stays, Steps, Takes, WaitsAt, first_due, first_waker, is_notified, place_at, waker_of};
+ghost use Rattle.async_utilities.specs.WaitQueue.{Comes, Enters, IsServed, KeepsOrder, Leaves, Moves, Notifies, Stays, Steps, Takes, WaitsAt, first_due, first_waker, is_notified, place_at, waker_of};
 
 pub(crate) mod links;
 pub(crate) mod rounds;
@@ -218,6 +218,29 @@ impl<W: Drop> WaitQueue<W> {
             }
             Some(Place::Idle) => None,
             None => None,
+        }
+    }
+
+    /// Has one wait no longer, which keeps its place, and gives the waker that it left there.
+    pub(crate) fn come(&mut self, place: usize) -> Option<W>
+        ensures waker { result ≡ waker_of (place_at self.old place) }
+        ensures comes { Comes self.old place self.new }
+        ensures served { (there : ℕ) → IsServed (there + 1) self.old → IsServed there self.new }
+        ensures nobody { self.old.waiting ≡ [] → self.new.waiting ≡ [] }
+    {
+        let Some(kept) = self.places.get_mut(place) else {
+            return None;
+        };
+        match replace(kept, Place::Idle) {
+            Place::Waiting(waker) => {
+                self.order.remove(place);
+                Some(waker)
+            }
+            Place::Notified => {
+                self.notified -= 1;
+                None
+            }
+            Place::Idle => None,
         }
     }
 
