@@ -116,7 +116,7 @@ done
 # A caller stands in the file whose link is before it.
 for page in $callings; do
     file=
-    awk '/^```/ { inside = !inside } !inside' "$page" | grep -oE '\(\.\./\.\./uses/src/[a-z]*\.rs\)|`uses::[a-z_]+`' | tr -d '()`' |
+    awk '/^```/ { inside = !inside } !inside' "$page" | grep -oE '\(\.\./\.\./uses/src/[a-z_]*\.rs\)|`uses::[a-z_]+`' | tr -d '()`' |
         while read -r word; do
             case $word in
                 uses::*) [ -z "$file" ] || grep -qE "fn ${word#uses::}\b" "$(dirname "$page")/$file" || echo "$word: not in $file" ;;
@@ -227,6 +227,13 @@ if [ -s "$copy/log" ]; then
     fail "examples that the folder uses lacks:" "$copy/log"
 else
     pass "each example is in the folder uses"
+fi
+
+# Each module of the folder uses can be copied alone into a program.
+if grep -nE '\b(crate|super|uses)::' uses/src/*.rs > "$copy/log"; then
+    fail "modules of uses that name another:" "$copy/log"
+else
+    pass "no module of uses names another"
 fi
 
 # The public calls and types of these crates whose comment names no example. The machines of ticks and runs,

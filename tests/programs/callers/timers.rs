@@ -18,7 +18,7 @@ fn timed<R: Wait + Clock + Clone + Drop + Send + Sync>(rt: &R, alloc: Global) ->
     [
         ("beats", is_long(beats(rt, alloc), 4)),
         ("repeats", is_long(repeats(rt, alloc), 2)),
-        ("dozes", dozes(rt, alloc).is_some()),
+        ("dozes", dozes(rt, alloc).is_ok()),
         ("postpones", is_long(postpones(rt, alloc), 2)),
         ("simulates", simulates(rt, alloc) == Some((3_600, 7_200))),
     ]
