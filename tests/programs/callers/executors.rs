@@ -6,7 +6,8 @@ use std::io::{self, ErrorKind};
 use std::sync::Wait;
 use std::test::Fail;
 use uses::{
-    boxes_kinds, closes, interleaves, keeps_turns, mixes, nests, prints, reads, receives, runs, squares,
+    boxes_kinds, closes, interleaves, keeps_turns, mixes, nests, opens, prints, reads, receives, runs,
+    squares,
 };
 
 fn spawned<R: Wait + Clone + Drop + Send + Sync>(rt: &R, alloc: Global) -> io::Result<[Line; 5]> {
@@ -24,8 +25,8 @@ fn kinds<R: Wait + Clone + Drop + Send + Sync>(rt: &R, alloc: Global) -> io::Res
     let received = (false, Poll::Ready(Ok(5)));
     Ok([
         ("mixes", mixes(rt, alloc)? == (3, 7)),
-        ("boxes_kinds", boxes_kinds(rt, alloc) == Some((0, 7))),
-        ("squares", squares(rt, alloc) == Some((3, 14))),
+        ("boxes_kinds", boxes_kinds(rt, alloc)? == (0, 7)),
+        ("squares", squares(rt, alloc)? == (3, 14)),
         ("receives", receives(rt, alloc)? == received),
         ("interleaves", interleaves(alloc) == Some(true)),
     ])
@@ -46,6 +47,17 @@ fn a_task_reads_a_file(rt: HostRuntime) -> Result<(), Fail> {
     assert_eq!(rt; reads(&rt, rt.alloc(), "/dev/null")?, 0);
     assert!(rt; reads(&rt, rt.alloc(), "/proc/self/stat")? > 0);
     match reads(&rt, rt.alloc(), "/dev/null/none") {
+        Err(error) => assert_eq!(rt; error.kind(), ErrorKind::NotADirectory),
+        Ok(_) => return Err("there is such a file".into()),
+    }
+    Ok(())
+}
+
+#[test]
+fn a_task_of_a_pool_opens_a_file(rt: HostRuntime) -> Result<(), Fail> {
+    assert_eq!(rt; opens(&rt, rt.alloc(), "/dev/null")?, 0);
+    assert!(rt; opens(&rt, rt.alloc(), "/proc/self/stat")? > 0);
+    match opens(&rt, rt.alloc(), "/dev/null/none") {
         Err(error) => assert_eq!(rt; error.kind(), ErrorKind::NotADirectory),
         Ok(_) => return Err("there is such a file".into()),
     }

@@ -92,12 +92,12 @@ fn lent<R: Wait + Threads + Clock + Clone + Drop + Send + Sync>(
 fn waited<R: Wait + Threads + Clock + Clone + Drop + Send + Sync>(
     rt: &R,
     alloc: Global,
-) -> [Line; 3] {
-    [
-        ("races", races(rt, alloc) == Some(2)),
-        ("tells", tells(rt, alloc) == Some((false, true))),
+) -> io::Result<[Line; 3]> {
+    Ok([
+        ("races", races(rt, alloc)? == 2),
+        ("tells", tells(rt, alloc)? == (false, true)),
         ("rests", is_late(rests(rt, alloc))),
-    ]
+    ])
 }
 
 #[test]
@@ -112,7 +112,7 @@ fn channels_carry_what_is_wanted(rt: HostRuntime) -> Result<(), Fail> {
 
 #[test]
 fn threads_wait_for_what_comes(rt: HostRuntime) -> Result<(), Fail> {
-    compare(&waited(&rt, rt.alloc()))
+    compare(&waited(&rt, rt.alloc())?)
 }
 
 #[test]
