@@ -49,8 +49,10 @@ impl<W: Wake, R: Files<File = File> + Drop> Future<W> for Opening<R> {
     }
 }
 
-/// Has a task of a pool open a file and read it, and gives how many bytes it has. The bound of `R::Dir` is
-/// what its proof asks for: a thread that is handed files may be handed folders too.
+/// Has a task of a pool open a file and read it, and gives how many bytes it has.
+///
+/// Its proof asks for the bound of `R::Dir`, the type of an open folder: a thread that has a copy of the right
+/// to open files may open folders by it, too.
 pub fn opens<R>(rt: &R, alloc: Global, name: &str) -> io::Result<u64>
 where
     R: Wait + Threads + Files<File = File> + Clone + Drop + Send + Sync + 'static,
