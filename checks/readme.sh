@@ -43,11 +43,20 @@ run_exsim() {
     fi
 }
 
+# The file of a caller uses::MODULE::NAME, and whether one of these files has a function.
+file_of() { echo "$1" | sed 's|::[^:]*$|.rs|; s|::|/src/|'; }
+is_in() {
+    name=$1
+    shift
+    grep -qE "fn $name\b" "$@" 2> /dev/null
+}
+
 # A word that names a call, a clause, a type, a definition, a crate or a path has to be there.
 is_there() {
     case $1 in
         *[!A-Za-z0-9_:./]* | F | R | S | W | self | break | unsafe | async | Result | usize::MAX | specs/ | proofs/ | src/ | out/ | io::*) return 0 ;;
-        uses::*) grep -qE "fn ${1#uses::}\b" uses/src/*.rs ;;
+        uses::*::*) is_in "${1##*::}" "$(file_of "$1")" ;;
+        uses::*) is_in "${1#uses::}" uses/src/*.rs ;;
         */* | *.md | *.txt | *.svg) [ -e "$1" ] || [ -e "docs/$1" ] || [ -e "crates/executor_core/src/$1.rt" ] ||
             [ -e "crates/async_executor/src/$1.rt" ] || [ -e "crates/async_utilities/src/$1.rt" ] ;;
         [A-Z]*::[a-z]*) stands "fn ${1#*::}\b" ;;
@@ -116,7 +125,7 @@ done
 # A caller stands in the file whose link is before it.
 for page in $callings; do
     file=
-    awk '/^```/ { inside = !inside } !inside' "$page" | grep -oE '\(\.\./\.\./uses/src/[a-z]*\.rs\)|`uses::[a-z_]+`' | tr -d '()`' |
+    awk '/^```/ { inside = !inside } !inside' "$page" | grep -oE '\(\.\./\.\./uses/src/[a-z_]*\.rs\)|`uses::[a-z_]+`' | tr -d '()`' |
         while read -r word; do
             case $word in
                 uses::*) [ -z "$file" ] || grep -qE "fn ${word#uses::}\b" "$(dirname "$page")/$file" || echo "$word: not in $file" ;;
@@ -132,12 +141,12 @@ same "FROM_SMOL.md, the poll and the folder uses"
 
 # A row has what one writes with smol, what one writes here, and the caller in whose file that stands.
 sed -n '/^## What one writes/,/^## From/{s/[\\]|//g;p}' docs/FROM_SMOL.md |
-    grep '| `uses::[a-z_]*`$' > "$copy/rows"
+    grep '| `uses::[a-z_:]*`$' > "$copy/rows"
 while IFS='|' read -r _ here caller; do
     caller=$(echo "$caller" | tr -d ' `')
-    file=$(grep -lE "fn ${caller#uses::}\b" uses/src/*.rs)
+    file=$(file_of "$caller")
     echo "$here" | grep -o '`[^`]*`' | tr -d '`' | while IFS= read -r text; do
-        grep -qF -- "$text" ${file:-/dev/null} || echo "$caller: $text"
+        grep -qF -- "$text" "$file" || echo "$caller: $text"
     done
 done < "$copy/rows" > "$copy/log"
 if [ -s "$copy/log" ] || [ "$(wc -l < "$copy/rows")" -lt 15 ]; then
@@ -221,12 +230,19 @@ for crate in executor_core async_executor priority_executor sharded_executor asy
     same "ARCHITECTURE.md, the modules of $crate"
 done
 
-grep -rhoE '`uses::[a-z_]+`' docs crates/*/src $callings | tr -d '`' | sort -u |
+grep -rhoE '`uses::[a-z_:]+`' docs crates/*/src $callings | tr -d '`' | sort -u |
     while read -r word; do is_there "$word" || echo "$word"; done > "$copy/log"
 if [ -s "$copy/log" ]; then
     fail "examples that the folder uses lacks:" "$copy/log"
 else
     pass "each example is in the folder uses"
+fi
+
+# Each module of the folder uses can be copied alone into a program.
+if grep -nE '\b(crate|super|uses)::' uses/src/*.rs > "$copy/log"; then
+    fail "modules of uses that name another:" "$copy/log"
+else
+    pass "no module of uses names another"
 fi
 
 # The public calls and types of these crates whose comment names no example. The machines of ticks and runs,

@@ -23,11 +23,3 @@ fn compare(lines: &[Line]) -> Result<(), Fail> {
     }
     Ok(())
 }
-
-// Whether these outputs are there.
-fn are(outputs: Option<Vec<u64>>, wanted: &[u64]) -> bool {
-    match outputs {
-        Some(outputs) => outputs.as_slice() == wanted,
-        None => false,
-    }
-}

@@ -1,47 +1,44 @@
 //! A server: jobs come through a channel, each is a task, and the answers come in the order of the
 //! jobs.
-use crate::futures::Sum;
-use crate::messaging::send_below;
-use async_executor::Task;
-use async_utilities::{JoinAll, Pool, Receiver, ThreadWaker, block_on, bounded};
+use async_executor::{Future, Poll, Task};
+use async_utilities::{JoinAll, Pool, Receiver, Sender, ThreadWaker, block_on, bounded};
 use std::alloc::Global;
+use std::io::{self, ErrorKind};
 use std::sync::Wait;
 use std::thread::{self, Threads};
 
 /// Where the jobs arrive. Both sides are polled with the wakers of threads, by `block_on`.
 type Jobs<R> = Receiver<u32, ThreadWaker, ThreadWaker, R>;
 
+/// Doubles the number of its job.
+#[derive(Debug, Drop)]
+struct Double {
+    number: u32,
+}
+
+impl<W> Future<W> for Double {
+    type Output = u64;
+
+    fn poll(&mut self, _w: &W) -> Poll<u64> {
+        Poll::Ready(u64::from(self.number) * 2)
+    }
+}
+
 // Spawns a task for each job, until there is no client.
 fn take_jobs<R: Wait + Threads + Clone + Drop + Send + Sync + 'static>(
     rt: &R,
     alloc: Global,
-    pool: &Pool<Sum, R>,
+    pool: &Pool<Double, R>,
     jobs: Jobs<R>,
-) -> Option<Vec<Task<Sum, ThreadWaker, R>>> {
+) -> io::Result<Vec<Task<Double, ThreadWaker, R>>> {
     let mut tasks = Vec::new(alloc);
     for _ in rt.forever() {
-        let Some(job) = block_on(rt, alloc, jobs.receive()).ok()? else {
+        let Some(number) = block_on(rt, alloc, jobs.receive())? else {
             break;
         };
-        tasks
-            .push(pool.executor().spawn(Sum::of(job, job)).ok()?)
-            .ok()?;
+        tasks.push(pool.executor().spawn(Double { number })?)?;
     }
-    Some(tasks)
-}
-
-// The answers, in the order of the tasks.
-fn answers<R: Wait + Clone + Drop + Send + Sync>(
-    rt: &R,
-    alloc: Global,
-    tasks: Vec<Task<Sum, ThreadWaker, R>>,
-) -> Option<Vec<u64>> {
-    let all = JoinAll::new(alloc, tasks).ok()?;
-    let mut answers = Vec::new(alloc);
-    for answer in block_on(rt, alloc, all).ok()? {
-        answers.push(answer.ok()?).ok()?;
-    }
-    Some(answers)
+    Ok(tasks)
 }
 
 // Has a pool of two threads run the jobs.
@@ -49,10 +46,15 @@ fn serve<R: Wait + Threads + Clone + Drop + Send + Sync + 'static>(
     rt: &R,
     alloc: Global,
     jobs: Jobs<R>,
-) -> Option<Vec<u64>> {
-    let pool: Pool<Sum, R> = Pool::new(rt.clone().ok()?, alloc, 2).ok()?;
+) -> io::Result<Vec<u64>> {
+    let pool: Pool<Double, R> = Pool::new(rt.clone()?, alloc, 2)?;
     let tasks = take_jobs(rt, alloc, &pool, jobs)?;
-    answers(rt, alloc, tasks)
+    let all = JoinAll::new(alloc, tasks)?;
+    let mut answers = Vec::new(alloc);
+    for answer in block_on(rt, alloc, all)? {
+        answers.push(answer?)?;
+    }
+    Ok(answers)
 }
 
 /// Has one thread send twenty jobs, with room for four, and another one serve them by a pool of two
@@ -60,14 +62,28 @@ fn serve<R: Wait + Threads + Clone + Drop + Send + Sync + 'static>(
 pub fn answers_in_order<R: Wait + Threads + Clone + Drop + Send + Sync + 'static>(
     rt: &R,
     alloc: Global,
-) -> Option<Vec<u64>> {
-    let right = rt.clone().ok()?;
-    let (client, jobs) = bounded::<u32, ThreadWaker, ThreadWaker, R>(right, alloc, 4).ok()?;
+) -> io::Result<Vec<u64>> {
+    let (client, jobs) = bounded(rt.clone()?, alloc, 4)?;
     let (sent, answers) = thread::join(
         rt,
-        move || send_below(rt, alloc, client, 20),
+        move || send_jobs(rt, alloc, client),
         move || serve(rt, alloc, jobs),
     );
     sent?;
     answers
+}
+
+// Sends the numbers below twenty, and parks while there is no room. Its end is dropped then, which says that
+// there are no more.
+fn send_jobs<R: Wait + Drop>(
+    rt: &R,
+    alloc: Global,
+    client: Sender<u32, ThreadWaker, ThreadWaker, R>,
+) -> io::Result<()> {
+    for number in 0..20 {
+        if block_on(rt, alloc, client.send(number))?.is_err() {
+            return Err(io::Error::from(ErrorKind::BrokenPipe));
+        }
+    }
+    Ok(())
 }

@@ -1,8 +1,9 @@
 //! Tasks of many kinds, each in a box of a trait of one's own. The trait has no parameter, so that a box of
 //! it has a proof: a `dyn Future` has none.
 use async_executor::{Executor, Future, Poll, Wake};
-use async_utilities::run_until;
+use async_utilities::{Zip, run_until};
 use std::alloc::Global;
+use std::io;
 use std::sync::Wait;
 
 /// What a task does in a poll. It gives an output once it is done.
@@ -59,16 +60,17 @@ impl<W: Wake> Future<W> for Steps {
 pub fn boxes_kinds<R: Wait + Clone + Drop + Send + Sync>(
     rt: &R,
     alloc: Global,
-) -> Option<(u64, u64)> {
-    let executor = Executor::new(rt.clone().ok()?, alloc).ok()?;
+) -> io::Result<(u64, u64)> {
+    let executor = Executor::new(rt.clone()?, alloc)?;
     let countdown = Steps {
-        next: Box::new(alloc, Countdown { left: 3 }).ok()?,
+        next: Box::new(alloc, Countdown { left: 3 })?,
     };
     let number = Steps {
-        next: Box::new(alloc, Number { number: 7 }).ok()?,
+        next: Box::new(alloc, Number { number: 7 })?,
     };
-    let one = executor.spawn(countdown).ok()?;
-    let two = executor.spawn(number).ok()?;
-    let first = run_until(rt, alloc, &executor, one).ok()?.ok()?;
-    Some((first, run_until(rt, alloc, &executor, two).ok()?.ok()?))
+    let one = executor.spawn(countdown)?;
+    let two = executor.spawn(number)?;
+    let (first, second) = run_until(rt, alloc, &executor, Zip::new(one, two))?;
+    // (0, 7)
+    Ok((first?, second?))
 }

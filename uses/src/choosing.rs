@@ -6,6 +6,7 @@ use async_utilities::{
     AnyOf, Change, Race, Ready, Then, ThreadWaker, YieldNow, block_on, poll_until_ready,
 };
 use std::alloc::Global;
+use std::io;
 use std::sync::Wait;
 
 /// Begins a second future with what the first one gave.
@@ -25,21 +26,21 @@ impl Change<u64> for Begins {
 }
 
 /// Awaits a number, and then a future that is made of it.
-pub fn follows<R: Wait>(rt: &R, alloc: Global) -> Option<(u64, u64)> {
-    let mine = ThreadWaker::new(alloc).ok()?;
+pub fn follows<R: Wait>(rt: &R, alloc: Global) -> io::Result<(u64, u64)> {
+    let mine = ThreadWaker::new(alloc)?;
     let mut both = Then::new(Ready::new(2), Begins { number: 1 });
     // (2, 1)
-    Some(poll_until_ready(rt, &mine, |w| both.poll(w)))
+    Ok(poll_until_ready(rt, &mine, |w| both.poll(w)))
 }
 
 /// Awaits three futures one after another with one waker, which takes no memory for that.
-pub fn reuses<R: Wait>(rt: &R, alloc: Global) -> Option<u64> {
-    let waker = ThreadWaker::new(alloc).ok()?;
+pub fn reuses<R: Wait>(rt: &R, alloc: Global) -> io::Result<u64> {
+    let waker = ThreadWaker::new(alloc)?;
     let first = waker.block_on(rt, Ready::new(1u64));
     waker.block_on(rt, YieldNow::new());
     let second = waker.block_on(rt, Ready::new(2u64));
     // 3
-    first.checked_add(second)
+    Ok(first.saturating_add(second))
 }
 
 /// A number that comes at the second poll, for which it asks.
@@ -71,26 +72,18 @@ impl Future<ThreadWaker> for Late {
 
 /// Races two futures that are both ready at the second poll of the race, which begins with the right
 /// one.
-pub fn alternates(alloc: Global) -> Option<u64> {
-    let mine = ThreadWaker::new(alloc).ok()?;
+pub fn alternates(alloc: Global) -> io::Result<[Poll<u64>; 2]> {
+    let mine = ThreadWaker::new(alloc)?;
     let mut race = Race::new(Late::new(1), Late::new(2));
-    // 2: the right one goes first at the second poll
-    match (race.poll(&mine), race.poll(&mine)) {
-        (Poll::Pending, Poll::Ready(number)) => Some(number),
-        _ => None,
-    }
+    let first = race.poll(&mine);
+    // [Pending, Ready(2)]: the right one goes first at the second poll
+    Ok([first, race.poll(&mine)])
 }
 
 /// Gives the first of three futures that is ready: its place, its output, and how many others are left.
-pub fn picks<R: Wait>(rt: &R, alloc: Global) -> Option<(usize, u64, usize)> {
-    let mut futures = Vec::new(alloc);
-    for number in 0..3 {
-        futures.push(Late::new(number)).ok()?;
-    }
-    if futures.is_empty() {
-        return None;
-    }
-    let first = block_on(rt, alloc, AnyOf::new(futures)).ok()?;
+pub fn picks<R: Wait>(rt: &R, alloc: Global) -> io::Result<(usize, u64, usize)> {
+    let futures = vec![in alloc; Late::new(0), Late::new(1), Late::new(2)]?;
+    let first = block_on(rt, alloc, AnyOf::new(futures))?;
     // (0, 0, 2)
-    Some((first.place, first.output, first.others.len()))
+    Ok((first.place, first.output, first.others.len()))
 }

@@ -2,6 +2,7 @@
 use async_executor::Future;
 use async_utilities::{Change, Either, Map, Or, Ready, ThreadWaker, YieldNow, poll_until_ready};
 use std::alloc::Global;
+use std::io;
 use std::sync::Wait;
 
 /// Gives its number in place of an output that says nothing.
@@ -24,11 +25,11 @@ impl Change<()> for Gives {
 type Number = Either<Ready<u64>, Map<YieldNow, Gives>>;
 
 /// Races a number that comes later with one that is there, and gives the first that is ready.
-pub fn races<R: Wait>(rt: &R, alloc: Global) -> Option<u64> {
-    let mine = ThreadWaker::new(alloc).ok()?;
+pub fn races<R: Wait>(rt: &R, alloc: Global) -> io::Result<u64> {
+    let mine = ThreadWaker::new(alloc)?;
     let later = Number::Right(Map::new(YieldNow::new(), Gives { number: 1 }));
     let there = Number::Left(Ready::new(2));
     let mut first = Or::new(later, there);
     // 2
-    Some(poll_until_ready(rt, &mine, |w| first.poll(w)))
+    Ok(poll_until_ready(rt, &mine, |w| first.poll(w)))
 }

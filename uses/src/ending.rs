@@ -1,11 +1,31 @@
 //! A pool of threads that is joined, and futures that come back if they are refused.
-use crate::common::added;
-use crate::futures::Sum;
-use async_executor::{Executor, Task};
+use async_executor::{Executor, Future, Poll, Task};
 use async_utilities::{Pool, PoolError, ThreadWaker, block_on, run_until};
 use std::alloc::Global;
 use std::sync::Wait;
 use std::thread::Threads;
+
+/// Gives the sum of two numbers.
+#[derive(Debug, Drop)]
+struct Sum {
+    numbers: (u32, u32),
+}
+
+impl Sum {
+    fn of(first: u32, second: u32) -> Sum {
+        Sum {
+            numbers: (first, second),
+        }
+    }
+}
+
+impl<W> Future<W> for Sum {
+    type Output = u64;
+
+    fn poll(&mut self, _w: &W) -> Poll<u64> {
+        Poll::Ready(u64::from(self.numbers.0) + u64::from(self.numbers.1))
+    }
+}
 
 type Handle<R> = Task<Sum, ThreadWaker, R>;
 
@@ -63,6 +83,6 @@ pub fn winds_up<R: Wait + Threads + Clone + Drop + Send + Sync + 'static>(
     spawn_two(pool.executor(), &mut tasks).ok()?;
     let second = helped(rt, alloc, pool.executor(), tasks.pop()?);
     let first = awaited(rt, alloc, tasks.pop()?);
-    let total = added(first.zip(second))?;
+    let total = first?.checked_add(second?)?;
     Some((total, pool.join()))
 }

@@ -1,6 +1,6 @@
 //! The calls of a task's handle, each in a whole example. What it gives is what the tests compare.
 use async_executor::{Cancelled, Executor, Future, Poll};
-use async_utilities::{NoopWaker, Ready};
+use async_utilities::{NoopWaker, Ready, YieldNow};
 use std::alloc::Global;
 use std::io;
 use std::sync::Wait;
@@ -105,4 +105,20 @@ pub fn ends_fallibly<R: Wait + Clone + Drop + Send + Sync>(
     executor.try_tick();
     // (true, Ready(None))
     Ok((executor.is_empty(), cancel.poll(&NoopWaker)))
+}
+
+/// The answers of a task that was cancelled between its first poll and its second: no output, once the
+/// next tick has dropped its future.
+pub fn cancels_half_way<R: Wait + Clone + Drop + Send + Sync>(
+    rt: &R,
+    alloc: Global,
+) -> io::Result<[Poll<Option<()>>; 2]> {
+    let executor = Executor::new(rt.clone()?, alloc)?;
+    let task = executor.spawn(YieldNow::new())?;
+    executor.try_tick();
+    let mut cancel = task.cancel();
+    let before = cancel.poll(&NoopWaker);
+    executor.try_tick();
+    // [Pending, Ready(None)]
+    Ok([before, cancel.poll(&NoopWaker)])
 }

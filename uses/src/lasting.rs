@@ -1,82 +1,34 @@
-//! Callers of executors that live for as long as the program does.
-use crate::common::added;
-use crate::futures::{Nobody, Sum};
-use async_executor::{
-    Executor, Future, LocalExecutor, Poll, StaticExecutor, StaticLocalExecutor, Task,
-};
+//! Executors that live for as long as the program does.
+use async_executor::{Executor, StaticExecutor};
+use async_utilities::{NoopWaker, Ready, run_until};
 use std::alloc::Global;
+use std::io;
 use std::sync::Wait;
 use std::thread::{self, Threads};
 
-/// Has two threads borrow an executor that is never dropped. A task from before goes on.
+/// Has two threads borrow an executor that is never dropped, and adds what their tasks give. A task from
+/// before goes on.
 pub fn serves<R: Wait + Threads + Clone + Drop + Send + Sync>(
     rt: &R,
-    executor: Executor<Sum, Nobody, R>,
-) -> Option<u64> {
-    let before = executor.spawn(Sum::of(1, 2)).ok()?;
-    let server = executor.leak();
-    let after = server.spawn(Sum::of(3, 4)).ok()?;
-    let outputs = thread::join(
-        rt,
-        || awaits(rt, &server, before),
-        || awaits(rt, &server, after),
-    );
-    added(outputs.0.zip(outputs.1))
-}
-
-// Runs tasks until this one has its output.
-fn awaits<R: Wait + Clone + Drop + Send + Sync>(
-    rt: &R,
-    server: &StaticExecutor<Sum, Nobody, R>,
-    task: Task<Sum, Nobody, R>,
-) -> Option<u64> {
-    let mut run = server.run(task).ok()?;
-    for _ in rt.forever() {
-        if let Poll::Ready(output) = run.poll(&Nobody) {
-            return output.ok();
-        }
-    }
-    None
-}
-
-/// Runs one task of a new executor to its end, by a tick and by itself, and begins another one. What is
-/// left is in its text.
-pub fn prints<R: Wait + Clone + Drop + Send + Sync>(
-    rt: &R,
     alloc: Global,
-) -> Option<StaticExecutor<Sum, Nobody, R>> {
-    let server = StaticExecutor::new(rt.clone().ok()?, alloc).ok()?;
-    server.spawn(Sum::of(1, 2)).ok()?.detach();
-    server.tick().ok()?.poll(&Nobody);
-    server.try_tick();
-    server.spawn(Sum::of(3, 4)).ok()?.detach();
-    server.try_tick_any();
-    Some(server)
+) -> io::Result<u64> {
+    let executor = Executor::new(rt.clone()?, alloc)?;
+    let before = executor.spawn(Ready::new(3u64))?;
+    let server = executor.leak();
+    let after = server.spawn(Ready::new(7))?;
+    let (one, two) = thread::join(
+        rt,
+        || run_until(rt, alloc, &server, before),
+        || run_until(rt, alloc, &server, after),
+    );
+    // 10
+    Ok(one??.saturating_add(two??))
 }
 
-/// The same executor for good, with a task from before.
-pub fn lasts<R: Wait + Clone + Drop>(
-    executor: LocalExecutor<Sum, Nobody, R>,
-) -> Option<StaticLocalExecutor<Sum, Nobody, R>> {
-    executor.spawn(Sum::of(1, 2)).ok()?.detach();
-    Some(executor.leak())
-}
-
-/// Runs tasks of a new executor on this thread by a tick, by themselves, and by a run.
-pub fn keeps<R: Wait + Clone + Drop>(rt: &R, alloc: Global) -> Option<bool> {
-    let server = StaticLocalExecutor::new(rt.clone().ok()?, alloc).ok()?;
-    run_two(&server)?;
-    let mut run = server.run(server.spawn(Sum::of(3, 4)).ok()?).ok()?;
-    run.poll(&Nobody);
-    Some(run.poll(&Nobody) == Poll::Ready(Ok(7)))
-}
-
-// Runs a task by a tick, and one by itself.
-fn run_two<R: Wait + Clone + Drop>(server: &StaticLocalExecutor<Sum, Nobody, R>) -> Option<()> {
-    server.spawn(Sum::of(1, 2)).ok()?.detach();
-    server.tick().ok()?.poll(&Nobody);
-    server.try_tick();
-    server.spawn(Sum::of(5, 6)).ok()?.detach();
-    server.try_tick_any();
-    Some(())
+/// The text of an executor that has one task, which is scheduled.
+pub fn prints<R: Wait + Clone + Drop + Send + Sync>(rt: &R, alloc: Global) -> io::Result<String> {
+    let server: StaticExecutor<Ready<u64>, NoopWaker, R> = StaticExecutor::new(rt.clone()?, alloc)?;
+    server.spawn(Ready::new(7))?.detach();
+    // StaticExecutor { active: 0, global_tasks: 1, local_runners: [], sleepers: 0 }
+    Ok(format!(in alloc; "{server:?}")?)
 }

@@ -1,15 +1,13 @@
 //! Threads that run the tasks of all levels of urgency: a pool of them, one that awaits two tasks
 //! meanwhile, and two that each poll one tick after another.
-use crate::common::{added, total_of};
-use crate::futures::Sum;
 use async_executor::{Future, Poll};
 use async_utilities::{
-    PoolOf, Ready, Signal, ThreadWaker, Waiting, Zip, block_on, poll_until_ready,
+    JoinAll, PoolOf, Ready, Signal, ThreadWaker, Waiting, Zip, block_on, poll_until_ready,
 };
 use pools::{Levels, PriorityPool};
 use priority_executor::PriorityExecutor;
 use std::alloc::Global;
-use std::io;
+use std::io::{self, ErrorKind};
 use std::sync::Wait;
 use std::thread::{self, Threads};
 
@@ -33,16 +31,17 @@ pub fn serves_by_levels<R: Wait + Threads + Clone + Drop + Send + Sync + 'static
     alloc: Global,
 ) -> io::Result<u64> {
     let levels = Levels::new(PriorityExecutor::new(rt.clone()?, alloc)?);
-    let pool: PriorityPool<Sum, R, 2> = PoolOf::new(rt.clone()?, alloc, 2, levels)?;
+    let pool: PriorityPool<Ready<u64>, R, 2> = PoolOf::new(rt.clone()?, alloc, 2, levels)?;
     let mut tasks = Vec::new(alloc);
     for request in 0..20 {
         let level = if request % 5 == 0 { 0 } else { 1 };
-        tasks.push(pool.executor().spawn(level, Sum::of(request, 1))?)?;
+        tasks.push(pool.executor().spawn(level, Ready::new(request))?)?;
     }
-    let total = total_of(rt, alloc, tasks)?;
-    for ended in pool.join() {
-        ended?;
+    let mut total = 0u64;
+    for answer in block_on(rt, alloc, JoinAll::new(alloc, tasks)?)? {
+        total = total.saturating_add(answer?);
     }
+    // 190
     Ok(total)
 }
 
@@ -54,9 +53,9 @@ fn ticks_or_stops<R: Wait + Clone + Drop + Send + Sync>(
     mine: &ThreadWaker,
     executor: &TwoLevels<R>,
     stopped: &mut Stopped<R>,
-) -> Option<bool> {
-    let mut tick = executor.tick().ok()?;
-    Some(poll_until_ready(rt, mine, |w| {
+) -> io::Result<bool> {
+    let mut tick = executor.tick()?;
+    Ok(poll_until_ready(rt, mine, |w| {
         if stopped.poll(w) == Poll::Ready(()) {
             return Poll::Ready(true);
         }
@@ -68,56 +67,55 @@ fn ticks_or_stops<R: Wait + Clone + Drop + Send + Sync>(
 }
 
 // Runs tasks until the signal is set.
-fn serve<R: Wait + Clone + Drop + Send + Sync>(
+fn serve_levels<R: Wait + Clone + Drop + Send + Sync>(
     rt: &R,
     alloc: Global,
     executor: &TwoLevels<R>,
     stopped: Stopped<R>,
-) -> Option<()> {
-    let mine = ThreadWaker::new(alloc).ok()?;
+) -> io::Result<()> {
+    let mine = ThreadWaker::new(alloc)?;
     let mut stopped = stopped;
     for _ in rt.forever() {
         if ticks_or_stops(rt, &mine, executor, &mut stopped)? {
             break;
         }
     }
-    Some(())
+    Ok(())
 }
 
-// Awaits a task of each level, and adds their outputs. The threads stop then.
-fn total<R: Wait + Clone + Drop + Send + Sync>(
+// Awaits a task of each level, and adds their outputs.
+fn sum_of_levels<R: Wait + Clone + Drop + Send + Sync>(
     rt: &R,
     alloc: Global,
     executor: &TwoLevels<R>,
-    stop: &Signal<ThreadWaker, R>,
-) -> Option<u64> {
-    let later = executor.spawn(1, Ready::new(1)).ok();
-    let urgent = executor.spawn(0, Ready::new(2)).ok();
-    let both = match later.zip(urgent) {
-        Some((later, urgent)) => block_on(rt, alloc, Zip::new(later, urgent)).ok(),
-        None => None,
-    };
-    stop.set();
-    let (one, two) = both?;
-    added(one.ok().zip(two.ok()))
+) -> io::Result<u64> {
+    let later = executor.spawn(1, Ready::new(1))?;
+    let urgent = executor.spawn(0, Ready::new(2))?;
+    let (one, two) = block_on(rt, alloc, Zip::new(later, urgent))?;
+    Ok(one?.saturating_add(two?))
 }
 
 /// Has two threads run the tasks of two levels, and adds what those give on a third.
 pub fn serves_levels<R: Wait + Threads + Clone + Drop + Send + Sync>(
     rt: &R,
     alloc: Global,
-) -> Option<u64> {
-    let levels: TwoLevels<R> = PriorityExecutor::new(rt.clone().ok()?, alloc).ok()?;
-    let stop = Signal::new(rt.clone().ok()?, alloc).ok()?;
-    let (one, two) = stop.waiting().ok().zip(stop.waiting().ok())?;
+) -> io::Result<u64> {
+    let levels: TwoLevels<R> = PriorityExecutor::new(rt.clone()?, alloc)?;
+    let stop = Signal::new(rt.clone()?, alloc)?;
+    let (one, two) = (stop.waiting()?, stop.waiting()?);
     let executor = &levels;
     thread::scope(thread::scope_env(), rt, |scope| {
-        let is_first = scope.spawn(move || serve(rt, alloc, executor, one)).is_ok();
-        let is_second = scope.spawn(move || serve(rt, alloc, executor, two)).is_ok();
-        if is_first || is_second {
-            total(rt, alloc, executor, &stop)
-        } else {
-            None
+        let is_first = scope
+            .spawn(move || serve_levels(rt, alloc, executor, one))
+            .is_ok();
+        let is_second = scope
+            .spawn(move || serve_levels(rt, alloc, executor, two))
+            .is_ok();
+        if !is_first && !is_second {
+            return Err(io::Error::from(ErrorKind::WouldBlock));
         }
+        let total = sum_of_levels(rt, alloc, executor);
+        stop.set();
+        total
     })
 }

@@ -1,12 +1,12 @@
 //! A channel from a thread to a task: the thread parks while there is no room, and the task is
 //! pending while there is no message. And a channel on which nobody waits.
-use crate::common::executor;
 use async_executor::{Executor, Future, Poll, TaskWaker, Wake};
 use async_utilities::{
     NoMessage, NoopWaker, Receiver, Sender, ThreadWaker, Unsent, block_on, bounded, run_until,
     unbounded,
 };
 use std::alloc::Global;
+use std::io::{self, ErrorKind};
 use std::sync::Wait;
 use std::thread::{self, Threads};
 
@@ -45,28 +45,30 @@ impl<R: Wait + Clone + Drop> Future<TaskWaker<ThreadWaker, R>> for Adder<R> {
 
 /// Sends the numbers below this one, in order, and parks while there is no room. In the end it drops
 /// the sender, which says that there are no more.
-pub fn send_below<V: Wake, R: Wait + Drop>(
+fn send_below<V: Wake, R: Wait + Drop>(
     rt: &R,
     alloc: Global,
     sender: Sender<u32, ThreadWaker, V, R>,
     end: u32,
-) -> Option<()> {
+) -> io::Result<()> {
     for number in 0..end {
-        block_on(rt, alloc, sender.send(number)).ok()?.ok()?;
+        if block_on(rt, alloc, sender.send(number))?.is_err() {
+            return Err(io::Error::from(ErrorKind::BrokenPipe));
+        }
     }
-    Some(())
+    Ok(())
 }
 
 /// Runs a future as a task on this thread, which parks while nothing is scheduled, and gives its output.
-pub fn runs_here<F, R>(rt: &R, alloc: Global, future: F) -> Option<F::Output>
+pub fn runs_here<F, R>(rt: &R, alloc: Global, future: F) -> io::Result<F::Output>
 where
     F: Future<TaskWaker<ThreadWaker, R>> + Send,
     F::Output: Send,
     R: Wait + Clone + Drop + Send + Sync,
 {
-    let executor: Executor<F, ThreadWaker, R> = executor(rt, alloc)?;
-    let task = executor.spawn(future).ok()?;
-    run_until(rt, alloc, &executor, task).ok()?.ok()
+    let executor = Executor::new(rt.clone()?, alloc)?;
+    let task = executor.spawn(future)?;
+    Ok(run_until(rt, alloc, &executor, task)??)
 }
 
 /// Has one thread send twenty numbers, with room for four, and a task that another thread runs add
@@ -74,11 +76,8 @@ where
 pub fn sends_to_a_task<R: Wait + Threads + Clone + Drop + Send + Sync>(
     rt: &R,
     alloc: Global,
-) -> Option<u64> {
-    let right = rt.clone().ok()?;
-    let (sender, arrivals) = bounded::<u32, ThreadWaker, TaskWaker<ThreadWaker, R>, R>(
-        right, alloc, ROOM,
-    ).ok()?;
+) -> io::Result<u64> {
+    let (sender, arrivals) = bounded(rt.clone()?, alloc, ROOM)?;
     let adder = Adder { arrivals, total: 0 };
     let (sent, total) = thread::join(
         rt,

@@ -1,38 +1,40 @@
-//! Futures of two kinds on one executor, and a future on the heap.
-use crate::common::{executor, run_all, two_outputs, two_tasks};
-use crate::futures::{Nobody, Sum};
-use crate::running::runs;
-use async_executor::{Future, Poll, TaskWaker, Wake};
+//! Futures of two kinds on one executor.
+use async_executor::{Executor, Future, Poll, Wake};
+use async_utilities::{YieldNow, Zip, run_until};
 use std::alloc::Global;
+use std::io;
 use std::sync::Wait;
 
-/// One type for futures of two kinds, since an executor has futures of one type.
+/// One type for futures of two kinds, since an executor has futures of one type. Each gives its number.
 #[derive(Drop)]
 enum Job {
-    Add(Sum),
-    Give(u64),
+    Now(u64),
+    Later(YieldNow, u64),
 }
 
-impl<W: Wake, R: Wait + Clone + Drop> Future<TaskWaker<W, R>> for Job {
+impl<W: Wake> Future<W> for Job {
     type Output = u64;
 
-    fn poll(&mut self, w: &TaskWaker<W, R>) -> Poll<u64> {
+    fn poll(&mut self, w: &W) -> Poll<u64> {
         match self {
-            Job::Add(sum) => sum.poll(w),
-            Job::Give(number) => Poll::Ready(*number),
+            Job::Now(number) => Poll::Ready(*number),
+            Job::Later(pause, number) => match pause.poll(w) {
+                Poll::Ready(()) => Poll::Ready(*number),
+                Poll::Pending => Poll::Pending,
+            },
         }
     }
 }
 
 /// Runs futures of two kinds on one executor.
-pub fn mixes<R: Wait + Clone + Drop + Send + Sync>(rt: &R, alloc: Global) -> Option<(u64, u64)> {
-    let executor = executor(rt, alloc)?;
-    let tasks = two_tasks(&executor, Job::Add(Sum::of(1, 2)), Job::Give(7));
-    run_all(rt, &executor);
-    two_outputs(tasks, &Nobody)
-}
-
-/// Runs a future on the heap, of which only the address is moved at each poll.
-pub fn boxes<R: Wait + Clone + Drop + Send + Sync>(rt: &R, alloc: Global) -> Option<u64> {
-    runs(rt, alloc, Box::new(alloc, Sum::of(1, 2)).ok()?)
+pub fn mixes<R: Wait + Clone + Drop + Send + Sync>(
+    rt: &R,
+    alloc: Global,
+) -> io::Result<(u64, u64)> {
+    let executor = Executor::new(rt.clone()?, alloc)?;
+    let later = executor.spawn(Job::Later(YieldNow::new(), 3))?;
+    let now = executor.spawn(Job::Now(7))?;
+    let (first, second) = run_until(rt, alloc, &executor, Zip::new(later, now))?;
+    // (3, 7)
+    Ok((first?, second?))
 }

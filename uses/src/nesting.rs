@@ -1,16 +1,15 @@
 //! An executor within another.
-use crate::common::{executor, run_of};
-use crate::futures::{Nobody, Sum};
-use crate::running::runs;
 use async_executor::{Cancelled, Executor, Future, Poll, Run, Task, TaskWaker, Wake};
+use async_utilities::{Ready, ThreadWaker, run_until};
 use std::alloc::Global;
+use std::io;
 use std::sync::Wait;
 
 /// The run of an inner executor, as a task of an outer one. It is a type of its own because a caller is
 /// proved sooner if the type of its future nests no others.
 #[derive(Drop)]
 struct Inner<'a, W: Wake, R: Wait + Clone + Drop> {
-    run: Run<'a, Sum, W, R, Task<Sum, W, R>>,
+    run: Run<'a, Ready<u64>, W, R, Task<Ready<u64>, W, R>>,
 }
 
 impl<W: Wake, R: Wait + Clone + Drop> Future<W> for Inner<'_, W, R> {
@@ -23,8 +22,25 @@ impl<W: Wake, R: Wait + Clone + Drop> Future<W> for Inner<'_, W, R> {
 
 /// Runs the run of an inner executor as a task of an outer one, and gives the output of the inner
 /// task. A spawn on the inner executor, or a wake of its task, wakes the outer task.
-pub fn nests<R: Wait + Clone + Drop + Send + Sync>(rt: &R, alloc: Global) -> Option<u64> {
-    let inner: Executor<Sum, TaskWaker<Nobody, R>, R> = executor(rt, alloc)?;
-    let run = run_of(&inner)?;
-    runs(rt, alloc, Inner { run })?.ok()
+pub fn nests<R: Wait + Clone + Drop + Send + Sync>(rt: &R, alloc: Global) -> io::Result<u64> {
+    let inner = Executor::new(rt.clone()?, alloc)?;
+    let task = inner.spawn(Ready::new(3))?;
+    runs_inner(
+        rt,
+        alloc,
+        Inner {
+            run: inner.run(task)?,
+        },
+    )
+}
+
+// Runs it on an executor of its own.
+fn runs_inner<R: Wait + Clone + Drop + Send + Sync>(
+    rt: &R,
+    alloc: Global,
+    inner: Inner<'_, TaskWaker<ThreadWaker, R>, R>,
+) -> io::Result<u64> {
+    let outer = Executor::new(rt.clone()?, alloc)?;
+    let task = outer.spawn(inner)?;
+    Ok(run_until(rt, alloc, &outer, task)???)
 }

@@ -1,39 +1,52 @@
 //! Threads that run the tasks of one executor, and park while none is scheduled.
-use crate::common::{added, executor, two_outputs, two_tasks};
-use crate::futures::Sum;
-use async_executor::{Executor, Future, Poll, Task, TaskWaker, Wake};
-use async_utilities::ThreadWaker;
+use async_executor::{Executor, Future, Poll, Task, Wake};
+use async_utilities::{ThreadWaker, Zip, block_on};
 use std::alloc::{AllocError, Global};
+use std::io;
 use std::sync::atomic::{AtomicU64, Ordering};
 use std::sync::{Arc, Wait};
 use std::thread::{self, Threads};
 use std::time::Duration;
 
-/// A `Sum` that counts among the futures that are left until it is dropped.
+/// Gives its number at the second poll, and counts among the futures that are left until it is dropped.
 struct Counted {
-    sum: Sum,
+    number: u64,
+    is_polled: bool,
     left: Arc<AtomicU64>,
 }
 
 impl Counted {
-    fn new(sum: Sum, left: &Arc<AtomicU64>) -> Result<Counted, AllocError> {
+    fn new(number: u64, left: &Arc<AtomicU64>) -> Result<Counted, AllocError> {
         let left = Arc::try_clone(left)?;
         left.fetch_add(1, Ordering::SeqCst);
-        Ok(Counted { sum, left })
+        Ok(Counted {
+            number,
+            is_polled: false,
+            left,
+        })
     }
 }
 
-impl<W: Wake, R: Wait + Clone + Drop> Future<TaskWaker<W, R>> for Counted {
+impl<W: Wake> Future<W> for Counted {
     type Output = u64;
 
-    fn poll(&mut self, w: &TaskWaker<W, R>) -> Poll<u64> {
-        self.sum.poll(w)
+    fn poll(&mut self, w: &W) -> Poll<u64> {
+        if self.is_polled {
+            return Poll::Ready(self.number);
+        }
+        self.is_polled = true;
+        w.wake();
+        Poll::Pending
     }
 }
 
 impl Drop for Counted {
     fn drop(self) {
-        let Counted { sum: _, left } = self;
+        let Counted {
+            number: _,
+            is_polled: _,
+            left,
+        } = self;
         left.fetch_sub(1, Ordering::SeqCst);
     }
 }
@@ -49,19 +62,21 @@ struct Crew<R: Wait + Clone + Drop + Send + Sync> {
 type CrewTask<R> = Task<Counted, ThreadWaker, R>;
 
 impl<R: Wait + Clone + Drop + Send + Sync> Crew<R> {
-    fn new(rt: &R, alloc: Global) -> Option<Crew<R>> {
-        let wakers = three_wakers(alloc)?;
-        let left = Arc::new(alloc, AtomicU64::new(0)).ok()?;
-        Some(Crew {
-            executor: executor(rt, alloc)?,
-            left,
-            wakers,
+    fn new(rt: &R, alloc: Global) -> io::Result<Crew<R>> {
+        let first = ThreadWaker::new(alloc)?;
+        let second = ThreadWaker::new(alloc)?;
+        let third = ThreadWaker::new(alloc)?;
+        Ok(Crew {
+            executor: Executor::new(rt.clone()?, alloc)?,
+            left: Arc::new(alloc, AtomicU64::new(0))?,
+            wakers: [first, second, third],
         })
     }
 
-    // A future that counts as left from now on.
-    fn future(&self, sum: Sum) -> Option<Counted> {
-        Counted::new(sum, &self.left).ok()
+    // A refused future is dropped, so nobody waits for it.
+    fn spawn(&self, one: Counted, two: Counted) -> io::Result<(CrewTask<R>, CrewTask<R>)> {
+        let one = self.executor.spawn(one)?;
+        Ok((one, self.executor.spawn(two)?))
     }
 
     /// Runs tasks until no future is left. A thread that stops wakes the others, who may wait for a
@@ -96,25 +111,18 @@ impl<R: Wait + Clone + Drop + Send + Sync> Crew<R> {
     }
 }
 
-fn three_wakers(alloc: Global) -> Option<[ThreadWaker; 3]> {
-    let first = ThreadWaker::new(alloc).ok()?;
-    let second = ThreadWaker::new(alloc).ok()?;
-    let third = ThreadWaker::new(alloc).ok()?;
-    Some([first, second, third])
-}
-
 // Has two threads park, spawns a task of each future, and runs them on all three.
 fn drives<R: Wait + Threads + Clone + Drop + Send + Sync>(
     rt: &R,
     crew: &Crew<R>,
     one: Counted,
     two: Counted,
-) -> Option<(CrewTask<R>, CrewTask<R>)> {
+) -> io::Result<(CrewTask<R>, CrewTask<R>)> {
     let [mine, second, third] = &crew.wakers;
     thread::scope(thread::scope_env(), rt, |scope| {
         let _ = scope.spawn(move || crew.work(rt, second));
         let _ = scope.spawn(move || crew.work(rt, third));
-        let tasks = two_tasks(&crew.executor, one, two);
+        let tasks = crew.spawn(one, two);
         crew.work(rt, mine);
         tasks
     })
@@ -122,17 +130,22 @@ fn drives<R: Wait + Threads + Clone + Drop + Send + Sync>(
 
 /// Runs tasks on three threads, each by ticks of its own, and adds their outputs. A thread that
 /// finds no task parks, and is woken by a spawn or by the wake of a task.
-pub fn parks<R: Wait + Threads + Clone + Drop + Send + Sync>(rt: &R, alloc: Global) -> Option<u64> {
+pub fn parks<R: Wait + Threads + Clone + Drop + Send + Sync>(
+    rt: &R,
+    alloc: Global,
+) -> io::Result<u64> {
     let crew = Crew::new(rt, alloc)?;
-    let (one, two) = crew.future(Sum::of(1, 2)).zip(crew.future(Sum::of(3, 4)))?;
-    let tasks = drives(rt, &crew, one, two);
-    let [mine, _, _] = &crew.wakers;
-    added(two_outputs(tasks, mine))
+    let one = Counted::new(3, &crew.left)?;
+    let two = Counted::new(7, &crew.left)?;
+    let (one, two) = drives(rt, &crew, one, two)?;
+    let (first, second) = block_on(rt, alloc, Zip::new(one, two))?;
+    // 10
+    Ok(first?.saturating_add(second?))
 }
 
 /// Parks for two milliseconds at the longest, since nobody wakes this thread.
-pub fn dozes<R: Wait>(rt: &R, alloc: Global) -> Option<()> {
-    let mine = ThreadWaker::new(alloc).ok()?;
+pub fn dozes<R: Wait>(rt: &R, alloc: Global) -> io::Result<()> {
+    let mine = ThreadWaker::new(alloc)?;
     mine.park_timeout(rt, Duration::from_millis(2));
-    Some(())
+    Ok(())
 }

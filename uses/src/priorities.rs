@@ -2,11 +2,12 @@
 ghost use Rattle.std.specs.Prelude.{◌-◌};
 ghost use Rattle.arrayvec.specs.ArrayVec.{array_vec_len};
 
-use crate::futures::Nobody;
 use arrayvec::ArrayVec;
-use async_executor::{Future, Poll, TaskWaker, Wake};
+use async_executor::{Cancelled, Future, Poll, TaskWaker, Wake};
+use async_utilities::NoopWaker;
 use priority_executor::{Asker, PriorityExecutor, choose};
 use std::alloc::Global;
+use std::io;
 use std::sync::Wait;
 use std::sync::atomic::{AtomicU64, Ordering};
 
@@ -24,37 +25,35 @@ impl<W> Future<W> for Runner<'_> {
     }
 }
 
-// Spawns many tasks of level 1, and then one of level 0. Gives how many ran before that one.
+// Spawns many tasks of level 1, and then one of level 0. Its handle says how many ran before it.
 fn urgent<'a, R: Wait + Clone + Drop + Send + Sync>(
-    executor: &PriorityExecutor<Runner<'a>, Nobody, R, 2>,
+    executor: &PriorityExecutor<Runner<'a>, NoopWaker, R, 2>,
     ran: &'a AtomicU64,
-) -> Option<u64> {
+) -> io::Result<Poll<Result<u64, Cancelled>>> {
     for _ in 0..1_000 {
-        executor.spawn(1, Runner { ran }).ok()?.detach();
+        executor.spawn(1, Runner { ran })?.detach();
     }
-    let mut task = executor.spawn(0, Runner { ran }).ok()?;
+    let mut task = executor.spawn(0, Runner { ran })?;
     executor.try_tick();
-    match task.poll(&Nobody) {
-        Poll::Ready(Ok(before)) => Some(before),
-        Poll::Ready(Err(_)) | Poll::Pending => None,
-    }
+    Ok(task.poll(&NoopWaker))
 }
 
-/// An urgent task overtakes a thousand others, which are run after it. Gives how many ran before it,
-/// and how many in all.
+/// An urgent task overtakes a thousand others, which are run after it. Gives what its handle says, how many
+/// ran before it, and how many ran in all.
 pub fn overtakes<R: Wait + Clone + Drop + Send + Sync>(
     rt: &R,
     alloc: Global,
-) -> Option<(u64, u64)> {
+) -> io::Result<(Poll<Result<u64, Cancelled>>, u64)> {
     let ran = AtomicU64::new(0);
-    let executor = PriorityExecutor::new(rt.clone().ok()?, alloc).ok()?;
+    let executor = PriorityExecutor::new(rt.clone()?, alloc)?;
     let before = urgent(&executor, &ran)?;
     for _ in rt.forever() {
         if executor.is_empty() || !executor.try_tick() {
             break;
         }
     }
-    Some((before, ran.load(Ordering::SeqCst)))
+    // (Ready(Ok(0)), 1001)
+    Ok((before, ran.load(Ordering::SeqCst)))
 }
 
 /// A connection is accepted at each poll of the loop, which asks for the next poll itself. A request
@@ -84,40 +83,40 @@ impl<W: Wake, R: Wait + Clone + Drop> Future<TaskWaker<W, R>> for Job<'_> {
 }
 
 // Spawns a request at level 1 and the accept loop at level 0, and runs both by ticks. Gives what the
-// request gave.
+// handle of the request answers.
 fn served<'a, R: Wait + Clone + Drop + Send + Sync>(
     rt: &R,
-    executor: &PriorityExecutor<Job<'a>, Nobody, R, 2>,
+    executor: &PriorityExecutor<Job<'a>, NoopWaker, R, 2>,
     accepted: &'a AtomicU64,
-) -> Option<u64> {
-    let mut request = executor.spawn(1, Job::Serve { accepted }).ok()?;
+) -> io::Result<Poll<Result<u64, Cancelled>>> {
+    let mut request = executor.spawn(1, Job::Serve { accepted })?;
     let accept = Job::Accept { left: 3, accepted };
-    executor.spawn(0, accept).ok()?.detach();
+    executor.spawn(0, accept)?.detach();
     run_by_ticks(rt, executor)?;
-    match request.poll(&Nobody) {
-        Poll::Ready(Ok(accepted)) => Some(accepted),
-        Poll::Ready(Err(_)) | Poll::Pending => None,
-    }
+    Ok(request.poll(&NoopWaker))
 }
 
 // Runs tasks by ticks until none is scheduled.
 fn run_by_ticks<R: Wait + Clone + Drop + Send + Sync>(
     rt: &R,
-    executor: &PriorityExecutor<Job<'_>, Nobody, R, 2>,
-) -> Option<()> {
+    executor: &PriorityExecutor<Job<'_>, NoopWaker, R, 2>,
+) -> io::Result<()> {
     for _ in rt.forever() {
-        if executor.tick().ok()?.poll(&Nobody) == Poll::Pending {
-            return Some(());
+        if executor.tick()?.poll(&NoopWaker) == Poll::Pending {
+            break;
         }
     }
-    None
+    Ok(())
 }
 
 /// An accept loop goes before the requests, by ticks of the executor: all connections are accepted
-/// before the first request is served. Gives how many those were.
-pub fn accepts<R: Wait + Clone + Drop + Send + Sync>(rt: &R, alloc: Global) -> Option<u64> {
+/// before the first request is served, whose handle says how many those were.
+pub fn accepts<R: Wait + Clone + Drop + Send + Sync>(
+    rt: &R,
+    alloc: Global,
+) -> io::Result<Poll<Result<u64, Cancelled>>> {
     let accepted = AtomicU64::new(0);
-    let executor = PriorityExecutor::new(rt.clone().ok()?, alloc).ok()?;
+    let executor = PriorityExecutor::new(rt.clone()?, alloc)?;
     served(rt, &executor, &accepted)
 }
 

@@ -1,4 +1,4 @@
-//! Files that tasks read. The owner of the executor opens them: a poll has nothing to open one by.
+//! Files that tasks read, and the owner of the executor opens.
 use async_executor::{Executor, Future, Poll, Wake};
 use async_utilities::run_until;
 use std::alloc::Global;

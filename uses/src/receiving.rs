@@ -1,15 +1,15 @@
 //! A task that keeps a copy of its waker until another party wakes it.
-use crate::common::{executor, output_of, run_all};
-use crate::futures::Nobody;
-use async_executor::{Executor, Future, Poll, TaskWaker, Wake};
+use async_executor::{Cancelled, Executor, Future, Poll, TaskWaker, Wake};
+use async_utilities::NoopWaker;
 use std::alloc::{AllocError, Global};
+use std::io;
 use std::sync::{Arc, Mutex, Wait};
 
 /// What a `Receiver` shares with its sender: the number that was sent, and the waker to be woken.
 #[derive(Drop)]
 pub struct Channel<R: Wait + Clone + Drop> {
     number: Option<u64>,
-    waker: Option<TaskWaker<Nobody, R>>,
+    waker: Option<TaskWaker<NoopWaker, R>>,
 }
 
 /// Gives the number that another party sends.
@@ -34,12 +34,12 @@ impl<R: Wait + Clone + Drop> Receiver<R> {
     }
 }
 
-impl<R: Wait + Clone + Drop> Future<TaskWaker<Nobody, R>> for Receiver<R> {
+impl<R: Wait + Clone + Drop> Future<TaskWaker<NoopWaker, R>> for Receiver<R> {
     type Output = u64;
 
     /// A copy of the waker stays in the channel until the number is sent. If it cannot be left
     /// there, another poll is asked for.
-    fn poll(&mut self, w: &TaskWaker<Nobody, R>) -> Poll<u64> {
+    fn poll(&mut self, w: &TaskWaker<NoopWaker, R>) -> Poll<u64> {
         let (Ok(waker), Some(mut channel)) = (w.copy(), self.channel.try_lock()) else {
             w.wake();
             return Poll::Pending;
@@ -66,27 +66,19 @@ pub fn send<R: Wait + Clone + Drop>(rt: &R, sender: &Mutex<Channel<R>>, number: 
     }
 }
 
-/// Runs a task that waits for a number, which another party sends through the waker that it left.
-pub fn receives<R: Wait + Clone + Drop + Send + Sync>(rt: &R, alloc: Global) -> Option<u64> {
-    let (receiver, sender) = Receiver::new(alloc).ok()?;
-    awaits(rt, &executor(rt, alloc)?, receiver, &sender)
-}
-
-// Runs a task that waits for its number: nothing is scheduled until it is sent.
-fn awaits<R: Wait + Clone + Drop + Send + Sync>(
+/// Runs a task that waits for a number, which another party sends through the waker that it left. Says
+/// whether it had ended before, and what its handle answers then.
+pub fn receives<R: Wait + Clone + Drop + Send + Sync>(
     rt: &R,
-    executor: &Executor<Receiver<R>, Nobody, R>,
-    receiver: Receiver<R>,
-    sender: &Mutex<Channel<R>>,
-) -> Option<u64> {
-    let mut task = executor.spawn(receiver).ok()?;
-    run_all(rt, executor);
+    alloc: Global,
+) -> io::Result<(bool, Poll<Result<u64, Cancelled>>)> {
+    let (receiver, sender) = Receiver::new(alloc)?;
+    let executor = Executor::new(rt.clone()?, alloc)?;
+    let mut task = executor.spawn(receiver)?;
+    executor.try_tick();
     let is_early = task.is_finished();
-    send(rt, sender, 5);
-    run_all(rt, executor);
-    if is_early {
-        None
-    } else {
-        output_of(task.poll(&Nobody))
-    }
+    send(rt, &sender, 5);
+    executor.try_tick();
+    // (false, Ready(Ok(5)))
+    Ok((is_early, task.poll(&NoopWaker)))
 }

@@ -4,10 +4,10 @@
 //! What goes through the channel is a plain value, of which the owner makes a future. So the type of
 //! the tasks contains neither their executor nor itself. The owner is no future: a poll has no proof
 //! that R may be sent, which a spawn asks for.
-use crate::common::executor;
 use async_executor::{Executor, Future, Poll, Task, TaskWaker};
 use async_utilities::{Never, Receiver, Sender, ThreadWaker, bounded};
 use std::alloc::Global;
+use std::io;
 use std::sync::Wait;
 
 /// Sends how deep the tree below a new task is. It is polled by tasks, and received from by the owner's
@@ -25,10 +25,10 @@ struct Branch<R: Wait + Clone + Drop> {
 }
 
 impl<R: Wait + Clone + Drop> Branch<R> {
-    fn new(requests: &Requests<R>, depth: u32) -> Option<Branch<R>> {
+    fn new(requests: &Requests<R>, depth: u32) -> io::Result<Branch<R>> {
         let below = depth.checked_sub(1);
-        Some(Branch {
-            requests: requests.copy().ok()?,
+        Ok(Branch {
+            requests: requests.copy()?,
             left: below,
             right: below,
         })
@@ -62,12 +62,9 @@ struct Owner<R: Wait + Clone + Drop + Send + Sync> {
 }
 
 impl<R: Wait + Clone + Drop + Send + Sync> Owner<R> {
-    fn new(rt: &R, alloc: Global) -> Option<Owner<R>> {
-        let right = rt.clone().ok()?;
-        let (requests, wanted) = bounded::<u32, TaskWaker<ThreadWaker, R>, ThreadWaker, R>(
-            right, alloc, 4,
-        ).ok()?;
-        Some(Owner {
+    fn new(rt: &R, alloc: Global) -> io::Result<Owner<R>> {
+        let (requests, wanted) = bounded(rt.clone()?, alloc, 4)?;
+        Ok(Owner {
             requests,
             wanted,
             tasks: Vec::new(alloc),
@@ -76,9 +73,10 @@ impl<R: Wait + Clone + Drop + Send + Sync> Owner<R> {
     }
 
     // Spawns a task with a tree of this depth below it.
-    fn spawn(&mut self, executor: &Tree<R>, depth: u32) -> Option<()> {
+    fn spawn(&mut self, executor: &Tree<R>, depth: u32) -> io::Result<()> {
         let branch = Branch::new(&self.requests, depth)?;
-        self.tasks.push(executor.spawn(branch).ok()?).ok()
+        self.tasks.push(executor.spawn(branch)?)?;
+        Ok(())
     }
 
     // Whether all tasks have ended. The waker is woken once the first that has not ended does.
@@ -103,8 +101,8 @@ fn spawn_all<R: Wait + Clone + Drop + Send + Sync>(
     mine: &ThreadWaker,
     executor: &Tree<R>,
     owner: &mut Owner<R>,
-) -> Option<usize> {
-    let mut run = executor.run(Never::<u64>::new()).ok()?;
+) -> io::Result<usize> {
+    let mut run = executor.run(Never::<()>::new())?;
     for _ in rt.forever() {
         let have_ended = owner.have_ended(mine);
         if let Poll::Ready(Some(depth)) = owner.wanted.poll_receive(mine) {
@@ -116,7 +114,7 @@ fn spawn_all<R: Wait + Clone + Drop + Send + Sync>(
             mine.park(rt);
         }
     }
-    Some(owner.ended)
+    Ok(owner.ended)
 }
 
 /// Spawns a task that asks for two more, each of which does the same, three levels deep. Gives how
@@ -124,9 +122,9 @@ fn spawn_all<R: Wait + Clone + Drop + Send + Sync>(
 pub fn requests_tasks<R: Wait + Clone + Drop + Send + Sync>(
     rt: &R,
     alloc: Global,
-) -> Option<usize> {
-    let mine = ThreadWaker::new(alloc).ok()?;
-    let executor = executor(rt, alloc)?;
+) -> io::Result<usize> {
+    let mine = ThreadWaker::new(alloc)?;
+    let executor = Executor::new(rt.clone()?, alloc)?;
     let mut owner = Owner::new(rt, alloc)?;
     owner.spawn(&executor, 3)?;
     spawn_all(rt, &mine, &executor, &mut owner)

@@ -1,6 +1,7 @@
 //! A signal that two threads share.
 use async_utilities::{Signal, ThreadWaker, block_on};
 use std::alloc::Global;
+use std::io;
 use std::sync::Wait;
 use std::thread::{self, Threads};
 
@@ -9,17 +10,17 @@ use std::thread::{self, Threads};
 pub fn tells<R: Wait + Threads + Clone + Drop + Send + Sync>(
     rt: &R,
     alloc: Global,
-) -> Option<(bool, bool)> {
-    let told: Signal<ThreadWaker, R> = Signal::new(rt.clone().ok()?, alloc).ok()?;
-    let other = told.copy().ok()?;
-    let waiting = told.waiting().ok()?;
+) -> io::Result<(bool, bool)> {
+    let told: Signal<ThreadWaker, R> = Signal::new(rt.clone()?, alloc)?;
+    let other = told.copy()?;
+    let waiting = told.waiting()?;
     let was_set = told.is_set();
     let (_, waited) = thread::join(
         rt,
         move || other.set(),
-        move || block_on(rt, alloc, waiting).ok(),
+        move || block_on(rt, alloc, waiting),
     );
     waited?;
     // (false, true)
-    Some((was_set, told.is_set()))
+    Ok((was_set, told.is_set()))
 }

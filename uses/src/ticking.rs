@@ -1,39 +1,31 @@
-//! Tasks that are run by ticks, and by two threads.
-use crate::common::run_all;
-use crate::futures::{Nobody, Sum};
-use async_executor::{Executor, Future, Poll};
+//! Tasks that two threads run by ticks.
+use async_executor::Executor;
+use async_utilities::{NoopWaker, Ready};
+use std::alloc::Global;
+use std::io;
 use std::sync::Wait;
 use std::thread::{self, Threads};
 
-// Spawns a task whose handle nobody keeps.
-fn leaves<R: Wait + Clone + Drop + Send + Sync>(
-    executor: &Executor<Sum, Nobody, R>,
-    sum: Sum,
-) -> Option<()> {
-    executor.spawn(sum).ok()?.detach();
-    Some(())
-}
+type Numbers<R> = Executor<Ready<u64>, NoopWaker, R>;
 
-/// Runs one task by a tick. While none is scheduled the tick sleeps, and a spawn wakes it.
-pub fn sleeps<R: Wait + Clone + Drop + Send + Sync>(
-    executor: &Executor<Sum, Nobody, R>,
-) -> Option<(Poll<()>, Poll<()>)> {
-    let mut tick = executor.tick().ok()?;
-    let asleep = tick.poll(&Nobody);
-    leaves(executor, Sum::of(1, 2))?;
-    let woken = tick.poll(&Nobody);
-    // The first poll of the task asked for another one.
-    executor.try_tick();
-    Some((asleep, woken))
-}
-
-/// Runs the tasks of one executor on two threads.
+/// Runs the tasks of one executor on two threads, and says whether all have ended.
 pub fn shares<R: Wait + Threads + Clone + Drop + Send + Sync>(
     rt: &R,
-    executor: &Executor<Sum, Nobody, R>,
-) -> Option<bool> {
-    leaves(executor, Sum::of(1, 2))?;
-    leaves(executor, Sum::of(3, 4))?;
-    thread::join(rt, || run_all(rt, executor), || run_all(rt, executor));
-    Some(executor.is_empty())
+    alloc: Global,
+) -> io::Result<bool> {
+    let executor: Numbers<R> = Executor::new(rt.clone()?, alloc)?;
+    executor.spawn(Ready::new(3))?.detach();
+    executor.spawn(Ready::new(7))?.detach();
+    thread::join(rt, || run_all(rt, &executor), || run_all(rt, &executor));
+    // true
+    Ok(executor.is_empty())
+}
+
+// Runs tasks until nothing is scheduled.
+fn run_all<R: Wait + Clone + Drop + Send + Sync>(rt: &R, executor: &Numbers<R>) {
+    for _ in rt.forever() {
+        if !executor.try_tick() {
+            break;
+        }
+    }
 }

@@ -2,6 +2,7 @@
 use async_executor::{Executor, Future, Poll, TaskWaker, Wake};
 use async_utilities::{NoopWaker, Receiver, Sender, ThreadWaker, bounded, run_until};
 use std::alloc::Global;
+use std::io;
 use std::sync::Wait;
 
 // A poll passes so many numbers on at most: then it lets others of its thread go on.
@@ -40,26 +41,28 @@ impl<R: Wait + Clone + Drop> Future<TaskWaker<ThreadWaker, R>> for Squaring<R> {
 }
 
 /// Sends three numbers to a task, which sends the square of each. Gives how many it sent, and their sum.
-pub fn squares<R: Wait + Clone + Drop + Send + Sync>(rt: &R, alloc: Global) -> Option<(u64, u64)> {
-    let (sender, numbers) = bounded(rt.clone().ok()?, alloc, 4).ok()?;
-    let (squares, receiver) = bounded(rt.clone().ok()?, alloc, 4).ok()?;
+pub fn squares<R: Wait + Clone + Drop + Send + Sync>(
+    rt: &R,
+    alloc: Global,
+) -> io::Result<(u64, u64)> {
+    let (sender, numbers) = bounded(rt.clone()?, alloc, 4)?;
+    let (squares, receiver) = bounded(rt.clone()?, alloc, 4)?;
     for number in 1..4 {
-        sender.try_send(number).ok()?;
+        sender.try_send(number)?;
     }
     drop(sender);
-    let executor = Executor::new(rt.clone().ok()?, alloc).ok()?;
-    let task = executor
-        .spawn(Squaring {
-            numbers,
-            squares,
-            unsent: None,
-            sent: 0,
-        })
-        .ok()?;
-    let sent = run_until(rt, alloc, &executor, task).ok()?.ok()?;
+    let executor = Executor::new(rt.clone()?, alloc)?;
+    let task = executor.spawn(Squaring {
+        numbers,
+        squares,
+        unsent: None,
+        sent: 0,
+    })?;
+    let sent = run_until(rt, alloc, &executor, task)??;
     let mut sum = 0u64;
     for _ in 0..sent {
-        sum = sum.saturating_add(receiver.try_receive().ok()?);
+        sum = sum.saturating_add(receiver.try_receive()?);
     }
-    Some((sent, sum))
+    // (3, 14)
+    Ok((sent, sum))
 }

@@ -2,6 +2,7 @@
 use async_executor::{Executor, TaskWaker};
 use async_utilities::{Answer, Job, Pool, ThreadWaker, Work, run_until};
 use std::alloc::Global;
+use std::io;
 use std::sync::Wait;
 use std::thread::{Threads, yield_now};
 
@@ -32,11 +33,11 @@ type Tasks<R> = Executor<Answer<u64, Waker<R>, R>, ThreadWaker, R>;
 pub fn unblocks<R: Wait + Threads + Clone + Drop + Send + Sync + 'static>(
     rt: &R,
     alloc: Global,
-) -> Option<u64> {
-    let jobs: Jobs<R> = Pool::new(rt.clone().ok()?, alloc, 1).ok()?;
-    let executor: Tasks<R> = Executor::new(rt.clone().ok()?, alloc).ok()?;
-    let answer = jobs.unblock(Slow { number: 7 }).ok()?;
-    let task = executor.spawn(answer).ok()?;
+) -> io::Result<u64> {
+    let jobs: Jobs<R> = Pool::new(rt.clone()?, alloc, 1)?;
+    let executor: Tasks<R> = Executor::new(rt.clone()?, alloc)?;
+    let answer = jobs.unblock(Slow { number: 7 })?;
+    let task = executor.spawn(answer)?;
     // 7
-    run_until(rt, alloc, &executor, task).ok()?.ok()?.ok()
+    Ok(run_until(rt, alloc, &executor, task)???)
 }

@@ -19,12 +19,12 @@ use thiserror::Error;
 /// Example: `uses::reuses`.
 ///
 /// ```text
-/// let waker = ThreadWaker::new(alloc).ok()?;
+/// let waker = ThreadWaker::new(alloc)?;
 /// let first = waker.block_on(rt, Ready::new(1u64));
 /// waker.block_on(rt, YieldNow::new());
 /// let second = waker.block_on(rt, Ready::new(2u64));
 /// // 3
-/// first.checked_add(second)
+/// Ok(first.saturating_add(second))
 /// ```
 #[derive(Drop)]
 pub struct ThreadWaker {

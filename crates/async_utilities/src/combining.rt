@@ -66,12 +66,12 @@ pub trait Change<A>: Drop {
 /// Example: `uses::races`.
 ///
 /// ```text
-/// let mine = ThreadWaker::new(alloc).ok()?;
+/// let mine = ThreadWaker::new(alloc)?;
 /// let later = Number::Right(Map::new(YieldNow::new(), Gives { number: 1 }));
 /// let there = Number::Left(Ready::new(2));
 /// let mut first = Or::new(later, there);
 /// // 2
-/// Some(poll_until_ready(rt, &mine, |w| first.poll(w)))
+/// Ok(poll_until_ready(rt, &mine, |w| first.poll(w)))
 /// ```
 #[derive(Drop)]
 pub struct Map<G, C> {
@@ -124,10 +124,10 @@ pub(crate) enum Stage<G, C, H> {
 /// Example: `uses::follows`.
 ///
 /// ```text
-/// let mine = ThreadWaker::new(alloc).ok()?;
+/// let mine = ThreadWaker::new(alloc)?;
 /// let mut both = Then::new(Ready::new(2), Begins { number: 1 });
 /// // (2, 1)
-/// Some(poll_until_ready(rt, &mine, |w| both.poll(w)))
+/// Ok(poll_until_ready(rt, &mine, |w| both.poll(w)))
 /// ```
 #[derive(Drop)]
 pub struct Then<G, C, H> {
@@ -332,13 +332,11 @@ fn poll_first_of<W, A: Future<W>, B: Future<W, Output = A::Output>>(
 /// Example: `uses::alternates`.
 ///
 /// ```text
-/// let mine = ThreadWaker::new(alloc).ok()?;
+/// let mine = ThreadWaker::new(alloc)?;
 /// let mut race = Race::new(Late::new(1), Late::new(2));
-/// // 2: the right one goes first at the second poll
-/// match (race.poll(&mine), race.poll(&mine)) {
-///     (Poll::Pending, Poll::Ready(number)) => Some(number),
-///     _ => None,
-/// }
+/// let first = race.poll(&mine);
+/// // [Pending, Ready(2)]: the right one goes first at the second poll
+/// Ok([first, race.poll(&mine)])
 /// ```
 #[derive(Drop)]
 pub struct Race<A, B> {

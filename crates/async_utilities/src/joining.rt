@@ -135,16 +135,10 @@ pub struct First<G, T> {
 /// Example: `uses::picks`.
 ///
 /// ```text
-/// let mut futures = Vec::new(alloc);
-/// for number in 0..3 {
-///     futures.push(Late::new(number)).ok()?;
-/// }
-/// if futures.is_empty() {
-///     return None;
-/// }
-/// let first = block_on(rt, alloc, AnyOf::new(futures)).ok()?;
+/// let futures = vec![in alloc; Late::new(0), Late::new(1), Late::new(2)]?;
+/// let first = block_on(rt, alloc, AnyOf::new(futures))?;
 /// // (0, 0, 2)
-/// Some((first.place, first.output, first.others.len()))
+/// Ok((first.place, first.output, first.others.len()))
 /// ```
 #[derive(Drop)]
 pub struct AnyOf<G> {

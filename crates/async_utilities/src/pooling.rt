@@ -69,16 +69,17 @@ impl<G: Drop> From<RunError<G>> for PoolError {
 /// Example: `uses::joins`.
 ///
 /// ```text
-/// let pool: Pool<Sum, R> = Pool::new(rt.clone().ok()?, alloc, 4).ok()?;
+/// let pool: Pool<Ready<u64>, R> = Pool::new(rt.clone()?, alloc, 4)?;
 /// let mut tasks = Vec::new(alloc);
-/// let sums = (0..1000).map(|number| Sum::of(number, 1));
-/// pool.executor().spawn_many(sums, &mut tasks).ok()?;
-/// let all = JoinAll::new(alloc, tasks).ok()?;
+/// let futures = (1..1_001).map(|number| Ready::new(number));
+/// pool.executor().spawn_many(futures, &mut tasks)?;
+/// let all = JoinAll::new(alloc, tasks)?;
 /// let mut total = 0u64;
-/// for output in block_on(rt, alloc, all).ok()? {
-///     total = total.checked_add(output.ok()?)?;
+/// for output in block_on(rt, alloc, all)? {
+///     total = total.saturating_add(output?);
 /// }
-/// Some(total)
+/// // 500,500
+/// Ok(total)
 /// ```
 #[derive(Drop)]
 pub struct Pool<F, R>

@@ -21,18 +21,18 @@ use std::sync::{Arc, Wait};
 /// Example: `uses::tells`, and of threads that run tasks `uses::pools`.
 ///
 /// ```text
-/// let told: Signal<ThreadWaker, R> = Signal::new(rt.clone().ok()?, alloc).ok()?;
-/// let other = told.copy().ok()?;
-/// let waiting = told.waiting().ok()?;
+/// let told: Signal<ThreadWaker, R> = Signal::new(rt.clone()?, alloc)?;
+/// let other = told.copy()?;
+/// let waiting = told.waiting()?;
 /// let was_set = told.is_set();
 /// let (_, waited) = thread::join(
 ///     rt,
 ///     move || other.set(),
-///     move || block_on(rt, alloc, waiting).ok(),
+///     move || block_on(rt, alloc, waiting),
 /// );
 /// waited?;
 /// // (false, true)
-/// Some((was_set, told.is_set()))
+/// Ok((was_set, told.is_set()))
 /// ```
 #[derive(Drop)]
 pub struct Signal<W: Wake, R: Wait + Drop> {

@@ -17,12 +17,12 @@ use std::thread::Threads;
 /// Example: `uses::unblocks`, of a `Slow`.
 ///
 /// ```text
-/// let jobs: Jobs<R> = Pool::new(rt.clone().ok()?, alloc, 1).ok()?;
-/// let executor: Tasks<R> = Executor::new(rt.clone().ok()?, alloc).ok()?;
-/// let answer = jobs.unblock(Slow { number: 7 }).ok()?;
-/// let task = executor.spawn(answer).ok()?;
+/// let jobs: Jobs<R> = Pool::new(rt.clone()?, alloc, 1)?;
+/// let executor: Tasks<R> = Executor::new(rt.clone()?, alloc)?;
+/// let answer = jobs.unblock(Slow { number: 7 })?;
+/// let task = executor.spawn(answer)?;
 /// // 7
-/// run_until(rt, alloc, &executor, task).ok()?.ok()?.ok()
+/// Ok(run_until(rt, alloc, &executor, task)???)
 /// ```
 pub trait Job: Drop {
     /// What it gives.

@@ -20,16 +20,17 @@ use std::sync::Wait;
 ///
 /// ```text
 /// let levels = Levels::new(PriorityExecutor::new(rt.clone()?, alloc)?);
-/// let pool: PriorityPool<Sum, R, 2> = PoolOf::new(rt.clone()?, alloc, 2, levels)?;
+/// let pool: PriorityPool<Ready<u64>, R, 2> = PoolOf::new(rt.clone()?, alloc, 2, levels)?;
 /// let mut tasks = Vec::new(alloc);
 /// for request in 0..20 {
 ///     let level = if request % 5 == 0 { 0 } else { 1 };
-///     tasks.push(pool.executor().spawn(level, Sum::of(request, 1))?)?;
+///     tasks.push(pool.executor().spawn(level, Ready::new(request))?)?;
 /// }
-/// let total = total_of(rt, alloc, tasks)?;
-/// for ended in pool.join() {
-///     ended?;
+/// let mut total = 0u64;
+/// for answer in block_on(rt, alloc, JoinAll::new(alloc, tasks)?)? {
+///     total = total.saturating_add(answer?);
 /// }
+/// // 190
 /// Ok(total)
 /// ```
 pub type PriorityPool<F, R, const N: usize> = PoolOf<Levels<F, R, N>, R>;

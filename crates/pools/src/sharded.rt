@@ -19,10 +19,10 @@ use std::thread::Threads;
 /// Example: `uses::sums_on_shards`.
 ///
 /// ```text
-/// let pool: ShardedPool<Sum, R> = ShardedPool::new(rt.clone()?, alloc, 4)?;
+/// let pool: ShardedPool<Ready<u64>, R> = ShardedPool::new(rt.clone()?, alloc, 4)?;
 /// let mut tasks = Vec::new(alloc);
-/// for number in 0..1000 {
-///     tasks.push(pool.executor().spawn(Sum::of(number, 1))?)?;
+/// for number in 1..1_001 {
+///     tasks.push(pool.executor().spawn(Ready::new(number))?)?;
 /// }
 /// let total = total_of(rt, alloc, tasks)?;
 /// for ended in pool.join() {

@@ -60,7 +60,7 @@ fn of_executors<R: Wait + Clone + Drop + Send + Sync>(
 fn of_handles<R: Wait + Clone + Drop + Send + Sync>(
     rt: &R,
     alloc: Global,
-) -> io::Result<[Line; 8]> {
+) -> io::Result<[Line; 9]> {
     let once = [Poll::Ready(Ok(7)), Poll::Ready(Err(Cancelled))];
     let ended = (true, Poll::Ready(None));
     Ok([
@@ -76,6 +76,10 @@ fn of_handles<R: Wait + Clone + Drop + Send + Sync>(
         (
             "cancels_and_awaits",
             handles::cancels_and_awaits(rt, alloc)? == CANCELLED,
+        ),
+        (
+            "cancels_half_way",
+            handles::cancels_half_way(rt, alloc)? == [Poll::Pending, Poll::Ready(None)],
         ),
         ("finishes", handles::finishes(rt, alloc)? == [false, true]),
         (

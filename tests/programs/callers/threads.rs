@@ -1,15 +1,15 @@
 //! Callers of several threads, of channels and of timers.
-use super::{Line, are, compare};
+use super::{Line, compare};
 use async_utilities::{NoMessage, PoolError, TooManyPermits, Unavailable, Unsent};
 use std::alloc::Global;
+use std::io;
 use std::sync::Wait;
 use std::test::Fail;
 use std::thread::Threads;
 use std::time::{Clock, Duration};
-use uses::common::executor;
 use uses::{
-    answers_in_order, closes_a_channel, fans_out, gives_up, hears, joins, limits_a_pool, makes_once,
-    meets, parks, pools, races, requests_tasks, rests, sends_to_a_task, serves, shares, takes_many,
+    answers_in_order, closes_a_channel, fans_out, gives_up, hears, joins, makes_once, meets,
+    parks, pools, races, requests_tasks, rests, sends_to_a_task, serves, shares, takes_many,
     takes_permits, takes_turns, tells, times_out, tries, winds_up,
 };
 
@@ -37,36 +37,33 @@ fn is_late(passed: Option<(u128, Duration)>) -> bool {
 fn pooled<R: Wait + Threads + Clone + Drop + Send + Sync + 'static>(
     rt: &R,
     alloc: Global,
-) -> [Line; 5] {
-    [
-        ("parks", parks(rt, alloc) == Some(10)),
-        ("pools", pools(rt, alloc) == Some(10)),
-        ("joins", joins(rt, alloc) == Some(500_500)),
-        ("limits_a_pool", limits_a_pool(rt, alloc).ok() == Some(210)),
+) -> io::Result<[Line; 4]> {
+    Ok([
+        ("parks", parks(rt, alloc)? == 10),
+        ("pools", pools(rt, alloc)? == 10),
+        ("joins", joins(rt, alloc)? == 500_500),
         ("winds_up", are_joined(winds_up(rt, alloc))),
-    ]
+    ])
 }
 
 fn sent<R: Wait + Threads + Clone + Drop + Send + Sync + 'static>(
     rt: &R,
     alloc: Global,
-) -> [Line; 8] {
+) -> io::Result<[Line; 8]> {
     let tried = Some((Unsent::Full(2), 1, NoMessage::Empty));
     let many = Some(([3, 1], 10, NoMessage::Empty));
     let closed = Some(([1, usize::MAX, 1, 1], [false, false, true], Ok(1)));
-    [
-        ("fans_out", fans_out(rt, alloc).ok() == Some(15)),
-        ("requests_tasks", requests_tasks(rt, alloc) == Some(15)),
-        ("sends_to_a_task", sends_to_a_task(rt, alloc) == Some(190)),
-        (
-            "answers_in_order",
-            are(answers_in_order(rt, alloc), &DOUBLES),
-        ),
+    let answers = answers_in_order(rt, alloc)?;
+    Ok([
+        ("fans_out", fans_out(rt, alloc)? == 15),
+        ("requests_tasks", requests_tasks(rt, alloc)? == 15),
+        ("sends_to_a_task", sends_to_a_task(rt, alloc)? == 190),
+        ("answers_in_order", answers.as_slice() == DOUBLES.as_slice()),
         ("tries", tries(rt, alloc) == tried),
         ("takes_many", takes_many(rt, alloc) == many),
         ("closes_a_channel", closes_a_channel(rt, alloc) == closed),
         ("gives_up", gives_up(rt, alloc) == Some(2)),
-    ]
+    ])
 }
 
 fn locked<R: Wait + Threads + Clone + Drop + Send + Sync>(rt: &R, alloc: Global) -> [Line; 5] {
@@ -84,39 +81,38 @@ fn locked<R: Wait + Threads + Clone + Drop + Send + Sync>(rt: &R, alloc: Global)
 fn lent<R: Wait + Threads + Clock + Clone + Drop + Send + Sync>(
     rt: &R,
     alloc: Global,
-) -> Option<[Line; 3]> {
-    let shared = executor(rt, alloc)?;
-    Some([
-        ("shares", shares(rt, &shared) == Some(true)),
-        ("serves", serves(rt, executor(rt, alloc)?) == Some(10)),
-        ("times_out", times_out(rt, alloc) == Some(true)),
+) -> io::Result<[Line; 3]> {
+    Ok([
+        ("shares", shares(rt, alloc)?),
+        ("serves", serves(rt, alloc)? == 10),
+        ("times_out", times_out(rt, alloc)?),
     ])
 }
 
 fn waited<R: Wait + Threads + Clock + Clone + Drop + Send + Sync>(
     rt: &R,
     alloc: Global,
-) -> [Line; 3] {
-    [
-        ("races", races(rt, alloc) == Some(2)),
-        ("tells", tells(rt, alloc) == Some((false, true))),
+) -> io::Result<[Line; 3]> {
+    Ok([
+        ("races", races(rt, alloc)? == 2),
+        ("tells", tells(rt, alloc)? == (false, true)),
         ("rests", is_late(rests(rt, alloc))),
-    ]
+    ])
 }
 
 #[test]
 fn threads_run_the_tasks_of_one_executor(rt: HostRuntime) -> Result<(), Fail> {
-    compare(&pooled(&rt, rt.alloc()))
+    compare(&pooled(&rt, rt.alloc())?)
 }
 
 #[test]
 fn channels_carry_what_is_wanted(rt: HostRuntime) -> Result<(), Fail> {
-    compare(&sent(&rt, rt.alloc()))
+    compare(&sent(&rt, rt.alloc())?)
 }
 
 #[test]
 fn threads_wait_for_what_comes(rt: HostRuntime) -> Result<(), Fail> {
-    compare(&waited(&rt, rt.alloc()))
+    compare(&waited(&rt, rt.alloc())?)
 }
 
 #[test]
@@ -126,8 +122,5 @@ fn tasks_and_threads_await_each_other(rt: HostRuntime) -> Result<(), Fail> {
 
 #[test]
 fn executors_are_lent_to_threads(rt: HostRuntime) -> Result<(), Fail> {
-    match lent(&rt, rt.alloc()) {
-        Some(lines) => compare(&lines),
-        None => Err(Fail::from("no memory")),
-    }
+    compare(&lent(&rt, rt.alloc())?)
 }

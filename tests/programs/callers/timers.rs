@@ -1,6 +1,8 @@
 //! Callers of timers, and of futures made of others.
 use super::{Line, compare};
+use async_executor::Poll;
 use std::alloc::Global;
+use std::io;
 use std::sync::Wait;
 use std::test::Fail;
 use std::thread::Threads;
@@ -18,19 +20,19 @@ fn timed<R: Wait + Clock + Clone + Drop + Send + Sync>(rt: &R, alloc: Global) ->
     [
         ("beats", is_long(beats(rt, alloc), 4)),
         ("repeats", is_long(repeats(rt, alloc), 2)),
-        ("dozes", dozes(rt, alloc).is_some()),
+        ("dozes", dozes(rt, alloc).is_ok()),
         ("postpones", is_long(postpones(rt, alloc), 2)),
         ("simulates", simulates(rt, alloc) == Some((3_600, 7_200))),
     ]
 }
 
-fn chosen<R: Wait>(rt: &R, alloc: Global) -> [Line; 4] {
-    [
-        ("follows", follows(rt, alloc) == Some((2, 1))),
-        ("reuses", reuses(rt, alloc) == Some(3)),
-        ("alternates", alternates(alloc) == Some(2)),
-        ("picks", picks(rt, alloc) == Some((0, 0, 2))),
-    ]
+fn chosen<R: Wait>(rt: &R, alloc: Global) -> io::Result<[Line; 4]> {
+    Ok([
+        ("follows", follows(rt, alloc)? == (2, 1)),
+        ("reuses", reuses(rt, alloc)? == 3),
+        ("alternates", alternates(alloc)? == [Poll::Pending, Poll::Ready(2)]),
+        ("picks", picks(rt, alloc)? == (0, 0, 2)),
+    ])
 }
 
 #[test]
@@ -40,10 +42,10 @@ fn times_come_when_they_are_wanted(rt: HostRuntime) -> Result<(), Fail> {
 
 #[test]
 fn futures_are_made_of_others(rt: HostRuntime) -> Result<(), Fail> {
-    compare(&chosen(&rt, rt.alloc()))
+    compare(&chosen(&rt, rt.alloc())?)
 }
 
 #[test]
 fn a_task_awaits_what_blocks(rt: HostRuntime) -> Result<(), Fail> {
-    compare(&[("unblocks", unblocks(&rt, rt.alloc()) == Some(7))])
+    compare(&[("unblocks", unblocks(&rt, rt.alloc())? == 7)])
 }

@@ -45,13 +45,13 @@ pub trait Driven<R: Wait + Drop>: Drop {
 /// };
 /// let executor = Executor::new_with(rt.clone()?, alloc, limits)?;
 /// let pool = PoolOf::new(rt.clone()?, alloc, 2, Limited { executor })?;
-/// let task = pool.executor().executor.spawn(Sum::of(3, 4))?;
-/// let sum = block_on(rt, alloc, task)??;
+/// let task = pool.executor().executor.spawn(Ready::new(7))?;
+/// let number = block_on(rt, alloc, task)??;
 /// for ended in pool.join() {
 ///     ended?;
 /// }
 /// // 7
-/// Ok(sum)
+/// Ok(number)
 /// ```
 pub struct PoolOf<E, R>
 where
