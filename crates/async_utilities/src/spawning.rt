@@ -20,7 +20,7 @@ pub(crate) mod job_queue;
 use crate::blocking::ThreadWaker;
 use crate::channels::Unsent;
 use crate::due::wake_unless_kept;
-use crate::locked::locked;
+use crate::locked::lock;
 use crate::spawning::job_queue::JobQueue;
 use async_executor::{Future, OutOfMemory, Poll, TaskWaker, Wake};
 use std::alloc::Global;
@@ -61,7 +61,7 @@ struct Desk<J: Drop, R: Wait + Clone + Drop> {
 impl<J: Drop, R: Wait + Clone + Drop> Desk<J, R> {
     #[inline(always)]
     fn jobs(&self) -> LockedJobs<'_, J, R> {
-        locked(&self.jobs, &self.rt)
+        lock(&self.jobs, &self.rt)
     }
 
     // Takes the first job for the server of this place. If there is none, the server is counted no longer, and
