@@ -36,7 +36,7 @@ stands() { grep -qE -- "$1" "$copy/sources"; }
 
 # Runs exsim: that of the gate, unless a source is newer.
 run_exsim() {
-    if [ -x crates/exsim/out/exsim ] && [ -z "$(find crates -name '*.rt' -newer crates/exsim/out/exsim)" ]; then
+    if [ -x crates/exsim/out/exsim ] && [ -z "$(find crates/*/src -newer crates/exsim/out/exsim)" ]; then
         crates/exsim/out/exsim
     else
         (cd crates/exsim && "${RT:-rt}" try 2> /dev/null)
