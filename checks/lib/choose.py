@@ -4,10 +4,10 @@ Each function that an edit changes gets the body that the edit makes of its own,
 number of the edit is chosen. The crates of tests become one, the suite. Of their tests those stay
 that an edit names, and each edit has a copy of its test, of the edit's name, which chooses that
 number first. All code is first written as the edits need it, which does the same.
-Usage: choose.py folder COPY NAME, which keeps every test of this folder of tests, or choose.py beside COPY
-EDIT.., or choose.py program COPY EDIT.., which leaves the tests, or choose.py one COPY MODULE::TEST, which
-keeps that one alone. COPY is a copy of the repository, and EDIT a file. With status 1 it says why one
-cannot be applied.
+Usage: choose.py folder COPY NAME EDIT.., which also keeps every test of this folder of tests, or choose.py
+beside COPY EDIT.., or choose.py program COPY EDIT.., which leaves the tests, or choose.py one COPY
+MODULE::TEST, which keeps that one alone. COPY is a copy of the repository, and EDIT a file. With status 1
+it says why one cannot be applied.
 """
 import os
 import re
@@ -185,9 +185,9 @@ def copies_of(test, function, path, edits, is_kept):
     return "".join(copies)
 
 
-def main(way, copy, *paths):
-    kept = set(paths) if way in ("folder", "one") else set()
-    edits = [] if kept else [(number, Edit(path)) for number, path in enumerate(paths, 1)]
+def main(way, copy, *words):
+    kept = set(words[:1]) if way in ("folder", "one") else set()
+    edits = [(number, Edit(path)) for number, path in enumerate(words[len(kept) :], 1)]
     try:
         for _, edit in edits:
             edit.rewrite(copy)
