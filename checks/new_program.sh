@@ -62,6 +62,8 @@ compare 'the program runs' runs
 
 compare 'no folder' refuses 'name a folder'
 compare 'a folder without a name' refuses 'has no name' ''
+compare 'an option that there is not' refuses 'there is no option' --proved new
+compare 'an option behind the other' refuses 'there is no option' --unproved -x
 compare 'three words' refuses 'name a folder' a b c
 compare 'a folder that has files' refuses 'has files' full
 compare 'a folder that was laid out' refuses 'has files' app
