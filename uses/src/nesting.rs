@@ -25,22 +25,18 @@ impl<W: Wake, R: Wait + Clone + Drop> Future<W> for Inner<'_, W, R> {
 pub fn nests<R: Wait + Clone + Drop + Send + Sync>(rt: &R, alloc: Global) -> io::Result<u64> {
     let inner = Executor::new(rt.clone()?, alloc)?;
     let task = inner.spawn(Ready::new(3))?;
-    runs_inner(
-        rt,
-        alloc,
-        Inner {
-            run: inner.run(task)?,
-        },
-    )
+    let run = inner.run(task)?;
+    Ok(runs_alone(rt, alloc, Inner { run })??)
 }
 
-// Runs it on an executor of its own.
-fn runs_inner<R: Wait + Clone + Drop + Send + Sync>(
-    rt: &R,
-    alloc: Global,
-    inner: Inner<'_, TaskWaker<ThreadWaker, R>, R>,
-) -> io::Result<u64> {
+// Runs a future on an executor of its own.
+fn runs_alone<F, R>(rt: &R, alloc: Global, future: F) -> io::Result<F::Output>
+where
+    F: Future<TaskWaker<ThreadWaker, R>> + Send,
+    F::Output: Send,
+    R: Wait + Clone + Drop + Send + Sync,
+{
     let outer = Executor::new(rt.clone()?, alloc)?;
-    let task = outer.spawn(inner)?;
-    Ok(run_until(rt, alloc, &outer, task)???)
+    let task = outer.spawn(future)?;
+    Ok(run_until(rt, alloc, &outer, task)??)
 }
