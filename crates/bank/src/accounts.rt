@@ -1,5 +1,5 @@
 //! The accounts of a bank, and the transfers between them.
-ghost use Rattle.std.specs.Prelude.{◌≡◌, ◌↔◌, ◌×◌, ◌<◌, ◌≤◌, ◌^◌, ◌*◌, false, sum, slice_index, IsTrue};
+ghost use Rattle.std.specs.Prelude.{◌≡◌, ◌↔◌, ◌<◌, ◌≤◌, ◌^◌, ◌*◌, false, sum, slice_index, IsTrue};
 ghost use Rattle.bank.specs.Transfers.{credited, debited};
 
 pub const ACCOUNTS: usize = 10;
