@@ -31,6 +31,13 @@ same() {
     fi
 }
 
+# The texts in backticks of the cell on standard input that a file lacks.
+lacked_by() {
+    grep -o '`[^`]*`' | tr -d '`' | while IFS= read -r text; do
+        grep -qF -- "$text" "$1" || echo "$1: $text"
+    done
+}
+
 # Whether this pattern is found in a source or a spec.
 stands() { grep -qE -- "$1" "$copy/sources"; }
 
@@ -139,15 +146,25 @@ block docs/FROM_SMOL.md rust "## From an" > "$copy/said"
 sed -n '/^    fn poll/,/^    }/s/^    //p' uses/src/translating.rs > "$copy/wanted"
 same "FROM_SMOL.md, the poll and the folder uses"
 
+# A row has what stands in the async fn, and what in the type that it became.
+block docs/FROM_SMOL.md text "## From an" > "$copy/smol"
+sed -n '/^in smol | here$/,/^$/{/`/p}' docs/FROM_SMOL.md > "$copy/rows"
+while IFS='|' read -r smol here; do
+    echo "$smol" | lacked_by "$copy/smol"
+    echo "$here" | lacked_by uses/src/translating.rs
+done < "$copy/rows" > "$copy/log"
+if [ -s "$copy/log" ] || [ "$(wc -l < "$copy/rows")" -lt 10 ]; then
+    fail "FROM_SMOL.md, rows of the async fn that do not stand in it, or in its type:" "$copy/log"
+else
+    pass "FROM_SMOL.md: $(wc -l < "$copy/rows") rows of the async fn, as it and its type have them"
+fi
+
 # A row has what one writes with smol, what one writes here, and the caller in whose file that stands.
 sed -n '/^## What one writes/,/^## From/{s/[\\]|//g;p}' docs/FROM_SMOL.md |
     grep '| `uses::[a-z_:]*`$' > "$copy/rows"
 while IFS='|' read -r _ here caller; do
     caller=$(echo "$caller" | tr -d ' `')
-    file=$(file_of "$caller")
-    echo "$here" | grep -o '`[^`]*`' | tr -d '`' | while IFS= read -r text; do
-        grep -qF -- "$text" "$file" || echo "$caller: $text"
-    done
+    echo "$here" | lacked_by "$(file_of "$caller")"
 done < "$copy/rows" > "$copy/log"
 if [ -s "$copy/log" ] || [ "$(wc -l < "$copy/rows")" -lt 15 ]; then
     fail "FROM_SMOL.md, rows whose callers lack what they say:" "$copy/log"

@@ -20,13 +20,11 @@ const VISITS: usize = 6;
 
 /// Stands still until its time is moved.
 #[derive(Drop)]
-struct StillClock {
-    time: Rc<Cell<Duration>>,
-}
+struct StillClock(Rc<Cell<Duration>>);
 
 impl Clock for StillClock {
     fn monotonic(&self) -> io::Result<Duration> {
-        Ok(self.time.get())
+        Ok(self.0.get())
     }
 
     fn since_1970(&self) -> io::Result<Duration> {
@@ -56,9 +54,8 @@ impl<R: Wait + Clone + Drop> Future<TaskWaker<ThreadWaker, R>> for Customer<R> {
             let Ok(mut accounts) = self.accounts.try_borrow_mut() else {
                 continue;
             };
-            let from = self.number % ACCOUNTS;
             let to = self.number.wrapping_mul(visit) % ACCOUNTS;
-            if !accounts.transfer(from, to, 20) {
+            if !accounts.transfer(self.number % ACCOUNTS, to, 20) {
                 self.refused = self.refused.saturating_add(1);
             }
         }
@@ -66,37 +63,10 @@ impl<R: Wait + Clone + Drop> Future<TaskWaker<ThreadWaker, R>> for Customer<R> {
     }
 }
 
-/// Runs the tasks, and moves the clock on while none can run, until no deadline is left.
-fn run_all<R: Wait + Clone + Drop>(
-    rt: &R,
-    executor: &LocalExecutor<Customer<R>, ThreadWaker, R>,
-    timer: &Timer<TaskWaker<ThreadWaker, R>, StillClock, R>,
-    time: &Cell<Duration>,
-) -> io::Result<()> {
-    let driver = timer.driver()?;
-    for _ in rt.forever() {
-        if executor.try_tick() {
-            continue;
-        }
-        let firing = driver.fire()?;
-        match firing.left {
-            _ if firing.has_woken => {}
-            Some(left) => time.set(time.get().saturating_add(left)),
-            None => break,
-        }
-    }
-    Ok(())
-}
-
-/// Lets all customers come and go. Gives how long that takes, how many transfers were refused, and how
-/// much money there is in the end.
-fn simulate<R: Wait + Clone + Drop>(rt: &R, alloc: Global) -> io::Result<(Duration, u64, u64)> {
+fn simulate<R: Wait + Print + Clone + Drop>(rt: &R, alloc: Global) -> io::Result<()> {
     let time = Rc::new(alloc, Cell::new(Duration::ZERO))?;
-    let clock = StillClock {
-        time: time.clone()?,
-    };
-    let timer = Timer::new(rt.clone()?, clock, alloc)?;
-    let accounts = Rc::new(alloc, RefCell::new(Accounts::open(alloc, 100)?))?;
+    let timer = Timer::new(rt.clone()?, StillClock(time.clone()?), alloc)?;
+    let accounts = Rc::new(alloc, RefCell::new(Accounts::open(100)))?;
     let executor = LocalExecutor::new(rt.clone()?, alloc)?;
     let mut tasks = Vec::new(alloc);
     for number in 0..CUSTOMERS {
@@ -109,17 +79,27 @@ fn simulate<R: Wait + Clone + Drop>(rt: &R, alloc: Global) -> io::Result<(Durati
         };
         tasks.push(executor.spawn(customer)?)?;
     }
-    run_all(rt, &executor, &timer, &time)?;
+    let driver = timer.driver()?;
+    for _ in rt.forever() {
+        if executor.try_tick() {
+            continue;
+        }
+        let firing = driver.fire()?;
+        match firing.left {
+            _ if firing.has_woken => {}
+            Some(left) => time.set(time.get().saturating_add(left)),
+            None => break,
+        }
+    }
     let mut refused = 0u64;
     for task in tasks {
         refused = refused.saturating_add(block_on(rt, alloc, task)??);
     }
+    let minutes = time.get().as_secs() / 60;
     let total = accounts.try_borrow()?.total();
-    Ok((time.get(), refused, total))
+    println!(rt; "{minutes} minutes, {refused} transfers refused, {total} in all accounts")
 }
 
 fn main(rt: HostRuntime) -> io::Result<()> {
-    let (time, refused, total) = simulate(&rt, rt.alloc())?;
-    let minutes = time.as_secs() / 60;
-    println!(rt; "{minutes} minutes, {refused} transfers refused, {total} in all accounts")
+    simulate(&rt, rt.alloc())
 }
