@@ -138,15 +138,15 @@ impl<R: Wait + Drop> TimerWalk<R> {
 
     // Moves one, and the waker that it left, to another time.
     fn reset(&mut self, one: usize, more: u64) -> Result<bool, Fail> {
-        let to = self.later(more)?;
+        let (to, at) = (self.later(more)?, self.now + more);
         let Some((after, time)) = &mut self.afters[one] else {
             return Ok(true);
         };
-        *time = self.now + more;
+        *time = at;
         after.reset(to);
         if self.model.is_set(AFTERS, one) {
             self.model.remove(AFTERS, one);
-            self.model.deadlines.push(Deadline { time: *time, kind: AFTERS, one })?;
+            self.model.deadlines.push(Deadline { time: at, kind: AFTERS, one })?;
         }
         Ok(true)
     }
