@@ -2,7 +2,8 @@
 //! once, beside plain models of them.
 //!
 //! All that a walk does comes from its seed. After each step the answer is that of the model, those whom
-//! the model wakes were woken, in its order, and as many wakers are kept as wait in it.
+//! the model wakes were woken, in its order and each by the waker of its last poll, and as many wakers are
+//! kept as wait in it.
 //!
 //! WALKS says how many walks there are, if it is set, and SEED which is the first.
 mod barriers;
@@ -28,6 +29,7 @@ use signals::SignalWalk;
 use std::alloc::Global;
 use std::env;
 use std::sync::Wait;
+use std::sync::atomic::{AtomicBool, Ordering};
 use std::test::Fail;
 use timers::TimerWalk;
 
@@ -38,18 +40,18 @@ const STEPS: u64 = 400;
 // How many futures of each kind there are at once.
 const FUTURES: usize = 4;
 
-// The number of the first waker of each kind. Each future of the kind has one of its own.
-const SENDS: u64 = 10;
-const RECEIVES: u64 = 15;
-const ACQUIRES: u64 = 20;
-const LOCKS: u64 = 25;
-const LISTENERS: u64 = 30;
-const BARRIER_WAITS: u64 = 35;
-const MAKERS: u64 = 40;
-const READERS: u64 = 45;
-const WAITINGS: u64 = 50;
-const AFTERS: u64 = 55;
-const INTERVALS: u64 = 60;
+// The number of the first waker of each kind. Each future has two wakers, which it is polled with by turns.
+const SENDS: u64 = 8;
+const RECEIVES: u64 = 16;
+const ACQUIRES: u64 = 24;
+const LOCKS: u64 = 32;
+const LISTENERS: u64 = 40;
+const BARRIER_WAITS: u64 = 48;
+const MAKERS: u64 = 56;
+const READERS: u64 = 64;
+const WAITINGS: u64 = 72;
+const AFTERS: u64 = 80;
+const INTERVALS: u64 = 88;
 
 /// What a walk goes by.
 #[derive(Drop)]
@@ -84,22 +86,43 @@ fn places<T: Drop>(alloc: Global) -> Result<Vec<Option<T>>, Fail> {
 pub struct Wakers {
     there: Wakes,
     wanted: Wakes,
+    // By the number of the first waker of each future: whether it was polled with its second one last.
+    is_second: Vec<AtomicBool>,
 }
 
 impl Wakers {
     fn new(alloc: Global) -> Result<Wakers, Fail> {
-        let (there, wanted) = (Wakes::new(alloc)?, Wakes::new(alloc)?);
-        Ok(Wakers { there, wanted })
+        let mut is_second = Vec::new(alloc);
+        for _ in 0..INTERVALS + 2 * FUTURES as u64 {
+            is_second.push(AtomicBool::new(false))?;
+        }
+        Ok(Wakers {
+            there: Wakes::new(alloc)?,
+            wanted: Wakes::new(alloc)?,
+            is_second,
+        })
     }
 
-    /// That of a future of a kind.
+    // The number of the waker that this future of a kind was polled with last.
+    fn last(&self, kind: u64, one: usize) -> u64 {
+        let first = kind + one as u64;
+        if self.is_second[first as usize].load(Ordering::SeqCst) {
+            first + FUTURES as u64
+        } else {
+            first
+        }
+    }
+
+    /// One for a poll of this future of a kind, and another one than that of the poll before.
     pub fn waker(&self, kind: u64, one: usize) -> Result<NumberedWaker, Fail> {
-        Ok(self.there.waker(kind + one as u64)?)
+        let is_second = &self.is_second[kind as usize + one];
+        is_second.store(!is_second.load(Ordering::SeqCst), Ordering::SeqCst);
+        Ok(self.there.waker(self.last(kind, one))?)
     }
 
-    /// The model wakes a future of a kind.
+    /// The model wakes this future of a kind.
     pub fn wake(&self, kind: u64, one: usize) {
-        self.wanted.add(kind + one as u64);
+        self.wanted.add(self.last(kind, one));
     }
 
     // Whether those were woken whom the models wake, and so many wakers are kept.
