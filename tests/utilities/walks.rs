@@ -5,7 +5,7 @@
 //! the model wakes were woken, in its order and each by the waker of its last poll, and as many wakers are
 //! kept as wait in it.
 //!
-//! WALKS says how many walks there are, if it is set, and SEED which is the first.
+//! `checks/by_hand/walks` takes more of them, with other numbers in place of the first two.
 mod barriers;
 mod cells;
 mod channels;
@@ -27,13 +27,15 @@ use mutexes::MutexWalk;
 use semaphores::SemaphoreWalk;
 use signals::SignalWalk;
 use std::alloc::Global;
-use std::env;
 use std::sync::Wait;
 use std::sync::atomic::{AtomicBool, Ordering};
 use std::test::Fail;
 use timers::TimerWalk;
 
 const WALKS: u64 = 200;
+
+// The seed of the first.
+const FIRST: u64 = 0;
 
 const STEPS: u64 = 400;
 
@@ -206,19 +208,9 @@ fn walk<R: AllocGlobal + Wait + Clone + Drop>(
     Ok(None)
 }
 
-// A number of the environment, if it has one.
-fn number(rt: &HostRuntime, name: &str) -> Result<Option<u64>, Fail> {
-    match env::var(rt, name) {
-        Ok(text) => Ok(Some(text.parse()?)),
-        Err(_) => Ok(None),
-    }
-}
-
 #[test]
 fn all_do_as_their_models(rt: HostRuntime) -> Result<(), Fail> {
-    let first = number(&rt, "SEED")?.unwrap_or(0);
-    for walks in 0..number(&rt, "WALKS")?.unwrap_or(WALKS) {
-        let seed = first.wrapping_add(walks);
+    for seed in FIRST..FIRST.saturating_add(WALKS) {
         if let Some((step, kind)) = walk(&rt, seed)? {
             return Err(Fail::new(format_args!("seed {seed}, step {step}: {kind}, or a waker")));
         }
