@@ -25,8 +25,7 @@ asked() {
 }
 
 # Lays out guards of this crate, those that the file left lists, in the room, and tries them. What
-# was tried, as lines 'FUNCTION GUARD', is taken from that file. A further round takes the lemmas and
-# the types of the crate from what the one before it kept.
+# was tried, as lines 'FUNCTION GUARD', is taken from that file.
 try_round() {
     rm -rf "$room/crates/$1"
     mkdir -p "$room/crates/$1"
@@ -73,10 +72,7 @@ try_crates() {
     while read -r _ crate; do
         mkdir "$copy/$crate.taken" 2> /dev/null || continue
         words "$crate" > "$room/words"
-        printf '%s\n' --incremental "$room/kept" >> "$room/words"
         mv "$copy/$crate.asked" "$room/left"
-        rm -rf "$room/kept"
-        mkdir "$room/kept"
         while [ -s "$room/left" ]; do
             start=$(date +%s)
             try_round "$crate"

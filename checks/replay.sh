@@ -28,7 +28,7 @@ recorder=$top/checks/recorder
 fixed=11
 alone=10
 at_once=4
-storms=${1:-80}
+storms=${1:-60}
 seed=${2:-1}
 
 # Adds the Rust files below a folder to another one.
