@@ -1,6 +1,6 @@
 //! No lock of a channel is held while a waker is woken, copied or dropped: the thread halts there, and
 //! another one uses the same channel.
-use crate::tests::support::running::halt::Halt;
+use crate::tests::support::running::halt::{Halt, is_used_meanwhile};
 use crate::tests::support::running::record::{Moment, Record};
 use crate::tests::support::running::waker::TestWaker;
 use async_utilities::{Receiver, Sender, bounded};
@@ -24,14 +24,6 @@ fn channel<R: AllocGlobal + Wait + Clone + Drop>(
     Ok((sender, receiver))
 }
 
-// A waker that halts at this moment, and its halt.
-fn halting(rt: &impl AllocGlobal, moment: Moment) -> Result<(TestWaker, Halt), Fail> {
-    let halt = Halt::new(rt.alloc())?;
-    let record = Record::with_halt(rt.alloc(), &halt)?;
-    record.halt_at(moment);
-    Ok((TestWaker::new(&record)?, halt))
-}
-
 // Whether the channel of a sender can be used while another thread halts in this step.
 fn is_used<R: Wait + Threads + Sync + Send + Clone + Drop>(
     rt: &R,
@@ -39,22 +31,14 @@ fn is_used<R: Wait + Threads + Sync + Send + Clone + Drop>(
     sender: &Sends<R>,
     step: impl FnOnce() + Send,
 ) -> bool {
-    let ((), came) = thread::join(
-        rt,
-        move || step(),
-        || {
-            let came = halt.await_other();
-            let _ = sender.channel().len();
-            halt.open();
-            came
-        },
-    );
-    came && halt.was_passed()
+    is_used_meanwhile(rt, halt, step, || {
+        let _ = sender.channel().len();
+    })
 }
 
 #[test]
 fn while_a_message_wakes(rt: HostRuntime) -> Result<(), Fail> {
-    let (waker, halt) = halting(&rt, Moment::WakerWake)?;
+    let (waker, halt) = TestWaker::halting(rt.alloc(), Moment::WakerWake)?;
     let (sender, receiver) = channel(&rt, false)?;
     let mut receive = receiver.receive();
     receive.poll(&waker);
@@ -66,7 +50,7 @@ fn while_a_message_wakes(rt: HostRuntime) -> Result<(), Fail> {
 
 #[test]
 fn while_room_wakes(rt: HostRuntime) -> Result<(), Fail> {
-    let (waker, halt) = halting(&rt, Moment::WakerWake)?;
+    let (waker, halt) = TestWaker::halting(rt.alloc(), Moment::WakerWake)?;
     let (sender, receiver) = channel(&rt, true)?;
     let mut send = sender.send(1);
     send.poll(&waker);
@@ -78,7 +62,7 @@ fn while_room_wakes(rt: HostRuntime) -> Result<(), Fail> {
 
 #[test]
 fn while_a_batch_wakes(rt: HostRuntime) -> Result<(), Fail> {
-    let (waker, halt) = halting(&rt, Moment::WakerWake)?;
+    let (waker, halt) = TestWaker::halting(rt.alloc(), Moment::WakerWake)?;
     let (sender, receiver) = channel(&rt, true)?;
     let mut messages = Vec::with_capacity(rt.alloc(), 1)?;
     let mut send = sender.send(1);
@@ -91,7 +75,7 @@ fn while_a_batch_wakes(rt: HostRuntime) -> Result<(), Fail> {
 
 #[test]
 fn while_a_close_wakes(rt: HostRuntime) -> Result<(), Fail> {
-    let (waker, halt) = halting(&rt, Moment::WakerWake)?;
+    let (waker, halt) = TestWaker::halting(rt.alloc(), Moment::WakerWake)?;
     let (sender, receiver) = channel(&rt, false)?;
     let mut receive = receiver.receive();
     receive.poll(&waker);
@@ -103,7 +87,7 @@ fn while_a_close_wakes(rt: HostRuntime) -> Result<(), Fail> {
 
 #[test]
 fn while_the_last_receiver_wakes(rt: HostRuntime) -> Result<(), Fail> {
-    let (waker, halt) = halting(&rt, Moment::WakerWake)?;
+    let (waker, halt) = TestWaker::halting(rt.alloc(), Moment::WakerWake)?;
     let (sender, receiver) = channel(&rt, true)?;
     let mut send = sender.send(1);
     send.poll(&waker);
@@ -113,7 +97,7 @@ fn while_the_last_receiver_wakes(rt: HostRuntime) -> Result<(), Fail> {
 
 #[test]
 fn while_one_that_goes_wakes_the_next(rt: HostRuntime) -> Result<(), Fail> {
-    let (waker, halt) = halting(&rt, Moment::WakerWake)?;
+    let (waker, halt) = TestWaker::halting(rt.alloc(), Moment::WakerWake)?;
     let quiet = TestWaker::new(&Record::new(rt.alloc())?)?;
     let (sender, receiver) = channel(&rt, false)?;
     let (mut first, mut second) = (receiver.receive(), receiver.receive());
@@ -126,7 +110,7 @@ fn while_one_that_goes_wakes_the_next(rt: HostRuntime) -> Result<(), Fail> {
 
 #[test]
 fn while_a_waker_of_a_receive_is_copied(rt: HostRuntime) -> Result<(), Fail> {
-    let (waker, halt) = halting(&rt, Moment::WakerCopy)?;
+    let (waker, halt) = TestWaker::halting(rt.alloc(), Moment::WakerCopy)?;
     let (sender, receiver) = channel(&rt, false)?;
     assert!(rt; is_used(&rt, &halt, &sender, || {
         receiver.receive().poll(&waker);
@@ -136,7 +120,7 @@ fn while_a_waker_of_a_receive_is_copied(rt: HostRuntime) -> Result<(), Fail> {
 
 #[test]
 fn while_a_waker_of_a_send_is_copied(rt: HostRuntime) -> Result<(), Fail> {
-    let (waker, halt) = halting(&rt, Moment::WakerCopy)?;
+    let (waker, halt) = TestWaker::halting(rt.alloc(), Moment::WakerCopy)?;
     let (sender, _receiver) = channel(&rt, true)?;
     assert!(rt; is_used(&rt, &halt, &sender, || {
         sender.send(1).poll(&waker);
@@ -146,7 +130,7 @@ fn while_a_waker_of_a_send_is_copied(rt: HostRuntime) -> Result<(), Fail> {
 
 #[test]
 fn while_a_waker_of_one_that_goes_is_dropped(rt: HostRuntime) -> Result<(), Fail> {
-    let (waker, halt) = halting(&rt, Moment::WakerDrop)?;
+    let (waker, halt) = TestWaker::halting(rt.alloc(), Moment::WakerDrop)?;
     let (sender, receiver) = channel(&rt, false)?;
     let mut receive = receiver.receive();
     receive.poll(&waker);
@@ -156,7 +140,7 @@ fn while_a_waker_of_one_that_goes_is_dropped(rt: HostRuntime) -> Result<(), Fail
 
 #[test]
 fn while_a_waker_is_replaced(rt: HostRuntime) -> Result<(), Fail> {
-    let (waker, halt) = halting(&rt, Moment::WakerDrop)?;
+    let (waker, halt) = TestWaker::halting(rt.alloc(), Moment::WakerDrop)?;
     let quiet = TestWaker::new(&Record::new(rt.alloc())?)?;
     let (sender, _receiver) = channel(&rt, true)?;
     let mut send = sender.send(1);
@@ -169,7 +153,7 @@ fn while_a_waker_is_replaced(rt: HostRuntime) -> Result<(), Fail> {
 
 #[test]
 fn while_a_waker_of_one_that_is_served_is_dropped(rt: HostRuntime) -> Result<(), Fail> {
-    let (waker, halt) = halting(&rt, Moment::WakerDrop)?;
+    let (waker, halt) = TestWaker::halting(rt.alloc(), Moment::WakerDrop)?;
     let quiet = TestWaker::new(&Record::new(rt.alloc())?)?;
     let (sender, receiver) = channel(&rt, false)?;
     let (mut first, mut second) = (receiver.receive(), receiver.receive());
@@ -186,7 +170,7 @@ fn while_a_waker_of_one_that_is_served_is_dropped(rt: HostRuntime) -> Result<(),
 // first look and the second.
 #[test]
 fn a_message_that_comes_while_a_waker_is_copied_is_taken(rt: HostRuntime) -> Result<(), Fail> {
-    let (waker, halt) = halting(&rt, Moment::WakerCopy)?;
+    let (waker, halt) = TestWaker::halting(rt.alloc(), Moment::WakerCopy)?;
     let (sender, receiver) = channel(&rt, false)?;
     let (message, ()) = thread::join(
         &rt,
@@ -203,7 +187,7 @@ fn a_message_that_comes_while_a_waker_is_copied_is_taken(rt: HostRuntime) -> Res
 
 #[test]
 fn a_close_that_comes_while_a_waker_is_copied_is_seen(rt: HostRuntime) -> Result<(), Fail> {
-    let (waker, halt) = halting(&rt, Moment::WakerCopy)?;
+    let (waker, halt) = TestWaker::halting(rt.alloc(), Moment::WakerCopy)?;
     let (sender, receiver) = channel(&rt, true)?;
     let (answer, ()) = thread::join(
         &rt,

@@ -1,6 +1,6 @@
 //! No lock of a semaphore, a mutex, an event or a barrier is held while a waker is woken, copied or
 //! dropped: the thread halts there, and another one uses what the waker waits for.
-use crate::tests::support::running::halt::Halt;
+use crate::tests::support::running::halt::{Halt, is_used_meanwhile};
 use crate::tests::support::running::record::{Moment, Record};
 use crate::tests::support::running::waker::TestWaker;
 use async_utilities::{Barrier, Event, Mutex, Semaphore};
@@ -29,14 +29,6 @@ fn locks<R: AllocGlobal + Wait + Clone + Drop>(rt: &R) -> Result<Locks<R>, Fail>
     ))
 }
 
-// A waker that halts at this moment, and its halt.
-fn halting(rt: &impl AllocGlobal, moment: Moment) -> Result<(TestWaker, Halt), Fail> {
-    let halt = Halt::new(rt.alloc())?;
-    let record = Record::with_halt(rt.alloc(), &halt)?;
-    record.halt_at(moment);
-    Ok((TestWaker::new(&record)?, halt))
-}
-
 fn quiet(rt: &impl AllocGlobal) -> Result<TestWaker, Fail> {
     Ok(TestWaker::new(&Record::new(rt.alloc())?)?)
 }
@@ -59,22 +51,12 @@ fn are_used<R: Wait + Threads + Sync + Send + Clone + Drop>(
     locks: &Locks<R>,
     step: impl FnOnce() + Send,
 ) -> bool {
-    let ((), came) = thread::join(
-        rt,
-        move || step(),
-        || {
-            let came = halt.await_other();
-            uses(locks);
-            halt.open();
-            came
-        },
-    );
-    came && halt.was_passed()
+    is_used_meanwhile(rt, halt, step, || uses(locks))
 }
 
 #[test]
 fn while_permits_wake(rt: HostRuntime) -> Result<(), Fail> {
-    let (waker, halt) = halting(&rt, Moment::WakerWake)?;
+    let (waker, halt) = TestWaker::halting(rt.alloc(), Moment::WakerWake)?;
     let locks = locks(&rt)?;
     let mut acquire = locks.0.acquire()?;
     drop(acquire.poll(&waker));
@@ -86,7 +68,7 @@ fn while_permits_wake(rt: HostRuntime) -> Result<(), Fail> {
 
 #[test]
 fn while_permits_that_are_left_wake(rt: HostRuntime) -> Result<(), Fail> {
-    let (waker, halt) = halting(&rt, Moment::WakerWake)?;
+    let (waker, halt) = TestWaker::halting(rt.alloc(), Moment::WakerWake)?;
     let quiet = quiet(&rt)?;
     let locks = locks(&rt)?;
     let (mut first, mut second) = (locks.0.acquire()?, locks.0.acquire()?);
@@ -100,7 +82,7 @@ fn while_permits_that_are_left_wake(rt: HostRuntime) -> Result<(), Fail> {
 
 #[test]
 fn while_one_that_goes_leaves_its_permits(rt: HostRuntime) -> Result<(), Fail> {
-    let (waker, halt) = halting(&rt, Moment::WakerWake)?;
+    let (waker, halt) = TestWaker::halting(rt.alloc(), Moment::WakerWake)?;
     let quiet = quiet(&rt)?;
     let locks = locks(&rt)?;
     let (mut first, mut second) = (locks.0.acquire()?, locks.0.acquire()?);
@@ -113,7 +95,7 @@ fn while_one_that_goes_leaves_its_permits(rt: HostRuntime) -> Result<(), Fail> {
 
 #[test]
 fn while_a_guard_wakes(rt: HostRuntime) -> Result<(), Fail> {
-    let (waker, halt) = halting(&rt, Moment::WakerWake)?;
+    let (waker, halt) = TestWaker::halting(rt.alloc(), Moment::WakerWake)?;
     let locks = locks(&rt)?;
     let guard = locks.1.try_lock();
     let mut lock = locks.1.lock()?;
@@ -124,7 +106,7 @@ fn while_a_guard_wakes(rt: HostRuntime) -> Result<(), Fail> {
 
 #[test]
 fn while_a_lock_that_goes_wakes_the_next(rt: HostRuntime) -> Result<(), Fail> {
-    let (waker, halt) = halting(&rt, Moment::WakerWake)?;
+    let (waker, halt) = TestWaker::halting(rt.alloc(), Moment::WakerWake)?;
     let quiet = quiet(&rt)?;
     let locks = locks(&rt)?;
     let guard = locks.1.try_lock();
@@ -138,7 +120,7 @@ fn while_a_lock_that_goes_wakes_the_next(rt: HostRuntime) -> Result<(), Fail> {
 
 #[test]
 fn while_an_event_wakes(rt: HostRuntime) -> Result<(), Fail> {
-    let (waker, halt) = halting(&rt, Moment::WakerWake)?;
+    let (waker, halt) = TestWaker::halting(rt.alloc(), Moment::WakerWake)?;
     let locks = locks(&rt)?;
     let mut listener = locks.2.listen()?;
     listener.poll(&waker);
@@ -150,7 +132,7 @@ fn while_an_event_wakes(rt: HostRuntime) -> Result<(), Fail> {
 
 #[test]
 fn while_a_listener_that_goes_wakes_the_next(rt: HostRuntime) -> Result<(), Fail> {
-    let (waker, halt) = halting(&rt, Moment::WakerWake)?;
+    let (waker, halt) = TestWaker::halting(rt.alloc(), Moment::WakerWake)?;
     let locks = locks(&rt)?;
     let (first, mut second) = (locks.2.listen()?, locks.2.listen()?);
     second.poll(&waker);
@@ -161,7 +143,7 @@ fn while_a_listener_that_goes_wakes_the_next(rt: HostRuntime) -> Result<(), Fail
 
 #[test]
 fn while_the_last_at_a_barrier_wakes(rt: HostRuntime) -> Result<(), Fail> {
-    let (waker, halt) = halting(&rt, Moment::WakerWake)?;
+    let (waker, halt) = TestWaker::halting(rt.alloc(), Moment::WakerWake)?;
     let quiet = quiet(&rt)?;
     let locks = locks(&rt)?;
     let (mut first, mut second) = (locks.3.wait()?, locks.3.wait()?);
@@ -186,10 +168,10 @@ fn are_used_at<R: AllocGlobal + Wait + Threads + Sync + Send + Clone + Drop>(
     let _guard = locks.1.try_lock();
     let (mut acquire, mut lock) = (locks.0.acquire()?, locks.1.lock()?);
     let (mut listener, mut wait) = (locks.2.listen()?, locks.3.wait()?);
-    let (one, first) = halting(rt, moment)?;
-    let (two, second) = halting(rt, moment)?;
-    let (three, third) = halting(rt, moment)?;
-    let (four, fourth) = halting(rt, moment)?;
+    let (one, first) = TestWaker::halting(rt.alloc(), moment)?;
+    let (two, second) = TestWaker::halting(rt.alloc(), moment)?;
+    let (three, third) = TestWaker::halting(rt.alloc(), moment)?;
+    let (four, fourth) = TestWaker::halting(rt.alloc(), moment)?;
     if matches!(moment, Moment::WakerCopy) {
         return Ok([
             are_used(rt, &first, &locks, || drop(acquire.poll(&one))),
@@ -237,7 +219,7 @@ fn while_a_waker_goes_with_one_that_waits(rt: HostRuntime) -> Result<(), Fail> {
 #[test]
 fn what_comes_while_a_waker_is_copied_is_taken(rt: HostRuntime) -> Result<(), Fail> {
     let locks = locks(&rt)?;
-    let (waker, halt) = halting(&rt, Moment::WakerCopy)?;
+    let (waker, halt) = TestWaker::halting(rt.alloc(), Moment::WakerCopy)?;
     let guard = locks.1.try_lock();
     let (mut acquire, mut lock) = (locks.0.acquire()?, locks.1.lock()?);
     let (mut listener, mut wait) = (locks.2.listen()?, locks.3.wait()?);

@@ -1,6 +1,6 @@
 //! No lock of a signal is held while a waker is woken, copied or dropped: the thread halts there, and
 //! another one uses the same signal.
-use crate::tests::support::running::halt::Halt;
+use crate::tests::support::running::halt::{Halt, is_used_meanwhile};
 use crate::tests::support::running::record::{Moment, Record};
 use crate::tests::support::running::waker::TestWaker;
 use async_utilities::{Signal, Waiting};
@@ -18,14 +18,6 @@ fn signal<R: AllocGlobal + Wait + Clone + Drop>(
     Ok((signal, waiting))
 }
 
-// A waker that halts at this moment, and its halt.
-fn halting(rt: &impl AllocGlobal, moment: Moment) -> Result<(TestWaker, Halt), Fail> {
-    let halt = Halt::new(rt.alloc())?;
-    let record = Record::with_halt(rt.alloc(), &halt)?;
-    record.halt_at(moment);
-    Ok((TestWaker::new(&record)?, halt))
-}
-
 // Whether a signal can be used while another thread halts in this step.
 fn is_used<R: Wait + Threads + Sync + Send + Clone + Drop>(
     rt: &R,
@@ -33,22 +25,14 @@ fn is_used<R: Wait + Threads + Sync + Send + Clone + Drop>(
     signal: &Signal<TestWaker, R>,
     step: impl FnOnce() + Send,
 ) -> bool {
-    let ((), came) = thread::join(
-        rt,
-        move || step(),
-        || {
-            let came = halt.await_other();
-            let _ = signal.is_set();
-            halt.open();
-            came
-        },
-    );
-    came && halt.was_passed()
+    is_used_meanwhile(rt, halt, step, || {
+        let _ = signal.is_set();
+    })
 }
 
 #[test]
 fn while_a_signal_wakes(rt: HostRuntime) -> Result<(), Fail> {
-    let (waker, halt) = halting(&rt, Moment::WakerWake)?;
+    let (waker, halt) = TestWaker::halting(rt.alloc(), Moment::WakerWake)?;
     let (signal, mut waiting) = signal(&rt)?;
     waiting.poll(&waker);
     assert!(rt; is_used(&rt, &halt, &signal, || signal.set()));
@@ -57,7 +41,7 @@ fn while_a_signal_wakes(rt: HostRuntime) -> Result<(), Fail> {
 
 #[test]
 fn while_a_waker_is_copied(rt: HostRuntime) -> Result<(), Fail> {
-    let (waker, halt) = halting(&rt, Moment::WakerCopy)?;
+    let (waker, halt) = TestWaker::halting(rt.alloc(), Moment::WakerCopy)?;
     let (signal, mut waiting) = signal(&rt)?;
     assert!(rt; is_used(&rt, &halt, &signal, || drop(waiting.poll(&waker))));
     Ok(())
@@ -65,7 +49,7 @@ fn while_a_waker_is_copied(rt: HostRuntime) -> Result<(), Fail> {
 
 #[test]
 fn while_a_waker_is_replaced(rt: HostRuntime) -> Result<(), Fail> {
-    let (waker, halt) = halting(&rt, Moment::WakerDrop)?;
+    let (waker, halt) = TestWaker::halting(rt.alloc(), Moment::WakerDrop)?;
     let quiet = TestWaker::new(&Record::new(rt.alloc())?)?;
     let (signal, mut waiting) = signal(&rt)?;
     waiting.poll(&waker);
@@ -75,7 +59,7 @@ fn while_a_waker_is_replaced(rt: HostRuntime) -> Result<(), Fail> {
 
 #[test]
 fn while_a_waker_goes_with_one_that_waits(rt: HostRuntime) -> Result<(), Fail> {
-    let (waker, halt) = halting(&rt, Moment::WakerDrop)?;
+    let (waker, halt) = TestWaker::halting(rt.alloc(), Moment::WakerDrop)?;
     let (signal, mut waiting) = signal(&rt)?;
     waiting.poll(&waker);
     assert!(rt; is_used(&rt, &halt, &signal, move || drop(waiting)));
@@ -84,7 +68,7 @@ fn while_a_waker_goes_with_one_that_waits(rt: HostRuntime) -> Result<(), Fail> {
 
 #[test]
 fn a_signal_that_is_set_while_a_waker_is_copied_is_seen(rt: HostRuntime) -> Result<(), Fail> {
-    let (waker, halt) = halting(&rt, Moment::WakerCopy)?;
+    let (waker, halt) = TestWaker::halting(rt.alloc(), Moment::WakerCopy)?;
     let (signal, mut waiting) = signal(&rt)?;
     let (answer, ()) = thread::join(
         &rt,

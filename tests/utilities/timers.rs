@@ -4,14 +4,14 @@ use crate::tests::support::running::clock::TestClock;
 use crate::tests::support::running::record::{Moment, Record};
 use crate::tests::support::running::refusal::{is_order_left, refuse};
 use crate::tests::support::running::waker::TestWaker;
+use crate::tests::support::running::wakes::Wakes;
 use async_executor::{Executor, Task, TaskWaker};
 use async_utilities::{
     After, Driver, Never, Reading, Ready, ThreadWaker, TimedOut, Timer, TimerError, YieldNow, block_on,
 };
-use executor_core::task::{Future, OutOfMemory, Poll, Wake};
-use std::alloc::{AllocError, Global};
-use std::sync::atomic::{AtomicU64, Ordering};
-use std::sync::{Arc, Wait};
+use executor_core::task::{Future, Poll, Wake};
+use std::alloc::Global;
+use std::sync::Wait;
 use std::test::Fail;
 use std::time::{Clock, Duration, Instant};
 
@@ -110,59 +110,31 @@ fn one_that_is_ready_before_a_firing_is_not_woken(rt: HostRuntime) -> Result<(),
     Ok(())
 }
 
-// Writes its number behind those that were written before.
-#[derive(Drop)]
-struct Writer {
-    numbers: Arc<AtomicU64>,
-    number: u64,
-}
-
-impl Writer {
-    fn new(numbers: &Arc<AtomicU64>, number: u64) -> Result<Writer, AllocError> {
-        Ok(Writer {
-            numbers: Arc::try_clone(numbers)?,
-            number,
-        })
-    }
-}
-
-impl Wake for Writer {
-    fn wake(&self) {
-        let before = self.numbers.load(Ordering::SeqCst);
-        let after = before.wrapping_mul(10).wrapping_add(self.number);
-        self.numbers.store(after, Ordering::SeqCst);
-    }
-
-    fn copy(&self) -> Result<Self, OutOfMemory> {
-        Ok(Writer::new(&self.numbers, self.number)?)
-    }
-}
-
 // Sets five deadlines, each of a waker of its own, and moves the clock to 20 and to 40. Gives the
 // numbers of those who were woken by then, in order, and what was left.
 fn fires_in_order<R: AllocGlobal + Wait + Clone + Drop>(
     rt: &R,
 ) -> Result<([u64; 2], [Option<Duration>; 2]), Fail> {
     let (timer, clock) = timer(rt)?;
-    let numbers = Arc::new(rt.alloc(), AtomicU64::new(0))?;
+    let woken = Wakes::new(rt.alloc())?;
     let mut afters = Vec::new(rt.alloc());
     for (number, time) in [(1, 30), (2, 10), (3, 40), (4, 20), (5, 10)] {
         let mut after = timer.after(nanos(time))?;
-        after.poll(&Writer::new(&numbers, number)?);
+        after.poll(&woken.waker(number)?);
         afters.push(after)?;
     }
     clock.set(20);
     let left = fire(&timer)?;
-    let first = numbers.swap(0, Ordering::SeqCst);
+    let first = woken.take();
     clock.set(40);
     let none = fire(&timer)?;
-    let second = numbers.swap(0, Ordering::SeqCst);
+    let second = woken.take();
     Ok(([first, second], [left, none]))
 }
 
 #[test]
 fn all_that_are_due_are_woken_the_earliest_first(rt: HostRuntime) -> Result<(), Fail> {
-    assert_eq!(rt; fires_in_order(&rt)?, ([254, 13], [Some(nanos(10)), None]));
+    assert_eq!(rt; fires_in_order(&rt)?, ([20_504, 103], [Some(nanos(10)), None]));
     Ok(())
 }
 

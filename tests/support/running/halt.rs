@@ -1,8 +1,8 @@
 //! Two threads that wait for each other.
 use std::alloc::{AllocError, Global};
-use std::sync::Arc;
 use std::sync::atomic::{AtomicU64, Ordering};
-use std::thread::yield_now;
+use std::sync::{Arc, Wait};
+use std::thread::{self, Threads, yield_now};
 
 /// How often one looks for the other.
 pub const TURNS: u32 = 2_000_000;
@@ -77,6 +77,27 @@ impl Halt {
     pub fn was_passed(&self) -> bool {
         self.counts.misses.load(Ordering::SeqCst) == 0
     }
+}
+
+/// Has a use be made while another thread halts at this point in a step. Says whether it halted there, and
+/// nobody waited in vain.
+pub fn is_used_meanwhile<R: Wait + Threads + Sync + Send + Clone + Drop>(
+    rt: &R,
+    halt: &Halt,
+    step: impl FnOnce() + Send,
+    uses: impl FnOnce(),
+) -> bool {
+    let ((), came) = thread::join(
+        rt,
+        move || step(),
+        move || {
+            let came = halt.await_other();
+            uses();
+            halt.open();
+            came
+        },
+    );
+    came && halt.was_passed()
 }
 
 // Waits until the number is above this one, and says whether it was so in time.

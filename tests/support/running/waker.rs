@@ -1,7 +1,8 @@
 //! A waker for those who poll handles.
+use super::halt::Halt;
 use super::record::{AtDrop, Moment, Record};
 use executor_core::task::{OutOfMemory, Wake};
-use std::alloc::AllocError;
+use std::alloc::{AllocError, Global};
 
 /// Counts how often it and its copies are woken, copied and dropped. It halts, and refuses to be
 /// copied, if its record says so.
@@ -15,6 +16,14 @@ impl TestWaker {
         Ok(TestWaker {
             parts: AtDrop::new(record.share()?, Moment::WakerDrop),
         })
+    }
+
+    /// One that halts at this moment, as its copies do, and its halt.
+    pub fn halting(alloc: Global, moment: Moment) -> Result<(TestWaker, Halt), AllocError> {
+        let halt = Halt::new(alloc)?;
+        let record = Record::with_halt(alloc, &halt)?;
+        record.halt_at(moment);
+        Ok((TestWaker::new(&record)?, halt))
     }
 
     /// Its record, and that of its copies.

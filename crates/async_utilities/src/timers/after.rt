@@ -64,7 +64,7 @@ impl<W: Wake, R: Wait + Drop> After<W, R> {
     }
 
     /// Has it be ready at this time, in place of its own. What its last poll left there is woken at
-    /// this one, also if it was woken before; or at once, if memory for that is refused.
+    /// this one, unless it was woken already; or at once, if memory for that is refused.
     ///
     /// Example: `uses::postpones`, at `After`.
     pub fn reset(&mut self, time: Reading)

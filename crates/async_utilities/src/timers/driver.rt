@@ -1,5 +1,6 @@
 //! Who drives a timer.
-ghost use Rattle.std.specs.Prelude.{◌≡◌, true, IfErr, IfOk};
+ghost use Rattle.std.specs.Prelude.{◌≡◌, ◌<◌, ◌^◌, true, IfErr, IfOk, IfSome};
+ghost use Rattle.std.specs.Duration.{as_nanos};
 ghost use Rattle.async_utilities.specs.TimerErrors.{is_clock};
 
 use crate::blocking::ThreadWaker;
@@ -20,7 +21,7 @@ pub struct Firing {
     /// Whether a waker was woken. Who was woken may set a nearer deadline than the first one that is
     /// left.
     pub has_woken: bool,
-    /// The time until the first deadline that is left, if there is one.
+    /// The time until the first deadline that is left, if there is one: less than 2^64 nanoseconds.
     pub left: Option<Duration>,
 }
 
@@ -83,13 +84,16 @@ impl<'a, W: Wake, C: Clock + Drop, R: Wait + Drop> Driver<'a, W, C, R> {
     /// That of the clock. Nobody is woken then.
     ///
     /// Example: `uses::simulates`.
-    pub fn fire(&self) -> io::Result<Firing> {
+    pub fn fire(&self) -> io::Result<Firing>
+        ensures counted { IfOk result (λ f. IfSome f.left (λ left. as_nanos left < 2 ^ 64)) }
+    {
         let now = Reading::now(&self.timer.clock)?;
         let (has_woken, next) = self.timer.shared.fire(now);
-        Ok(Firing {
-            has_woken,
-            left: next.map(|nanos| until(now, nanos)),
-        })
+        let left = match next {
+            Some(nanos) => Some(until(now, nanos)),
+            None => None,
+        };
+        Ok(Firing { has_woken, left })
     }
 
     /// Fires, and parks this thread until the first deadline that is left, until a nearer one is set,
