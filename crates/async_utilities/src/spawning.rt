@@ -19,7 +19,6 @@ pub(crate) mod job_queue;
 
 use crate::blocking::ThreadWaker;
 use crate::channels::Unsent;
-use crate::due::wake_unless_kept;
 use crate::locked::lock;
 use crate::spawning::job_queue::JobQueue;
 use async_executor::{Future, OutOfMemory, Poll, TaskWaker, Wake};
@@ -87,10 +86,10 @@ impl<J: Drop, R: Wait + Clone + Drop> Desk<J, R> {
             w.wake();
             return Poll::Pending;
         };
-        let unused = jobs.rest(*is_counted, place, waker);
+        let earlier = jobs.rest(*is_counted, place, waker);
         drop(jobs);
-        *is_counted = *is_counted && unused.is_err();
-        wake_unless_kept(unused);
+        drop(earlier);
+        *is_counted = false;
         Poll::Pending
     }
 
@@ -173,7 +172,19 @@ impl<J: Drop, R: Wait + Clone + Drop> Spawner<J, R> {
 /// threads park.
 ///
 /// Example: `uses::hands_in_jobs`, at `servers`.
+#[derive(Drop)]
 pub struct Server<J, M, R>
+where
+    J: Drop,
+    M: MakeTask<J, R>,
+    R: Wait + Clone + Drop,
+{
+    // In a box: an executor moves each future that it polls, and a task may be large.
+    serving: Box<Serving<J, M, R>>,
+}
+
+// What a server has, and does.
+struct Serving<J, M, R>
 where
     J: Drop,
     M: MakeTask<J, R>,
@@ -207,7 +218,7 @@ where
 {
     // A server that has no job yet.
     fn new(spawner: &Spawner<J, R>, maker: &Arc<M>) -> Result<Server<J, M, R>, OutOfMemory> {
-        Ok(Server {
+        let serving = Serving {
             spawner: spawner.copy()?,
             maker: Arc::try_clone(maker)?,
             is_counted: false,
@@ -215,9 +226,20 @@ where
             task: None,
             place: spawner.desk.join()?,
             done: 0,
-        })
+        };
+        match Box::new(spawner.desk.alloc, serving) {
+            Ok(serving) => Ok(Server { serving }),
+            Err(_) => Err(OutOfMemory),
+        }
     }
+}
 
+impl<J, M, R> Serving<J, M, R>
+where
+    J: Drop,
+    M: MakeTask<J, R>,
+    R: Wait + Clone + Drop,
+{
     // Takes the next job, unless one is left of which no task was made.
     fn take_job(&mut self, w: &PoolWaker<R>) -> Poll<Option<J>>
         ensures left { IfSome self.old.unmade (λ job. result ≡ gave (Some job)) }
@@ -273,17 +295,9 @@ where
         self.done = self.done.saturating_add(1);
         true
     }
-}
 
-impl<J, M, R> Future<TaskWaker<ThreadWaker, R>> for Server<J, M, R>
-where
-    J: Drop,
-    M: MakeTask<J, R>,
-    R: Wait + Clone + Drop,
-{
-    type Output = u64;
-
-    fn poll(&mut self, w: &TaskWaker<ThreadWaker, R>) -> Poll<u64>
+    // Makes tasks and polls them, one after another, for one turn. It is ready once all is done.
+    fn serve(&mut self, w: &PoolWaker<R>) -> Poll<u64>
         ensures { IfReady result (λ _. (self.new.task ≡ None) × (self.new.unmade ≡ None)) }
     {
         for _ in 0..TURN {
@@ -303,14 +317,30 @@ where
     }
 }
 
-impl<J, M, R> Drop for Server<J, M, R>
+impl<J, M, R> Future<TaskWaker<ThreadWaker, R>> for Server<J, M, R>
+where
+    J: Drop,
+    M: MakeTask<J, R>,
+    R: Wait + Clone + Drop,
+{
+    type Output = u64;
+
+    fn poll(&mut self, w: &TaskWaker<ThreadWaker, R>) -> Poll<u64>
+        ensures task { IfReady result (λ _. self.new.serving.value.task ≡ None) }
+        ensures unmade { IfReady result (λ _. self.new.serving.value.unmade ≡ None) }
+    {
+        self.serving.serve(w)
+    }
+}
+
+impl<J, M, R> Drop for Serving<J, M, R>
 where
     J: Drop,
     M: MakeTask<J, R>,
     R: Wait + Clone + Drop,
 {
     fn drop(self) {
-        let Server {
+        let Serving {
             spawner,
             maker: _,
             is_counted,

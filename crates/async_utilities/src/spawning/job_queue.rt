@@ -103,18 +103,16 @@ impl<J: Drop, W: Drop> JobQueue<J, W> {
     }
 
     /// Has the server of this place wait for a job with this waker. It is counted no longer, and an earlier
-    /// waker comes out. If a job waits, or all is done, nothing changes: the waker comes back, and is to be
-    /// woken.
-    pub(crate) fn rest(&mut self, is_counted: bool, place: usize, waker: W) -> Result<Option<W>, W>
+    /// waker comes out.
+    pub(crate) fn rest(&mut self, is_counted: bool, place: usize, waker: W) -> Option<W>
+        requires empty { self.old.jobs.items ≡ [] }
+        requires open { is_last self.old is_counted ≡ false }
         ensures { Rests self.old is_counted place waker result self.new }
     {
-        if !self.jobs.is_empty() || self.is_last(is_counted) {
-            return Err(waker);
-        }
         if is_counted {
             self.givers -= 1;
         }
-        Ok(self.waiters.wait(place, waker))
+        self.waiters.wait(place, waker)
     }
 
     /// Counts one server less, and gives its place back. If it was told of a job that it did not take, the
