@@ -57,45 +57,19 @@ struct Desk<J: Drop, R: Wait + Clone + Drop> {
     rt: R,
 }
 
+// Waits for the jobs of a desk, which are locked until the guard is dropped. A macro, for the same reason as
+// `lock!`.
+macro_rules! jobs {
+    ($desk:expr) => {{
+        let desk = $desk;
+        lock!(desk.jobs, &desk.rt)
+    }};
+}
+
 impl<J: Drop, R: Wait + Clone + Drop> Desk<J, R> {
-    #[inline(always)]
-    fn jobs(&self) -> LockedJobs<'_, J, R> {
-        lock(&self.jobs, &self.rt)
-    }
-
-    // Takes the first job for the server of this place. If there is none, the server is counted no longer, and
-    // waits with a copy of this waker; or all is done. It is the waker of a task, so no code of a caller's runs
-    // where it is copied.
-    fn take(&self, is_counted: &mut bool, place: usize, w: &PoolWaker<R>) -> Poll<Option<J>>
-        ensures counted { IfReady result (λ job. is_counted.new ≡ is_some job) }
-    {
-        let mut jobs = self.jobs();
-        if let Some((job, waker)) = jobs.take(*is_counted, place) {
-            drop(jobs);
-            drop(waker);
-            *is_counted = true;
-            return Poll::Ready(Some(job));
-        }
-        if jobs.is_last(*is_counted) {
-            end_one(jobs, self.alloc);
-            *is_counted = false;
-            return Poll::Ready(None);
-        }
-        let Ok(waker) = w.copy() else {
-            drop(jobs);
-            w.wake();
-            return Poll::Pending;
-        };
-        let earlier = jobs.rest(*is_counted, place, waker);
-        drop(jobs);
-        drop(earlier);
-        *is_counted = false;
-        Poll::Pending
-    }
-
     // The place of a server.
     fn join(&self) -> Result<usize, OutOfMemory> {
-        Ok(self.jobs().join()?)
+        Ok(jobs!(self).join()?)
     }
 
     // The server of this place is gone.
@@ -103,13 +77,13 @@ impl<J: Drop, R: Wait + Clone + Drop> Desk<J, R> {
         if is_counted {
             self.end_one();
         }
-        let left = self.jobs().part(place);
+        let left = jobs!(self).part(place);
         left.end();
     }
 
     // One that is counted hands in no more jobs.
     fn end_one(&self) {
-        end_one(self.jobs(), self.alloc);
+        end_one(jobs!(self), self.alloc);
     }
 }
 
@@ -161,7 +135,7 @@ impl<J: Drop, R: Wait + Clone + Drop> Spawner<J, R> {
     pub fn spawn(&self, job: J) -> Result<(), Unsent<J>>
         ensures back { IfErr result (λ failed. unsent failed ≡ job) }
     {
-        let due = self.desk.jobs().give(job)?;
+        let due = jobs!(&self.desk).give(job)?;
         due.wake();
         Ok(())
     }
@@ -240,7 +214,9 @@ where
     M: MakeTask<J, R>,
     R: Wait + Clone + Drop,
 {
-    // Takes the next job, unless one is left of which no task was made.
+    // Takes the next job, unless one is left of which no task was made. If there is none, the server is counted
+    // no longer, and waits with a copy of this waker; or all is done. It is the waker of a task, so no code of a
+    // caller's runs where it is copied.
     fn take_job(&mut self, w: &PoolWaker<R>) -> Poll<Option<J>>
         ensures left { IfSome self.old.unmade (λ job. result ≡ gave (Some job)) }
         ensures taken { self.new.unmade ≡ None }
@@ -250,7 +226,28 @@ where
         if let Some(job) = self.unmade.take() {
             return Poll::Ready(Some(job));
         }
-        self.spawner.desk.take(&mut self.is_counted, self.place, w)
+        let mut jobs = jobs!(&self.spawner.desk);
+        if let Some((job, waker)) = jobs.take(self.is_counted, self.place) {
+            drop(jobs);
+            drop(waker);
+            self.is_counted = true;
+            return Poll::Ready(Some(job));
+        }
+        if jobs.is_last(self.is_counted) {
+            end_one(jobs, self.spawner.desk.alloc);
+            self.is_counted = false;
+            return Poll::Ready(None);
+        }
+        let Ok(waker) = w.copy() else {
+            drop(jobs);
+            w.wake();
+            return Poll::Pending;
+        };
+        let earlier = jobs.rest(self.is_counted, self.place, waker);
+        drop(jobs);
+        drop(earlier);
+        self.is_counted = false;
+        Poll::Pending
     }
 
     // Makes a task of the next job. If it is refused one, it keeps the job, and asks for another poll.

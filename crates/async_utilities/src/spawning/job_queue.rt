@@ -76,10 +76,11 @@ impl<J: Drop, W: Drop> JobQueue<J, W> {
         if self.givers >= usize::MAX - self.jobs.len() {
             return Err(Unsent::Refused(job));
         }
-        match self.jobs.push_back(job) {
-            Ok(()) => Ok(self.waiters.notify(self.jobs.len())),
-            Err(failed) => Err(Unsent::Refused(failed.value)),
+        if self.jobs.reserve(1).is_err() {
+            return Err(Unsent::Refused(job));
         }
+        self.jobs.push_back_reserved(job);
+        Ok(self.waiters.notify(self.jobs.len()))
     }
 
     /// Takes the first job, if there is one, for the server of this place. It is counted from now on, and
