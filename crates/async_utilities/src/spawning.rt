@@ -7,7 +7,7 @@
 //!
 //! What they share stands under one lock (`job_queue`), which a job takes twice: as it is handed in, and as
 //! a server takes it. The end of a task is counted in the hold in which its server takes the next job, or
-//! waits for one. No lock is held while a task is made, polled or dropped, or a waker copied or woken.
+//! waits for one. No lock is held while a task is made, polled or dropped, or a waker woken or dropped.
 ghost use Rattle.std.specs.Prelude.{◌≡◌, ◌↔◌, ◌<◌, None, Some, IfErr, IfOk, IfSome, IsSome, IsTrue, is_some, vec_len};
 ghost use Rattle.std.specs.Arc.{arc_value};
 ghost use Rattle.executor_core.specs.declared.task.future.Poll.TheVariants.{Ready as gave};
