@@ -67,6 +67,36 @@ macro_rules! jobs {
 }
 
 impl<J: Drop, R: Wait + Clone + Drop> Desk<J, R> {
+    // Takes the first job for the server of this place. If there is none, the server is counted no longer, and
+    // waits with a copy of this waker; or all is done. It is the waker of a task, so no code of a caller's runs
+    // where it is copied.
+    fn take(&self, is_counted: &mut bool, place: usize, w: &PoolWaker<R>) -> Poll<Option<J>>
+        ensures counted { IfReady result (λ job. is_counted.new ≡ is_some job) }
+    {
+        let mut jobs = jobs!(self);
+        if let Some((job, waker)) = jobs.take(*is_counted, place) {
+            drop(jobs);
+            drop(waker);
+            *is_counted = true;
+            return Poll::Ready(Some(job));
+        }
+        if jobs.is_last(*is_counted) {
+            end_one(jobs, self.alloc);
+            *is_counted = false;
+            return Poll::Ready(None);
+        }
+        let Ok(waker) = w.copy() else {
+            drop(jobs);
+            w.wake();
+            return Poll::Pending;
+        };
+        let earlier = jobs.rest(*is_counted, place, waker);
+        drop(jobs);
+        drop(earlier);
+        *is_counted = false;
+        Poll::Pending
+    }
+
     // The place of a server.
     fn join(&self) -> Result<usize, OutOfMemory> {
         Ok(jobs!(self).join()?)
@@ -214,9 +244,7 @@ where
     M: MakeTask<J, R>,
     R: Wait + Clone + Drop,
 {
-    // Takes the next job, unless one is left of which no task was made. If there is none, the server is counted
-    // no longer, and waits with a copy of this waker; or all is done. It is the waker of a task, so no code of a
-    // caller's runs where it is copied.
+    // Takes the next job, unless one is left of which no task was made.
     fn take_job(&mut self, w: &PoolWaker<R>) -> Poll<Option<J>>
         ensures left { IfSome self.old.unmade (λ job. result ≡ gave (Some job)) }
         ensures taken { self.new.unmade ≡ None }
@@ -226,28 +254,7 @@ where
         if let Some(job) = self.unmade.take() {
             return Poll::Ready(Some(job));
         }
-        let mut jobs = jobs!(&self.spawner.desk);
-        if let Some((job, waker)) = jobs.take(self.is_counted, self.place) {
-            drop(jobs);
-            drop(waker);
-            self.is_counted = true;
-            return Poll::Ready(Some(job));
-        }
-        if jobs.is_last(self.is_counted) {
-            end_one(jobs, self.spawner.desk.alloc);
-            self.is_counted = false;
-            return Poll::Ready(None);
-        }
-        let Ok(waker) = w.copy() else {
-            drop(jobs);
-            w.wake();
-            return Poll::Pending;
-        };
-        let earlier = jobs.rest(self.is_counted, self.place, waker);
-        drop(jobs);
-        drop(earlier);
-        self.is_counted = false;
-        Poll::Pending
+        self.spawner.desk.take(&mut self.is_counted, self.place, w)
     }
 
     // Makes a task of the next job. If it is refused one, it keeps the job, and asks for another poll.
