@@ -445,8 +445,8 @@ fn a_job_comes_back_if_memory_is_refused(rt: HostRuntime) -> Result<(), Fail> {
     Ok(())
 }
 
-// Requests of the places of servers and of their order, of what is shared, and of the Vec.
-const OWN_REQUESTS: usize = 5;
+// Requests of the places of servers and of their order, of what is shared, of the Vec, and of two servers.
+const OWN_REQUESTS: usize = 7;
 
 // Makes servers with this request refused. Says whether the refusal was the answer, or none was met.
 fn are_made_or_refused<R: AllocGlobal + Wait + Clone + Drop + Send + Sync>(

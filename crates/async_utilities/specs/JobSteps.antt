@@ -59,12 +59,11 @@ module _ {J W : Type 0} where
       (old.jobs.items ≡ taken.0 ∷ new.jobs.items) × (new.givers ≡ counting counted old.givers) × SameEnds old new
       × (taken.1 ≡ waker_of (place_at old.waiters place)) × Comes old.waiters place new.waiters
 
-  -- a server waits with this waker, and is counted no longer, if no job waits and not all is done
-  abbrev pub Rests : JobQueue J W → Bool → ℕ → W → Result (Option W) W → JobQueue J W → Type 0
-  Rests old counted place waker (Err back) new = (back ≡ waker) × Same old new
-  Rests old counted place waker (Ok unused) new =
-      (old.jobs.items ≡ []) × (is_last old counted ≡ false) × (new.jobs.items ≡ [])
-      × (new.givers + cond counted 1 0 ≡ old.givers) × SameEnds old new × WaitsAt old.waiters place waker unused new.waiters
+  -- a server waits with this waker, and is counted no longer
+  abbrev pub Rests : JobQueue J W → Bool → ℕ → W → Option W → JobQueue J W → Type 0
+  Rests old counted place waker unused new =
+      (new.jobs.items ≡ old.jobs.items) × (new.givers + cond counted 1 0 ≡ old.givers) × SameEnds old new
+      × WaitsAt old.waiters place waker unused new.waiters
 
   -- a place is taken for a server
   abbrev pub Joins : {E : Type 0} → JobQueue J W → Result ℕ E → JobQueue J W → Type 0

@@ -143,7 +143,7 @@ fn ends_of<T: Drop, S: Wake, V: Wake, R: Wait + Drop>(
 impl<T: Drop, S: Wake, V: Wake, R: Wait + Drop> Channel<T, S, V, R> {
     #[inline(always)]
     pub(crate) fn state(&self) -> MutexGuard<'_, State<T, S, V>> {
-        lock(&self.state, &self.rt)
+        lock!(self.state, &self.rt)
     }
 
     pub(crate) fn alloc(&self) -> Global {

@@ -10,6 +10,7 @@ pub(crate) enum Due<W> {
 
 impl<W: Wake> Due<W> {
     /// Wakes it.
+    #[inline(always)]
     pub(crate) fn wake(self) {
         match self {
             Due::Nobody => {}

@@ -8,6 +8,19 @@ use std::cmp::min;
 use std::hint::spin_loop;
 use std::sync::{Arc, Mutex, MutexGuard, Wait};
 
+/// Waits for a lock. It is no function, since each call that may wait costs its caller a test.
+macro_rules! lock {
+    ($mutex:expr, $rt:expr) => {{
+        let mutex = &$mutex;
+        match mutex.try_lock() {
+            Some(guard) => guard,
+            None => crate::locked::wait_for(mutex, $rt),
+        }
+    }};
+}
+
+pub(crate) use lock;
+
 /// A state behind a lock, which handles, futures and guards share, and the right to wait for that lock.
 #[derive(Drop)]
 pub(crate) struct Locked<S, R> {
@@ -28,7 +41,7 @@ impl<S: Drop, R: Wait + Drop> Locked<S, R> {
     /// Waits for the lock.
     #[inline(always)]
     pub(crate) fn state(&self) -> MutexGuard<'_, S> {
-        lock(&self.state, &self.rt)
+        lock!(self.state, &self.rt)
     }
 }
 
@@ -42,19 +55,10 @@ const SHORTEST: u32 = 128;
 
 const LONGEST: u32 = 1024;
 
-/// Waits for a lock.
-#[inline(always)]
-pub(crate) fn lock<'a, T, R: Wait>(mutex: &'a Mutex<T>, rt: &R) -> MutexGuard<'a, T> {
-    match mutex.try_lock() {
-        Some(guard) => guard,
-        None => wait_for(mutex, rt),
-    }
-}
-
-// Apart, so that a lock that is free takes a few instructions.
+/// Waits for a lock that was not free. Apart, so that one that is free takes a few instructions.
 #[cold]
 #[inline(never)]
-fn wait_for<'a, T, R: Wait>(mutex: &'a Mutex<T>, rt: &R) -> MutexGuard<'a, T> {
+pub(crate) fn wait_for<'a, T, R: Wait>(mutex: &'a Mutex<T>, rt: &R) -> MutexGuard<'a, T> {
     let mut pause = SHORTEST;
     for _ in 0..TRIES {
         for _ in 0..pause {

@@ -7,7 +7,7 @@
 //!
 //! What they share stands under one lock (`job_queue`), which a job takes twice: as it is handed in, and as
 //! a server takes it. The end of a task is counted in the hold in which its server takes the next job, or
-//! waits for one. No lock is held while a task is made, polled or dropped, or a waker copied or woken.
+//! waits for one. No lock is held while a task is made, polled or dropped, or a waker woken or dropped.
 ghost use Rattle.std.specs.Prelude.{◌≡◌, ◌↔◌, ◌<◌, None, Some, IfErr, IfOk, IfSome, IsSome, IsTrue, is_some, vec_len};
 ghost use Rattle.std.specs.Arc.{arc_value};
 ghost use Rattle.executor_core.specs.declared.task.future.Poll.TheVariants.{Ready as gave};
@@ -19,7 +19,6 @@ pub(crate) mod job_queue;
 
 use crate::blocking::ThreadWaker;
 use crate::channels::Unsent;
-use crate::due::wake_unless_kept;
 use crate::locked::lock;
 use crate::spawning::job_queue::JobQueue;
 use async_executor::{Future, OutOfMemory, Poll, TaskWaker, Wake};
@@ -58,19 +57,23 @@ struct Desk<J: Drop, R: Wait + Clone + Drop> {
     rt: R,
 }
 
-impl<J: Drop, R: Wait + Clone + Drop> Desk<J, R> {
-    #[inline(always)]
-    fn jobs(&self) -> LockedJobs<'_, J, R> {
-        lock(&self.jobs, &self.rt)
-    }
+// Waits for the jobs of a desk, which are locked until the guard is dropped. A macro, for the same reason as
+// `lock!`.
+macro_rules! jobs {
+    ($desk:expr) => {{
+        let desk = $desk;
+        lock!(desk.jobs, &desk.rt)
+    }};
+}
 
+impl<J: Drop, R: Wait + Clone + Drop> Desk<J, R> {
     // Takes the first job for the server of this place. If there is none, the server is counted no longer, and
     // waits with a copy of this waker; or all is done. It is the waker of a task, so no code of a caller's runs
     // where it is copied.
     fn take(&self, is_counted: &mut bool, place: usize, w: &PoolWaker<R>) -> Poll<Option<J>>
         ensures counted { IfReady result (λ job. is_counted.new ≡ is_some job) }
     {
-        let mut jobs = self.jobs();
+        let mut jobs = jobs!(self);
         if let Some((job, waker)) = jobs.take(*is_counted, place) {
             drop(jobs);
             drop(waker);
@@ -87,16 +90,16 @@ impl<J: Drop, R: Wait + Clone + Drop> Desk<J, R> {
             w.wake();
             return Poll::Pending;
         };
-        let unused = jobs.rest(*is_counted, place, waker);
+        let earlier = jobs.rest(*is_counted, place, waker);
         drop(jobs);
-        *is_counted = *is_counted && unused.is_err();
-        wake_unless_kept(unused);
+        drop(earlier);
+        *is_counted = false;
         Poll::Pending
     }
 
     // The place of a server.
     fn join(&self) -> Result<usize, OutOfMemory> {
-        Ok(self.jobs().join()?)
+        Ok(jobs!(self).join()?)
     }
 
     // The server of this place is gone.
@@ -104,13 +107,13 @@ impl<J: Drop, R: Wait + Clone + Drop> Desk<J, R> {
         if is_counted {
             self.end_one();
         }
-        let left = self.jobs().part(place);
+        let left = jobs!(self).part(place);
         left.end();
     }
 
     // One that is counted hands in no more jobs.
     fn end_one(&self) {
-        end_one(self.jobs(), self.alloc);
+        end_one(jobs!(self), self.alloc);
     }
 }
 
@@ -162,7 +165,7 @@ impl<J: Drop, R: Wait + Clone + Drop> Spawner<J, R> {
     pub fn spawn(&self, job: J) -> Result<(), Unsent<J>>
         ensures back { IfErr result (λ failed. unsent failed ≡ job) }
     {
-        let due = self.desk.jobs().give(job)?;
+        let due = jobs!(&self.desk).give(job)?;
         due.wake();
         Ok(())
     }
@@ -173,7 +176,19 @@ impl<J: Drop, R: Wait + Clone + Drop> Spawner<J, R> {
 /// threads park.
 ///
 /// Example: `uses::hands_in_jobs`, at `servers`.
+#[derive(Drop)]
 pub struct Server<J, M, R>
+where
+    J: Drop,
+    M: MakeTask<J, R>,
+    R: Wait + Clone + Drop,
+{
+    // In a box: an executor moves each future that it polls, and a task may be large.
+    serving: Box<Serving<J, M, R>>,
+}
+
+// What a server has, and does.
+struct Serving<J, M, R>
 where
     J: Drop,
     M: MakeTask<J, R>,
@@ -207,7 +222,7 @@ where
 {
     // A server that has no job yet.
     fn new(spawner: &Spawner<J, R>, maker: &Arc<M>) -> Result<Server<J, M, R>, OutOfMemory> {
-        Ok(Server {
+        let serving = Serving {
             spawner: spawner.copy()?,
             maker: Arc::try_clone(maker)?,
             is_counted: false,
@@ -215,9 +230,20 @@ where
             task: None,
             place: spawner.desk.join()?,
             done: 0,
-        })
+        };
+        match Box::new(spawner.desk.alloc, serving) {
+            Ok(serving) => Ok(Server { serving }),
+            Err(_) => Err(OutOfMemory),
+        }
     }
+}
 
+impl<J, M, R> Serving<J, M, R>
+where
+    J: Drop,
+    M: MakeTask<J, R>,
+    R: Wait + Clone + Drop,
+{
     // Takes the next job, unless one is left of which no task was made.
     fn take_job(&mut self, w: &PoolWaker<R>) -> Poll<Option<J>>
         ensures left { IfSome self.old.unmade (λ job. result ≡ gave (Some job)) }
@@ -273,17 +299,9 @@ where
         self.done = self.done.saturating_add(1);
         true
     }
-}
 
-impl<J, M, R> Future<TaskWaker<ThreadWaker, R>> for Server<J, M, R>
-where
-    J: Drop,
-    M: MakeTask<J, R>,
-    R: Wait + Clone + Drop,
-{
-    type Output = u64;
-
-    fn poll(&mut self, w: &TaskWaker<ThreadWaker, R>) -> Poll<u64>
+    // Makes tasks and polls them, one after another, for one turn. It is ready once all is done.
+    fn serve(&mut self, w: &PoolWaker<R>) -> Poll<u64>
         ensures { IfReady result (λ _. (self.new.task ≡ None) × (self.new.unmade ≡ None)) }
     {
         for _ in 0..TURN {
@@ -303,14 +321,30 @@ where
     }
 }
 
-impl<J, M, R> Drop for Server<J, M, R>
+impl<J, M, R> Future<TaskWaker<ThreadWaker, R>> for Server<J, M, R>
+where
+    J: Drop,
+    M: MakeTask<J, R>,
+    R: Wait + Clone + Drop,
+{
+    type Output = u64;
+
+    fn poll(&mut self, w: &TaskWaker<ThreadWaker, R>) -> Poll<u64>
+        ensures task { IfReady result (λ _. self.new.serving.value.task ≡ None) }
+        ensures unmade { IfReady result (λ _. self.new.serving.value.unmade ≡ None) }
+    {
+        self.serving.serve(w)
+    }
+}
+
+impl<J, M, R> Drop for Serving<J, M, R>
 where
     J: Drop,
     M: MakeTask<J, R>,
     R: Wait + Clone + Drop,
 {
     fn drop(self) {
-        let Server {
+        let Serving {
             spawner,
             maker: _,
             is_counted,

@@ -190,6 +190,7 @@ impl<W: Drop> WaitQueue<W> {
     }
 
     /// Has the first one that waits be woken, if there is more to come for than are notified.
+    #[inline(always)]
     pub(crate) fn notify(&mut self, there: usize) -> Due<W>
         ensures notifies { Notifies self.old there result self.new }
         ensures served { IsServed (there - 1) self.old → IsServed there self.new }

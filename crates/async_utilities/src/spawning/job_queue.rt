@@ -76,10 +76,11 @@ impl<J: Drop, W: Drop> JobQueue<J, W> {
         if self.givers >= usize::MAX - self.jobs.len() {
             return Err(Unsent::Refused(job));
         }
-        match self.jobs.push_back(job) {
-            Ok(()) => Ok(self.waiters.notify(self.jobs.len())),
-            Err(failed) => Err(Unsent::Refused(failed.value)),
+        if self.jobs.reserve(1).is_err() {
+            return Err(Unsent::Refused(job));
         }
+        self.jobs.push_back_reserved(job);
+        Ok(self.waiters.notify(self.jobs.len()))
     }
 
     /// Takes the first job, if there is one, for the server of this place. It is counted from now on, and
@@ -103,18 +104,16 @@ impl<J: Drop, W: Drop> JobQueue<J, W> {
     }
 
     /// Has the server of this place wait for a job with this waker. It is counted no longer, and an earlier
-    /// waker comes out. If a job waits, or all is done, nothing changes: the waker comes back, and is to be
-    /// woken.
-    pub(crate) fn rest(&mut self, is_counted: bool, place: usize, waker: W) -> Result<Option<W>, W>
+    /// waker comes out.
+    pub(crate) fn rest(&mut self, is_counted: bool, place: usize, waker: W) -> Option<W>
+        requires empty { self.old.jobs.items ≡ [] }
+        requires open { is_last self.old is_counted ≡ false }
         ensures { Rests self.old is_counted place waker result self.new }
     {
-        if !self.jobs.is_empty() || self.is_last(is_counted) {
-            return Err(waker);
-        }
         if is_counted {
             self.givers -= 1;
         }
-        Ok(self.waiters.wait(place, waker))
+        self.waiters.wait(place, waker)
     }
 
     /// Counts one server less, and gives its place back. If it was told of a job that it did not take, the

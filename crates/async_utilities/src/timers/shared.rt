@@ -32,7 +32,7 @@ impl<W: Wake, R: Wait + Drop> Shared<W, R> {
 
     #[inline(always)]
     pub(crate) fn deadlines(&self) -> MutexGuard<'_, Deadlines<W>> {
-        lock(&self.deadlines, &self.rt)
+        lock!(self.deadlines, &self.rt)
     }
 
     /// The latest time that the clock was read at, which is this one if none was later.
