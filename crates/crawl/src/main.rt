@@ -36,8 +36,12 @@ fn next_page(found: &IndexSet<u32>, begun: &mut usize) -> Option<u32>
     ensures once { IsUnique nat_eq found.now }
     ensures begun { begun.new ≡ begun.old + (if is_some result then 1 else 0) }
 {
-    let page = *found.get_index(*begun)?;
-    *begun += 1;
+    let at = *begun;
+    if at >= found.len() {
+        return None;
+    }
+    let page = *found.get_index(at)?;
+    *begun = at + 1;
     Some(page)
 }
 
