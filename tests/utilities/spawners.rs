@@ -286,39 +286,80 @@ fn so_many_tasks_run_at_once(rt: HostRuntime) -> Result<(), Fail> {
     Ok(())
 }
 
-// Ticks a server of three jobs until nothing is left to run. Gives what its handle says then.
-fn ticks<R: AllocGlobal + Wait + Clone + Drop + Send + Sync>(
+type TreeExecutor<R> = Executor<Server<u32, Tree, R>, ThreadWaker, R>;
+
+// An executor with a task that is a server of a tree.
+fn served<R: AllocGlobal + Wait + Clone + Drop + Send + Sync>(
     rt: &R,
-) -> Result<Poll<Result<u64, Cancelled>>, Fail> {
-    let executor: Executor<Server<u32, Tree, R>, ThreadWaker, R> =
-        Executor::new(rt.clone()?, rt.alloc())?;
-    let (jobs, servers) = servers(rt.clone()?, rt.alloc(), limits(1), Tree::refusing(0))?;
-    let mut tasks = Vec::new(rt.alloc());
-    match executor.spawn_many(servers.into_iter(), &mut tasks) {
-        Ok(_) => {}
-        Err(_) => return Err("no memory for the servers".into()),
+) -> Result<(TreeExecutor<R>, Jobs<u32, R>, Handle<Tree, R>), Fail> {
+    let executor = Executor::new(rt.clone()?, rt.alloc())?;
+    let (jobs, mut servers) = servers(rt.clone()?, rt.alloc(), limits(1), Tree::refusing(0))?;
+    let Some(server) = servers.pop() else {
+        return Err("no server".into());
+    };
+    match executor.spawn(server) {
+        Ok(task) => Ok((executor, jobs, task)),
+        Err(_) => Err("no memory for a server".into()),
     }
-    for _ in 0..3 {
-        if jobs.spawner().spawn(0).is_err() {
-            return Err("no room for a job".into());
-        }
+}
+
+// Hands in a job for a tree of this depth.
+fn hand_in<R: Wait + Clone + Drop>(jobs: &Jobs<u32, R>, depth: u32) -> Result<(), Fail> {
+    match jobs.spawner().spawn(depth) {
+        Ok(()) => Ok(()),
+        Err(_) => Err("no room for a job".into()),
     }
-    drop(jobs);
+}
+
+// Ticks until nothing is left to run.
+fn run_all<R: Wait + Clone + Drop + Send + Sync>(executor: &TreeExecutor<R>) {
     for _ in 0..100 {
         if !executor.try_tick() {
             break;
         }
     }
-    let waker = ThreadWaker::new(rt.alloc())?;
-    match tasks.first_mut() {
-        Some(task) => Ok(task.poll(&waker)),
-        None => Err("no server".into()),
+}
+
+// Ticks a server of three jobs. Gives what its handle says then.
+fn ticks<R: AllocGlobal + Wait + Clone + Drop + Send + Sync>(
+    rt: &R,
+) -> Result<Poll<Result<u64, Cancelled>>, Fail> {
+    let (executor, jobs, mut task) = served(rt)?;
+    for _ in 0..3 {
+        hand_in(&jobs, 0)?;
     }
+    drop(jobs);
+    run_all(&executor);
+    Ok(task.poll(&ThreadWaker::new(rt.alloc())?))
 }
 
 #[test]
 fn a_server_that_is_ticked_does_its_jobs(rt: HostRuntime) -> Result<(), Fail> {
     assert_eq!(rt; ticks(&rt)?, Poll::Ready(Ok(3)));
+    Ok(())
+}
+
+// Does so many jobs, so that the server waits, and then one that hands in two more once the owner is gone.
+fn hands_on<R: AllocGlobal + Wait + Clone + Drop + Send + Sync>(
+    rt: &R,
+    before: u64,
+) -> Result<Poll<Result<u64, Cancelled>>, Fail> {
+    let (executor, jobs, mut task) = served(rt)?;
+    for _ in 0..before {
+        hand_in(&jobs, 0)?;
+        run_all(&executor);
+    }
+    hand_in(&jobs, 1)?;
+    executor.try_tick();
+    drop(jobs);
+    run_all(&executor);
+    Ok(task.poll(&ThreadWaker::new(rt.alloc())?))
+}
+
+#[test]
+fn a_task_hands_in_jobs_once_the_owner_is_gone(rt: HostRuntime) -> Result<(), Fail> {
+    assert_eq!(rt; hands_on(&rt, 0)?, Poll::Ready(Ok(3)));
+    assert_eq!(rt; hands_on(&rt, 2)?, Poll::Ready(Ok(5)));
     Ok(())
 }
 
