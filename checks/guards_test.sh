@@ -5,7 +5,7 @@
 # Runs beside the gate.
 set -eu
 . "$(dirname "$0")/lib/edits"
-mkdir -p "$copy/checks/guards" "$copy/checks/lib" "$copy/crates/sums/src" "$copy/crates/sums/proofs/thrice"
+mkdir -p "$copy/checks/guards" "$copy/checks/lib" "$copy/crates/sums/src"
 (cd "$top/checks" && cp guards.sh "$copy/checks" &&
     cd lib && cp built edits edits.py guards.py refused.awk "$copy/checks/lib")
 echo 'sums:' > "$copy/crates.txt"
@@ -34,6 +34,15 @@ pub fn thrice(x: u64) -> u64
     double + x
 }
 
+/// The number and itself, twice, by a name so long that an error about its proof goes on in the next line.
+pub fn thrice_by_a_name_so_long_that_an_error_goes_on_in_the_next_line(x: u64) -> u64
+    requires { x < 100 }
+    ensures { result ≡ x + x + x }
+{
+    let sum = twice(x);
+    x + sum
+}
+
 /// Four.
 pub fn four() -> u64
     ensures { result ≡ 4 }
@@ -48,13 +57,21 @@ pub fn limit() -> u64
     LIMIT
 }
 END
-cat > "$copy/crates/sums/proofs/thrice/Answers.antt" <<'END'
+long=thrice_by_a_name_so_long_that_an_error_goes_on_in_the_next_line
+
+# Answers the goal of a function, from what the call that gave this local ensures.
+answer() {
+    mkdir -p "$copy/crates/sums/proofs/$1"
+    cat > "$copy/crates/sums/proofs/$1/Answers.antt" <<END
 use Rattle.std.proofs.Common.{arith}
-use Rattle.sums.proofs.thrice.Goals as goal
+use Rattle.sums.proofs.$1.Goals as goal
 
 pub returns : goal.returns
-returns c = omega (arith, c.twice-double.ensures)
+returns c = omega (arith, c.twice-$2.ensures)
 END
+}
+answer thrice double
+answer $long sum
 
 # Makes a guard of this name, function, old text and new text.
 guard() {
@@ -99,11 +116,13 @@ guard of_nothing four 'twice(2)' 'twice(1 + 1)'
 guard by_an_answer thrice 'double + x\n' 'double + 1\n'
 guard by_an_answer_of_nothing thrice 'double + x\n' 'x + double\n'
 guard of_a_name thrice 'double = twice(x);\n    double + x' 'other = twice(x);\n    other + 1'
-try_guards sums four thrice
+guard of_a_near_name $long 'sum = twice(x);\n    x + sum' 'sums = twice(x);\n    1 + sums'
+try_guards sums four thrice $long
 says 'a body that is right' 'of_nothing.edit: four is not refused by a goal of its own:$'
 says 'a second body that is right, which waited for the first' 'by_an_answer_of_nothing.edit: thrice is not refused by a goal of its own:$'
 says 'an answer that names what is there no more' 'of_a_name.edit: thrice_3 is not refused by a goal of its own:$'
-ends 'wrong guards fail' '1 passed, 3 failed' 1
+says 'and one of whose name another is near' "of_a_near_name.edit: $long is not refused by a goal of its own:\$"
+ends 'wrong guards fail' '1 passed, 4 failed' 1
 
 rm "$copy"/checks/guards/*
 guard unread twice '    x + x\n' '    x + y\n'

@@ -2,8 +2,8 @@
 
 The first guard of a function changes the function itself. Each further one changes a copy of it,
 which stands below it and has a copy of its proof. A function of a trait has no copies, so its further
-guards wait. All other functions have nothing to prove: a body that ends at once, and a hole for a
-proof. Who calls them goes by their contracts, as ever.
+guards wait. All other functions have nothing to prove: a body that ends at once, and an empty file of
+a proof. Who calls them goes by their contracts, as ever.
 Usage: guards.py COPY CRATE GUARD.., where GUARD is a file. It prints a line 'FUNCTION GUARD' for each
 that is laid out or, with status 1, why some cannot be.
 """
@@ -15,11 +15,6 @@ import sys
 from edits import Edit, Unapplied, functions_of, read, write
 
 STUB = "unreachable!()\n"
-HOLE = """use Rattle.{crate}.proofs.{path}.Statement.{{statement}}
-
-pub {name}_spec : {{M : Type 1}} → statement M
-{name}_spec = ?
-"""
 
 
 class Crate:
@@ -72,11 +67,11 @@ class Crate:
             write(f"{other}/{file}", text)
 
     def leave_out(self, path):
-        """Gives a function a hole for a proof, and returns a body for it."""
+        """Gives a function an empty file of a proof, and returns a body for it."""
         proof = self.proof_of(path)
         shutil.rmtree(proof, ignore_errors=True)
         os.makedirs(proof)
-        write(f"{proof}/Proof.antt", HOLE.format(crate=self.name, path=".".join(path), name=path[-1]))
+        write(f"{proof}/Proof.antt", "")
         return STUB
 
 

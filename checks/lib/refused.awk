@@ -38,6 +38,13 @@ function add_goal(name, goal) {
     told[name, goal]
 }
 
+# A long error goes on in the next line.
+begun != "" {
+    if (/^  / && is_of_text($0))
+        unread[begun] = unread[begun] "\nunread " begun ": " first $0
+    begun = ""
+}
+
 # What cites an answer that is refused is not looked at.
 /: error: [0-9]+ declarations? that depends? on / {
     next
@@ -56,8 +63,11 @@ function add_goal(name, goal) {
         print "beside: " $0
     else if (goal == "" || !answers(path, goal) || is_of_text($0))
         unread[name] = unread[name] "\nunread " name ": " $0
-    else
+    else {
         add_goal(name, goal)
+        begun = name
+        first = $0
+    }
     next
 }
 
