@@ -1,5 +1,5 @@
 -- What comes of futures that are spawned in turn.
-use Rattle.std.specs.Prelude.{◌≡◌, ◌<◌, IfErr, IfSome, ℕ, Bool, false, Option, Some, Result, Ok, Err, MatchOption, List, ◌++◌, length, All}
+use Rattle.std.specs.Prelude.{◌≡◌, ◌<◌, IfErr, IfSome, ℕ, Bool, false, Option, Some, Result, Ok, Err, MatchOption, List, [], ◌∷◌, ◌++◌, length, All}
 use Rattle.std.specs.Iterator.{Yields, YieldsThen, Drains}
 use Rattle.executor_core.specs.declared.queue.runner.RunnerError.{RunnerError}
 use Rattle.executor_core.specs.declared.queue.runner.RunnerError.TheVariants as runner
@@ -28,6 +28,10 @@ module _ {F : Type 0} where
 -- a future that is refused was asked for, since its handle has a place
 abbrev pub HasPlace : {F : Type 0} → ℕ → ℕ → Result ℕ (SpawnMany F) → Type 0
 HasPlace len capacity result = IfErr result (λ e. IfSome e.refused (λ _. len < capacity))
+
+-- the list with one handle after it, which has not answered
+abbrev pub AddsHandle : {T : Type 0} → (T → Bool) → List T → List T → Type 0
+AddsHandle {T} answered before after = (task : T) × (after ≡ before ++ task ∷ []) × (answered task ≡ false)
 
 -- the list with n handles after it, none of which has answered
 abbrev pub AddsHandles : {T : Type 0} → (T → Bool) → List T → ℕ → List T → Type 0

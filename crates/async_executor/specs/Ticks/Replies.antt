@@ -12,6 +12,7 @@ use Rattle.async_executor.specs.declared.machine.steps.Found.{Found}
 use Rattle.async_executor.specs.declared.machine.steps.Found.TheVariants as found
 use Rattle.async_executor.specs.declared.machine.steps.GoingToSleep.{GoingToSleep}
 use Rattle.async_executor.specs.declared.machine.steps.GoingToSleep.TheVariants as going
+use Rattle.async_executor.specs.declared.machine.steps.Yielding.{Yielding}
 use Rattle.async_executor.specs.declared.machine.tick.Alone.{Alone}
 use Rattle.async_executor.specs.declared.machine.tick.TickNext.{TickNext}
 use Rattle.async_executor.specs.declared.machine.tick.TickNext.TheVariants as next
@@ -22,7 +23,7 @@ use Rattle.async_executor.specs.declared.machine.waiting.Spending.{Spending}
 use Rattle.async_executor.specs.declared.machine.waiting.Spending.TheVariants.{Exchanging, Notifying, Waking}
 use Rattle.async_executor.specs.declared.machine.waiting.TickAction.{TickAction}
 use Rattle.async_executor.specs.declared.machine.waiting.TickAction.TheVariants as asks
-use Rattle.async_executor.specs.declared.machine.waiting.TickEnd.TheVariants.{Return}
+use Rattle.async_executor.specs.declared.machine.waiting.TickEnd.TheVariants.{Yield, Return}
 use Rattle.async_executor.specs.declared.machine.waiting.TickReply.{TickReply}
 use Rattle.async_executor.specs.declared.machine.waiting.TickReply.TheVariants.{StoredRemoved, Exchanged, Notified, Woken, Ran}
 use Rattle.async_executor.specs.declared.machine.waiting.Waiting.{Waiting}
@@ -81,6 +82,10 @@ module _ {A W : Type 0} where
   sleeps (going.Insert inserting) = Act (Inserting inserting) asks.Insert
   sleeps (going.Update updating) = Act (Updating updating) (asks.Update updating.number)
 
+  -- one that could not go to sleep yields
+  abbrev pub yields : Yielding A → Came A W
+  yields yielding = Rest (record { actor = yielding.actor; number = yielding.number }) Yield
+
   abbrev pub departs : Departing A → Came A W
   departs (departing.Awake departed) = End departed
   departs (departing.Asleep leaving) = Act (Leaving leaving) (asks.Remove leaving.number)
@@ -136,9 +141,17 @@ module _ {A W : Type 0} where
   ticker_after runner (Run running) = of_running running runner
   ticker_after runner (End departed) = of_departed departed runner
 
--- as the machine of a tick says it
-abbrev pub decision : {W : Type 0} → Came Alone W → TickNext W
-decision (Act waiting action) = next.Act (record { state = state.Waiting waiting }) action
-decision (Rest at_rest end) = next.Rest (record { number = at_rest.number; ended = false }) end
-decision (Run running) = next.Act (record { state = state.Running (record { actor = running.actor }) }) (asks.Run running.taken)
-decision (End departed) = next.Rest (record { number = 0; ended = true }) Return
+module _ {W : Type 0} where
+  -- a tick that is polled searches, and one that has ended returns
+  abbrev pub polls : ℕ → TickNext W
+  polls number = next.Act (record { state = state.Waiting (Searching (record { actor = record {}; number = number })) }) (asks.Search None)
+
+  abbrev pub returns : TickNext W
+  returns = next.Rest (record { number = 0; ended = true }) Return
+
+  -- as the machine of a tick says it
+  abbrev pub decision : Came Alone W → TickNext W
+  decision (Act waiting action) = next.Act (record { state = state.Waiting waiting }) action
+  decision (Rest at_rest end) = next.Rest (record { number = at_rest.number; ended = false }) end
+  decision (Run running) = next.Act (record { state = state.Running (record { actor = running.actor }) }) (asks.Run running.taken)
+  decision (End departed) = returns

@@ -10,7 +10,7 @@ ghost use Rattle.async_executor.specs.Runs.Counts.{goes_on, more, anew};
 ghost use Rattle.async_executor.specs.Runs.Decisions.{decided};
 ghost use Rattle.async_executor.specs.Runs.Fairs.{HasFound, FairGoesOn};
 ghost use Rattle.async_executor.specs.Runs.Fixed.{fixed, IsWithin};
-ghost use Rattle.async_executor.specs.Runs.Replies.{ask, begun, decision, dropped, drops, polls, runs, searches};
+ghost use Rattle.async_executor.specs.Runs.Replies.{ask, begun, decision, dropped, drops, leaves, polls, runs, searches};
 ghost use Rattle.async_executor.specs.Runs.Rows.{IsRow};
 ghost use Rattle.async_executor.specs.Runs.Steps.{leads, may_lead};
 ghost use Rattle.async_executor.specs.Runs.Tickers.{ticker_of, ticker_after, rest_ticker, of_begun, of_dropped};
@@ -331,6 +331,14 @@ fn decide<W>(came: Came<Runner, W>) -> RunNext<W>
     }
 }
 
+// A run whose queue has ended leaves the sleepers.
+#[inline(always)]
+fn leave<W>(left: Left) -> RunNext<W>
+    ensures { result ≡ leaves left }
+{
+    decide(depart(left.depart()))
+}
+
 /// Decides what a run does next. It keeps the step that waits for the reply to the last action,
 /// and what else must be spent goes out with its actions.
 pub struct RunMachine {
@@ -431,7 +439,7 @@ impl RunMachine {
                         RunState::PassingOn(Exchanging, unregistering.unregistered()),
                         RunAction::Tick(TickAction::Exchange(notice)),
                     ),
-                    None => decide(depart(unregistering.unregistered().depart())),
+                    None => leave(unregistering.unregistered()),
                 },
                 _ => unreachable!(),
             },
@@ -440,7 +448,7 @@ impl RunMachine {
                     Some((spending, action)) => {
                         ask(RunState::PassingOn(spending, left), RunAction::Tick(action))
                     }
-                    None => decide(depart(left.depart())),
+                    None => leave(left),
                 },
                 _ => unreachable!(),
             },

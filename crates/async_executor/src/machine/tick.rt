@@ -15,7 +15,7 @@ ghost use Rattle.async_executor.specs.Ticks.{answers, asked, store_asked, store_
 ghost use Rattle.async_executor.specs.Ticks.Courses.{course, KeepsCourse};
 ghost use Rattle.async_executor.specs.Ticks.Decisions.{decided};
 ghost use Rattle.async_executor.specs.Ticks.Rows.{IsRow};
-ghost use Rattle.async_executor.specs.Ticks.Replies.{decision};
+ghost use Rattle.async_executor.specs.Ticks.Replies.{decision, polls, returns};
 ghost use Rattle.async_executor.specs.Ticks.Tickers.{ticker_of, ticker_after, rest_ticker};
 ghost use Rattle.async_executor.specs.Ticks.Steps.{leads, may_lead};
 
@@ -147,6 +147,26 @@ enum TickState {
     Running(Departed<Alone>),
 }
 
+// The tick is polled, and searches for a task.
+#[inline(always)]
+fn poll<W>(number: usize) -> TickNext<W>
+    ensures { result ≡ polls number }
+{
+    let searching = TickRest::at(number).begin();
+    act(
+        TickState::Waiting(Waiting::Searching(searching)),
+        TickAction::Search(None),
+    )
+}
+
+// The tick has run its task, or was dropped.
+#[inline(always)]
+fn finish<W>(departed: Departed<Alone>) -> TickNext<W>
+    ensures { result ≡ returns }
+{
+    TickNext::Rest(departed.end(), TickEnd::Return)
+}
+
 // What comes of a reply, as the machine says it.
 #[inline(always)]
 fn decide<W>(came: Came<Alone, W>) -> TickNext<W>
@@ -159,7 +179,7 @@ fn decide<W>(came: Came<Alone, W>) -> TickNext<W>
             let (taken, departed) = running.run();
             act(TickState::Running(departed), TickAction::Run(taken))
         }
-        Came::End(departed) => TickNext::Rest(departed.end(), TickEnd::Return),
+        Came::End(departed) => finish(departed),
     }
 }
 
@@ -215,19 +235,13 @@ impl TickMachine {
         let TickMachine { state } = self;
         match state {
             TickState::Resting(number) => match reply {
-                TickReply::Begin => {
-                    let searching = TickRest::at(number).begin();
-                    act(
-                        TickState::Waiting(Waiting::Searching(searching)),
-                        TickAction::Search(None),
-                    )
-                }
+                TickReply::Begin => poll(number),
                 TickReply::Dropped => decide(depart(TickRest::at(number).depart())),
                 _ => unreachable!(),
             },
             TickState::Waiting(waiting) => decide(waiting.next(reply)),
             TickState::Running(departed) => match reply {
-                TickReply::Ran => TickNext::Rest(departed.end(), TickEnd::Return),
+                TickReply::Ran => finish(departed),
                 _ => unreachable!(),
             },
         }

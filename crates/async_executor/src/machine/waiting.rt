@@ -6,13 +6,13 @@
 //! it, and the wakeup of that pick.
 ghost use Rattle.std.specs.Prelude.{◌≡◌, ℕ, Bool, true, false, Option, is_none, IfNone, IfSome};
 ghost use Rattle.async_executor.specs.Ticks.{answers, asked_of, asked_of_spending, store_after};
-ghost use Rattle.async_executor.specs.Ticks.Replies.{actor_of, actor_after, departs, finds, passes_on, sleeps, spends, has_left, is_last, is_ran, is_seeking, store_asked, ticker_after, EndsLast, KeepsCourse, RunsNone, Waits};
+ghost use Rattle.async_executor.specs.Ticks.Replies.{actor_of, actor_after, departs, finds, passes_on, sleeps, spends, yields, has_left, is_last, is_ran, is_seeking, store_asked, ticker_after, EndsLast, KeepsCourse, RunsNone, Waits};
 ghost use Rattle.async_executor.specs.Ticks.Rows.{IsOver, IsRowOf, IsSpent, kept_of};
 ghost use Rattle.async_executor.specs.Ticks.Steps.{leads_from, may_lead_from};
 ghost use Rattle.async_executor.specs.Ticks.Tickers.{ticker_of_waiting};
 
 use crate::machine::steps;
-use crate::machine::steps::{Departed, Departing, GoingToSleep, Rested};
+use crate::machine::steps::{Departed, Departing, GoingToSleep, Rested, Yielding};
 use Spending::{Exchanging, Notifying, Waking};
 use TickAction::{Exchange, Insert, Notify, Remove, Search, Store, StoreRemoved, Update, Wake};
 use TickEnd::{Park, Yield};
@@ -169,6 +169,14 @@ fn go_to_sleep<A, W>(going: GoingToSleep<A>) -> Came<A, W>
     }
 }
 
+// It could not go to sleep.
+#[inline(always)]
+fn yield_now<A, W>(yielding: Yielding<A>) -> Came<A, W>
+    ensures { result ≡ yields yielding }
+{
+    Came::Rest(yielding.yielded(), Yield)
+}
+
 /// It leaves the sleepers, if it has a number.
 #[inline(always)]
 pub(in crate::machine) fn depart<A, W>(departing: Departing<A>) -> Came<A, W>
@@ -241,14 +249,14 @@ impl<A> Waiting<A> {
                 _ => unreachable!(),
             },
             Inserting(inserting) => match reply {
-                NoWaker | NoPlace => Came::Rest(inserting.refused().yielded(), Yield),
+                NoWaker | NoPlace => yield_now(inserting.refused()),
                 Inserted(number, change) => {
                     Came::Act(Storing(inserting.inserted(number)), Store(change))
                 }
                 _ => unreachable!(),
             },
             Updating(updating) => match reply {
-                NoWaker | Unknown => Came::Rest(updating.refused().yielded(), Yield),
+                NoWaker | Unknown => yield_now(updating.refused()),
                 Asleep => Came::Rest(updating.asleep(), Park),
                 WasNotified(change) => Came::Act(Storing(updating.was_notified()), Store(change)),
                 _ => unreachable!(),

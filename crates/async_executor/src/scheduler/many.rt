@@ -1,8 +1,8 @@
 //! Spawns the futures that an iterator gives.
-ghost use Rattle.std.specs.Prelude.{◌≡◌, Bool, Some, IfErr, IfNone, vec_len, vec_capacity};
+ghost use Rattle.std.specs.Prelude.{◌≡◌, ◌<◌, ◌+◌, Bool, false, Some, IfErr, IfNone, vec_len, vec_capacity};
 ghost use Rattle.std.specs.Iterator.{IsFinite};
 ghost use Rattle.executor_core.specs.SpawnError.{refused_future};
-ghost use Rattle.async_executor.specs.SpawnMany.{spawn_cause, spawned, SpawnsInTurn, AddsHandles, HasPlace};
+ghost use Rattle.async_executor.specs.SpawnMany.{spawn_cause, spawned, SpawnsInTurn, AddsHandle, AddsHandles, HasPlace};
 
 use crate::futures::storage::{Shareable, Storage};
 use crate::futures::transactions;
@@ -84,6 +84,17 @@ fn expect_handles<T, I: Iterator>(handles: &mut Vec<T>, futures: &I) -> usize
     tasks
 }
 
+// Puts the handle of a task at the end of the Vec, which has a place for it.
+#[inline(always)]
+fn add_handle<S: Storage, T: Handle<S>>(handles: &mut Vec<T>, task: TaskIn<S>)
+    requires place { vec_len handles.old < vec_capacity handles.old }
+    requires unanswered { task.answered ≡ false }
+    ensures added { AddsHandle T.answered handles.old.items handles.new.items }
+    ensures len { vec_len handles.new ≡ vec_len handles.old + 1 }
+{
+    handles.push_reserved(T::of(task));
+}
+
 impl<S: Shareable> ExecutorIn<S> {
     /// Schedules each future that the iterator gives as a new task, and puts its handle at the end
     /// of the Vec. No lock is held while the iterator is asked.
@@ -119,7 +130,7 @@ impl<S: Shareable> ExecutorIn<S> {
                 return Ok(spawned);
             };
             match self.spawn(future) {
-                Ok(task) => handles.push_reserved(T::of(task)),
+                Ok(task) => add_handle(handles, task),
                 Err(error) => return Err(SpawnMany::of(error, spawned)),
             }
         }

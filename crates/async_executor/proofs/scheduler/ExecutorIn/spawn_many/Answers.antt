@@ -1,4 +1,4 @@
-use Rattle.std.proofs.Common.{[], ◌∷◌, ◌++◌, refl, ◌∙◌, arith, length}
+use Rattle.std.proofs.Common.{[], ◌∷◌, ◌++◌, refl, arith, length}
 use Rattle.std.proofs.iter.Next.{Yields-more}
 use Rattle.std.proofs.lemmas.List.{length_push}
 use Rattle.async_executor.proofs.Handles.{adds_none, adds_one}
@@ -13,13 +13,14 @@ loop-futures-preserved g c =
     let loop = c.loop-futures.invariant in
     let next = c.in-Some.ensures.goes.on loop.1 in
     let xs = loop.2.0 in
+    let added = c.add_handle.ensures.added in
     let count = length_push xs c.in-Some.future in (
       next.0,
       next.1,
       (
         xs ++ c.in-Some.future ∷ [],
-        Yields-more g.I.Iterator.next_gives c.args.futures xs c.loop-futures.futures c.in-Some.future c.next.new.self loop.2.1 c.in-Some.ensures.steps,
-        adds_one g.T.Handle.answered c.args.handles.now.items c.loop-futures.handles.items c.try_reserve.new.self.items c.push_reserved.new.self.items (length xs) (length (xs ++ c.in-Some.future ∷ [])) c.of.result count loop.2.2 c.try_reserve.ensures.items c.push_reserved.ensures.items (c.of.ensures ∙ c.in-Ok.ensures.ok),
-        omega (arith, loop.2.3, count, c.push_reserved.ensures.len, c.try_reserve.ensures.len),
+        Yields-more g.I.Iterator.next_gives c.args.futures xs c.loop-futures.futures c.in-Some.future _ loop.2.1 c.in-Some.ensures.steps,
+        adds_one g.T.Handle.answered c.args.handles.now.items c.loop-futures.handles.items c.try_reserve.new.self.items c.add_handle.new.handles.items (length xs) (length (xs ++ c.in-Some.future ∷ [])) added.0 count loop.2.2 c.try_reserve.ensures.items added.1 added.2,
+        omega (arith, loop.2.3, count, c.add_handle.ensures.len, c.try_reserve.ensures.len),
       ),
     )

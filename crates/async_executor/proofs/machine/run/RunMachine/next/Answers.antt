@@ -7,7 +7,7 @@ use Rattle.async_executor.specs.Runs.Rows.{IsRow, kept_after, next_of}
 use Rattle.async_executor.specs.Runs.Steps.{leads, may_lead}
 use Rattle.async_executor.specs.Runs.Tickers.{ticker_in, ticker_after, runner_in}
 use Rattle.async_executor.specs.Runs.Turns.{TurnFrom, under_way_in}
-use Rattle.async_executor.specs.Ticks.Replies.{actor_after, actor_of, departs}
+use Rattle.async_executor.specs.Ticks.Replies.{actor_of}
 use Rattle.async_executor.specs.declared.machine.run.RunState.TheVariants.{PassingOn, Waiting}
 use Rattle.async_executor.specs.declared.machine.run.RunReply.TheVariants.{Tick}
 use Rattle.async_executor.specs.declared.machine.run.Runner.{Runner}
@@ -88,6 +88,6 @@ pub returns-in-None-next-clause-decided : goal.returns-in-None-next-clause-decid
 returns-in-None-next-clause-decided g c =
     let left = c.in-PassingOn.left in
     let spending = c.in-PassingOn.spending in
-    subst (λ s. c.decide-in-None-next.result ≡ decided (record { state = s }) c.args.reply) (sym c.in-PassingOn.is)
-    (subst (λ r. c.decide-in-None-next.result ≡ decided (record { state = PassingOn spending left }) r) (sym c.in-Tick-reply.is)
-    (c.decide-in-None-next.ensures ∙ ap decision c.depart-in-None-next-2.ensures ∙ ap (λ d. decision (departs d)) c.depart-in-None-next.ensures.step ∙ over_decided spending left c.in-Tick-reply.reply c.in-None-next.ensures.goes_on c.in-None-next.ensures.over))
+    subst (λ s. c.leave-in-None-next.result ≡ decided (record { state = s }) c.args.reply) (sym c.in-PassingOn.is)
+    (subst (λ r. c.leave-in-None-next.result ≡ decided (record { state = PassingOn spending left }) r) (sym c.in-Tick-reply.is)
+    (c.leave-in-None-next.ensures ∙ over_decided spending left c.in-Tick-reply.reply c.in-None-next.ensures.goes_on c.in-None-next.ensures.over))
