@@ -11,6 +11,10 @@ Joins {T} outputs left outputs' left' = (came : List T) × (outputs' ≡ outputs
 abbrev pub Awaits : {G : Type 0} → List G → List G → Type 0
 Awaits left left' = take (length left' - 1) left' ≡ take (length left' - 1) left
 
+-- of the futures that are left, those behind the next one, which is the last, are as they were
+abbrev pub RestStays : {G : Type 0} → List G → List G → Type 0
+RestStays left left' = take (length left - 1) left' ≡ take (length left - 1) left
+
 -- those behind this place are as they were
 abbrev pub SameBehind : {G : Type 0} → ℕ → List G → List G → Type 0
 SameBehind place old new = drop (place + 1) new ≡ drop (place + 1) old

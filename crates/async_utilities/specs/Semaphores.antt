@@ -52,10 +52,14 @@ module _ {W : Type 0} where
   abbrev pub GivesMore : State W → ℕ → Given W → State W → Type 0
   GivesMore old more given new = GivesAlso old.permits more old.waiters given new.permits new.waiters
 
+  -- how many permits one that waits for so many has at this place
+  abbrev pub had_at : State W → ℕ → ℕ → ℕ
+  had_at s place wanted = cond (is_notified (place_at s.waiters place)) wanted 0
+
   -- one waits no longer, and what it has is given back
   abbrev pub Goes : State W → Option ℕ → ℕ → Gone W → State W → Type 0
   Goes old None wanted gone new = (gone.waker ≡ None) × (gone.given.due ≡ Nobody) × (gone.given.left ≡ 0) × Same old new
   Goes old (Some place) wanted gone new =
       (new.total ≡ old.total) × (gone.waker ≡ waker_in_wish (waker_of (place_at old.waiters place)))
       × ((between : Waiters (Wish W)) × Moves old.waiters between place None (without place old.waiters.waiting)
-      × Gives (with_more old.permits (cond (is_notified (place_at old.waiters place)) wanted 0)) between gone.given new.permits new.waiters)
+      × Gives (with_more old.permits (had_at old place wanted)) between gone.given new.permits new.waiters)

@@ -119,14 +119,7 @@ fn ends_of<T: Drop, S: Wake, V: Wake, R: Wait + Drop>(
     ensures joined { IfOk result (λ ends. arc_value ends.0.channel ≡ arc_value ends.1.channel) }
     ensures room { IfOk result (λ ends. (arc_value ends.0.channel).capacity ≡ capacity) }
 {
-    let state = Mutex::new(state);
-    let channel = Channel {
-        state,
-        capacity,
-        alloc,
-        rt,
-    };
-    let Ok(channel) = Arc::new(alloc, channel) else {
+    let Ok(channel) = Arc::new(alloc, Channel::new(rt, alloc, capacity, state)) else {
         return Err(OutOfMemory);
     };
     let receiver = Receiver {
@@ -141,6 +134,17 @@ fn ends_of<T: Drop, S: Wake, V: Wake, R: Wait + Drop>(
 }
 
 impl<T: Drop, S: Wake, V: Wake, R: Wait + Drop> Channel<T, S, V, R> {
+    fn new(rt: R, alloc: Global, capacity: usize, state: State<T, S, V>) -> Self
+        ensures { result.capacity ≡ capacity }
+    {
+        Channel {
+            state: Mutex::new(state),
+            capacity,
+            alloc,
+            rt,
+        }
+    }
+
     #[inline(always)]
     pub(crate) fn state(&self) -> MutexGuard<'_, State<T, S, V>> {
         lock!(self.state, &self.rt)

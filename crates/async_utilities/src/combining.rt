@@ -145,6 +145,27 @@ impl<G, C, H> Then<G, C, H> {
             stage: Some(Stage::First(first, change)),
         }
     }
+
+    // Polls the first future, unless it is over, and makes the second of its output. Whether it is
+    // over.
+    #[inline]
+    fn poll_first<W>(&mut self, w: &W) -> bool
+    where
+        G: Future<W>,
+        C: Change<G::Output, Output = H>,
+        ensures same { is_none self.new.stage ≡ is_none self.old.stage }
+        ensures second { IfGoesOn self.old.stage self.new.stage StaysSecond }
+    {
+        if let Some(Stage::First(first, _)) = &mut self.stage {
+            let Poll::Ready(output) = first.poll(w) else {
+                return false;
+            };
+            if let Some(Stage::First(_, change)) = self.stage.take() {
+                self.stage = Some(Stage::Second(change.change(output)));
+            }
+        }
+        true
+    }
 }
 
 impl<W, G: Future<W>, C: Change<G::Output>> Future<W> for Then<G, C, C::Output>
@@ -158,13 +179,8 @@ where
         ensures again { self.old.stage ≡ None → (result ≡ waits) × (self.new.stage ≡ None) }
         ensures second { IfGoesOn self.old.stage self.new.stage StaysSecond }
     {
-        if let Some(Stage::First(first, _)) = &mut self.stage {
-            let Poll::Ready(output) = first.poll(w) else {
-                return Poll::Pending;
-            };
-            if let Some(Stage::First(_, change)) = self.stage.take() {
-                self.stage = Some(Stage::Second(change.change(output)));
-            }
+        if !self.poll_first(w) {
+            return Poll::Pending;
         }
         let Some(Stage::Second(second)) = &mut self.stage else {
             return Poll::Pending;
@@ -244,6 +260,20 @@ impl<A, X, B, Y> Zip<A, X, B, Y> {
     }
 }
 
+// Polls both halves. Whether one is still to be polled.
+fn poll_both<W, A: Future<W>, B: Future<W>>(
+    left: &mut Half<A, A::Output>,
+    right: &mut Half<B, B::Output>,
+    w: &W,
+) -> bool
+    ensures left { Keeps left.old left.new }
+    ensures right { Keeps right.old right.new }
+    ensures open { result ≡ (is_open left.new || is_open right.new) }
+{
+    let (is_left_open, is_right_open) = (left.poll(w), right.poll(w));
+    is_left_open || is_right_open
+}
+
 impl<W, A: Future<W>, B: Future<W>> Future<W> for Zip<A, A::Output, B, B::Output> {
     type Output = (A::Output, B::Output);
 
@@ -257,8 +287,7 @@ impl<W, A: Future<W>, B: Future<W>> Future<W> for Zip<A, A::Output, B, B::Output
         let Some((left, right)) = &mut self.halves else {
             return Poll::Pending;
         };
-        let (is_left_open, is_right_open) = (left.poll(w), right.poll(w));
-        if is_left_open || is_right_open {
+        if poll_both(left, right, w) {
             return Poll::Pending;
         }
         match self.halves.take() {

@@ -1,9 +1,9 @@
 //! The outputs of many futures: of all, in order, or of the first that is ready.
-ghost use Rattle.std.specs.Prelude.{◌≡◌, ◌+◌, ◌-◌, ◌≤◌, ◌<◌, ◌==◌, None, Some, IsSome, IfSome, IfNone, IfOk, IfErr, reverse, drop, take, is_none, vec_len, vec_capacity};
+ghost use Rattle.std.specs.Prelude.{◌≡◌, ◌+◌, ◌-◌, ◌≤◌, ◌<◌, ◌==◌, None, Some, IsSome, IfSome, IfNone, IfOk, IfErr, reverse, cond, drop, take, is_none, vec_len, vec_capacity};
 ghost use Rattle.executor_core.specs.declared.task.future.Poll.TheVariants.{Pending as waits};
 ghost use Rattle.async_executor.specs.Answers.{is_ready};
 ghost use Rattle.async_utilities.specs.Polls.{IfGoesOn, IfReady};
-ghost use Rattle.async_utilities.specs.Joins.{Awaits, SameBehind};
+ghost use Rattle.async_utilities.specs.Joins.{Awaits, RestStays, SameBehind};
 
 use async_executor::{Future, Poll};
 use std::alloc::{AllocFailed, Global};
@@ -75,14 +75,33 @@ impl<G, T> Joining<G, T> {
         ensures all { result ≡ (vec_len self.new.left == 0) }
         ensures order { Awaits self.old.left.items self.new.left.items }
     {
-        while let Some(future) = self.left.last_mut() {
-            // One after another: if each poll polled all, n futures would take n² polls.
-            let Poll::Ready(output) = future.poll(w) else {
+        // One after another: if each poll polled all, n futures would take n² polls.
+        while !self.left.is_empty() {
+            if !self.poll_next(w) {
                 return false;
-            };
-            self.left.pop();
-            self.outputs.push_reserved(output);
+            }
         }
+        true
+    }
+
+    // Polls the next future. Whether its output came.
+    #[inline]
+    fn poll_next<W>(&mut self, w: &W) -> bool
+    where
+        G: Future<W, Output = T>,
+        requires { 0 < vec_len self.old.left }
+        ensures joined { JoinsMore self.old self.new }
+        ensures came { vec_len self.new.left + cond result 1 0 ≡ vec_len self.old.left }
+        ensures rest { RestStays self.old.left.items self.new.left.items }
+    {
+        let Some(future) = self.left.last_mut() else {
+            return false;
+        };
+        let Poll::Ready(output) = future.poll(w) else {
+            return false;
+        };
+        self.left.pop();
+        self.outputs.push_reserved(output);
         true
     }
 }

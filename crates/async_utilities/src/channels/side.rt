@@ -2,8 +2,10 @@
 ghost use Rattle.std.specs.Prelude.{◌≡◌, ◌+◌, ◌-◌, ◌==◌, [], IfOk, OnErr, OnOk};
 ghost use Rattle.async_utilities.specs.WaitQueue.{Stays};
 
+use crate::due::AllDue;
 use crate::wait_queue::WaitQueue;
 use std::alloc::{AllocError, Global};
+use std::mem::replace;
 
 /// How many ends there are, and who waits.
 #[derive(Drop)]
@@ -45,5 +47,15 @@ impl<W: Drop> Side<W> {
     {
         self.ends = self.ends.saturating_sub(1);
         self.ends == 0
+    }
+
+    /// Takes all who wait, to be woken.
+    pub(crate) fn take_all(&mut self, alloc: Global) -> AllDue<W>
+        ensures all { result.waiters ≡ self.old.waiters }
+        ensures nobody { self.new.waiters.waiting ≡ [] }
+        ensures ends { self.new.ends ≡ self.old.ends }
+    {
+        let waiters = replace(&mut self.waiters, WaitQueue::new(alloc));
+        AllDue { waiters }
     }
 }

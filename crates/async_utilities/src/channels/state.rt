@@ -11,11 +11,9 @@ ghost use Rattle.async_utilities.specs.declared.channels.receiver.NoMessage.TheV
 use crate::channels::receiver::NoMessage;
 use crate::channels::side::Side;
 use crate::due::{AllDue, Due, Left};
-use crate::wait_queue::WaitQueue;
 use async_executor::Wake;
 use std::alloc::{AllocError, Global};
 use std::collections::VecDeque;
-use std::mem::replace;
 
 /// What came of a message. V is the waker of a receiver.
 pub(crate) enum Sent<T, V> {
@@ -229,11 +227,9 @@ impl<T: Drop, S: Drop, V: Drop> State<T, S, V> {
             return None;
         }
         self.is_closed = true;
-        let senders = replace(&mut self.senders.waiters, WaitQueue::new(alloc));
-        let receivers = replace(&mut self.receivers.waiters, WaitQueue::new(alloc));
         Some(Closing {
-            senders: AllDue { waiters: senders },
-            receivers: AllDue { waiters: receivers },
+            senders: self.senders.take_all(alloc),
+            receivers: self.receivers.take_all(alloc),
         })
     }
 }

@@ -161,13 +161,23 @@ where
         let Ok(beginning) = Arc::new(alloc, Beginning::new(alloc, count)?) else {
             return Err(PoolError::OutOfMemory);
         };
-        for number in 0..count {
-            pool.start(number, &beginning)?;
-        }
+        pool.start_all(count, &beginning)?;
         // Each thread makes what it polls, which borrows the executor it has a share of. One that was
         // refused its memory would leave its tasks to nobody.
         beginning.wait(&pool.rt)?;
         Ok(pool)
+    }
+
+    // Starts so many threads.
+    fn start_all(&mut self, count: usize, beginning: &Arc<Beginning>) -> Result<(), PoolError>
+        requires { vec_len self.old.started.threads ≡ 0 }
+        ensures count { OnOk result (vec_len self.new.started.threads ≡ count) }
+        ensures executor { self.new.executor ≡ self.old.executor }
+    {
+        for number in 0..count {
+            self.start(number, beginning)?;
+        }
+        Ok(())
     }
 
     // Starts the thread of this number, which tells how it begins.

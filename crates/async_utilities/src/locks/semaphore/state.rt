@@ -22,7 +22,7 @@ pub(crate) struct State<W> {
 }
 
 impl<W: Drop> State<W> {
-    ghost use Rattle.async_utilities.specs.Semaphores.{GivesMore, Goes, Same, Takes, Waits, is_due};
+    ghost use Rattle.async_utilities.specs.Semaphores.{GivesMore, Goes, Same, Takes, Waits, had_at, is_due};
 
     /// So many permits, and nobody waits.
     pub(crate) fn new(alloc: Global, permits: usize) -> State<W>
@@ -43,6 +43,17 @@ impl<W: Drop> State<W> {
         match place {
             Some(place) => self.waiters.is_notified(place),
             None => wanted == 0 || (self.waiters.peek().is_none() && wanted <= self.permits),
+        }
+    }
+
+    // How many permits one that waits for so many has at this place.
+    fn had_at(&self, place: usize, wanted: usize) -> usize
+        ensures { result ≡ had_at self.now place wanted }
+    {
+        if self.waiters.is_notified(place) {
+            wanted
+        } else {
+            0
         }
     }
 
@@ -145,11 +156,7 @@ impl<W: Drop> State<W> {
             };
             return Gone { waker: None, given };
         };
-        let more = if self.waiters.is_notified(place) {
-            wanted
-        } else {
-            0
-        };
+        let more = self.had_at(place, wanted);
         let waker = waker_in(self.waiters.leave(place));
         let given = Given::to_first(&mut self.permits, &mut self.waiters, more);
         Gone { waker, given }
