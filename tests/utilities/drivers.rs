@@ -1,5 +1,6 @@
 //! Who drives a timer of `async_utilities`: what each one is told of, when it parks, and that no lock is
 //! held while a waker of the caller's runs. The clock is the test's own.
+use crate::tests::support::running::beside::call_beside;
 use crate::tests::support::running::clock::TestClock;
 use crate::tests::support::running::halt::{Halt, TURNS};
 use crate::tests::support::running::record::{Moment, Record};
@@ -94,13 +95,6 @@ fn counted(polls: &Arc<Polls>) -> Result<Counted, AllocError> {
     Ok(Counted { polls })
 }
 
-// Lets other threads run for a while.
-fn pause() {
-    for _ in 0..20_000 {
-        yield_now();
-    }
-}
-
 // Two threads drive a timer, each until its future ends. The thread of the test sets a deadline while
 // they park, once there was none and once there was a later one. Says whether each looked again each
 // time.
@@ -140,44 +134,26 @@ fn each_driver_is_told_of_a_nearer_deadline(rt: HostRuntime) -> Result<(), Fail>
     Ok(())
 }
 
-// Drives a timer on one thread while another one sets a thousand deadlines that are later than the
-// first. Gives how often the driver looked.
-fn looks<R: AllocGlobal + Wait + Threads + Clone + Drop + Send + Sync>(rt: &R) -> Result<u64, Fail> {
+// Sets a thousand deadlines that are later than the first, and has a driver rest. Says whether it parks.
+fn parks_until_the_first<R: AllocGlobal + Wait + Threads + Clone + Drop + Send + Sync>(
+    rt: &R,
+) -> Result<bool, Fail> {
     let (timer, _clock) = timer(rt)?;
     let waker = new_waker(rt.alloc())?;
-    let polls = Polls::new(rt.alloc())?;
-    let future = counted(&polls)?;
     let mut first = timer.after(Duration::from_secs(1_000))?;
     first.poll(&waker);
     let driver = timer.driver()?;
     let mine = driver.waker().copy()?;
-    let (driven, set) = thread::join(
-        rt,
-        || driver.block_on(future).is_ok(),
-        || {
-            polls.reaches(1);
-            let mut is_set = true;
-            for _ in 0..1_000 {
-                match timer.after(Duration::from_secs(2_000)) {
-                    Ok(mut later) => drop(later.poll(&waker)),
-                    Err(_) => is_set = false,
-                }
-                yield_now();
-            }
-            pause();
-            polls.end(&mine);
-            is_set
-        },
-    );
-    if !driven || !set {
-        return Err("refused".into());
+    for _ in 0..1_000 {
+        timer.after(Duration::from_secs(2_000))?.poll(&waker);
     }
-    Ok(polls.count())
+    let (is_rested, waited) = call_beside(rt, || driver.rest().is_ok(), || mine.wake());
+    Ok(is_rested && waited)
 }
 
 #[test]
 fn no_driver_is_told_of_a_later_deadline(rt: HostRuntime) -> Result<(), Fail> {
-    assert_eq!(rt; looks(&rt)?, 2);
+    assert!(rt; parks_until_the_first(&rt)?);
     Ok(())
 }
 
@@ -212,27 +188,36 @@ fn a_driver_parks_no_longer_than_until_the_first_deadline(rt: HostRuntime) -> Re
     Ok(())
 }
 
-// A thread waits for a future, with a waker that it keeps, while another one does nothing. Gives how
-// often the future was polled.
-fn parks<R: AllocGlobal + Wait + Threads + Clone + Drop + Send + Sync>(rt: &R) -> Result<u64, Fail> {
+// Ready at its second poll. It wakes nobody.
+#[derive(Drop)]
+struct Second {
+    is_polled: bool,
+}
+
+impl<W> Future<W> for Second {
+    type Output = ();
+
+    fn poll(&mut self, _w: &W) -> Poll<()> {
+        if self.is_polled {
+            return Poll::Ready(());
+        }
+        self.is_polled = true;
+        Poll::Pending
+    }
+}
+
+// A thread waits for a future, with a waker that it keeps. Says whether it parks.
+fn parks<R: AllocGlobal + Wait + Threads + Clone + Drop + Send + Sync>(rt: &R) -> Result<bool, Fail> {
     let waker = ThreadWaker::new(rt.alloc())?;
-    let polls = Polls::new(rt.alloc())?;
-    let future = counted(&polls)?;
-    thread::join(
-        rt,
-        || waker.block_on(rt, future),
-        || {
-            polls.reaches(1);
-            pause();
-            polls.end(&waker);
-        },
-    );
-    Ok(polls.count())
+    let mine = waker.copy()?;
+    let future = Second { is_polled: false };
+    let ((), waited) = call_beside(rt, || waker.block_on(rt, future), || mine.wake());
+    Ok(waited)
 }
 
 #[test]
 fn a_thread_that_waits_parks(rt: HostRuntime) -> Result<(), Fail> {
-    assert_eq!(rt; parks(&rt)?, 2);
+    assert!(rt; parks(&rt)?);
     Ok(())
 }
 

@@ -69,7 +69,16 @@ impl Progress {
         false
     }
 
-    // Has the call begin, and says whether it waits for a lock. If not, it has returned.
+    // Makes the call, whose thread is watched meanwhile: not where it waits for the other thread to end.
+    fn call<T>(&self, call: impl FnOnce() -> T) -> T {
+        watch_thread(1);
+        let returned = call();
+        watch_thread(0);
+        self.has_called.store(true, Ordering::SeqCst);
+        returned
+    }
+
+    // Has the call begin, and says whether it waits. If not, it has returned.
     fn call_waits(&self, rt: &impl Wait) -> bool {
         self.may_call.store(true, Ordering::SeqCst);
         for _ in rt.forever() {
@@ -116,9 +125,7 @@ where
                 rt,
                 || {
                     if progress.begins(rt) {
-                        watch_thread(1);
-                        call();
-                        progress.has_called.store(true, Ordering::SeqCst);
+                        progress.call(call);
                     }
                 },
                 || {
@@ -139,4 +146,25 @@ where
         },
     );
     seen
+}
+
+/// Has a thread make this call, and another one wake it once it waits or has returned. Gives what the call
+/// returns, and whether it waited.
+pub fn call_beside<R, T, A, B>(rt: &R, call: A, wake: B) -> (T, bool)
+where
+    R: Wait + Threads + Sync,
+    T: Drop + Send,
+    A: FnOnce() -> T + Send,
+    B: FnOnce() + Send,
+{
+    let progress = Progress::new();
+    thread::join(
+        rt,
+        || progress.call(call),
+        || {
+            let waits = progress.call_waits(rt);
+            wake();
+            waits
+        },
+    )
 }
