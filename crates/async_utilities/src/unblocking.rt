@@ -55,6 +55,16 @@ impl<J: Job, V: Wake, R: Wait + Drop> Work<J, V, R> {
             None => unreachable!(),
         }
     }
+
+    // Does the job, and gives what that gives, which comes back if nobody wants it any more.
+    fn finish(&mut self, job: J) -> Poll<()>
+        ensures ended { result ≡ ready tt }
+        ensures kept { self.new.job ≡ self.old.job }
+        ensures same { arc_value self.new.answers.channel ≡ arc_value self.old.answers.channel }
+    {
+        let _ = self.answers.try_send(job.run());
+        Poll::Ready(())
+    }
 }
 
 impl<W, J: Job, V: Wake, R: Wait + Drop> Future<W> for Work<J, V, R> {
@@ -69,9 +79,7 @@ impl<W, J: Job, V: Wake, R: Wait + Drop> Future<W> for Work<J, V, R> {
         let Some(job) = self.job.take() else {
             return Poll::Pending;
         };
-        // It comes back if nobody wants it any more.
-        let _ = self.answers.try_send(job.run());
-        Poll::Ready(())
+        self.finish(job)
     }
 }
 
