@@ -1,13 +1,13 @@
 #!/bin/sh
 # Lets the Nth request for memory of a program fail, for N = 1, 2, .. until none is refused.
 #
-# The program of the folder refusals prints which of its calls met the refusal: one call each time, no
-# answer may be wrong, and in the end each call has to have met one. It is built once, from a build that
-# checks each index, each sum and each access to memory as it runs, and is told on its standard input
-# which request fails (checks/lib/fail_nth.c). Besides it orders itself which requests fail, and says for how
-# many ticks and runs there is room before and after runs that were refused, and how many requests 1,000
-# spawns make. Over each edit of checks/wrong_bodies that has the line 'program: refusals', it has to say
-# that something is wrong.
+# The program of the folder refusals makes its calls anew for each N, and prints which of them met the
+# refusal: one call each time, no answer may be wrong, and in the end each call has to have met one. It
+# is built once, from a build that checks each index, each sum and each access to memory as it runs, and
+# is told on its standard input which request fails first (checks/lib/fail_nth.c). Told of none, it orders
+# itself which requests fail, and says for how many ticks and runs there is room before and after runs
+# that were refused, and how many requests 1,000 spawns make. Over each edit of checks/wrong_bodies that
+# has the line 'program: refusals', it has to say that something is wrong.
 #
 # exsim is the program that the gate built, or is built by `rt run` if a source is newer. It answers
 # `out of memory`: at its start with status 2 and nothing more, or at a spawn or when a ticker is made,
@@ -25,7 +25,7 @@ give_up() {
 }
 
 # Lays out the program with the bodies of these edits, and what it is told for each, for none, and for
-# each request.
+# the requests.
 lay_out() {
     copy_sources
     add_crate refusals ': executor_core async_executor async_utilities priority_executor sharded_executor pools slab'
@@ -36,9 +36,7 @@ lay_out() {
         echo "$number 0" > "$copy/cases/$(basename "$edit" .edit)"
         number=$((number + 1))
     done
-    for n in $(seq 1 $most); do
-        echo "0 $n" > "$copy/cases/request_$n"
-    done
+    echo '0 1' > "$copy/cases/requests"
 }
 
 # What the program said, told of this case.
@@ -49,11 +47,15 @@ calls() {
     printf '%s\n' "${line#refused: }" | sed 's/; wrong: 0$//; s/, /\n/g' | sed -n "s/ $1\$//p"
 }
 
-# Reads what the program said of a case. It has to name one call where a request was refused, and else
-# none.
+# Reads what the program said of a case, which has to end well.
 read_case() {
     out=$(said "$1")
     printf '%s\n' "$out" | grep -q "^case=$1 run=ended status=0 " || give_up "refusals, $1: $out"
+}
+
+# Reads what the program said of its calls. It has to name one call where a request was refused, and else
+# none.
+read_calls() {
     line=$(printf '%s\n' "$out" | grep '^refused: .*; wrong: 0$') || give_up "refusals, $1: $out"
     is_refused=$(printf '%s\n' "$out" | grep -cx 'request refused' || :)
     call=$(calls 1)
@@ -62,8 +64,12 @@ read_case() {
 
 refuse_requests() {
     met=
+    read_case requests
+    all=$out
     for n in $(seq 1 $most); do
-        read_case "request_$n"
+        out=$(printf '%s\n' "$all" |
+            awk -v head="request $n" '/^request [0-9]+$/ { is_it = $0 == head; next } is_it')
+        read_calls "request $n"
         [ "$is_refused" = 1 ] || break
         pass "refusals, request $n: $call"
         met="$met
@@ -78,6 +84,7 @@ $call"
 # What it says where it orders itself which requests fail.
 order_requests() {
     read_case none
+    read_calls none
     room=$(printf '%s\n' "$out" | grep '^room for ') || give_up "refusals takes no orders: $out"
     requests=$(printf '%s\n' "$out" | grep '^requests for memory: ') ||
         give_up "refusals counts no requests: $out"

@@ -23,14 +23,20 @@ ROOT = "#![tactic(auto)]\n\n#[cfg(test)]\nmod tests;\n"
 # The folder of the tests that the gate leaves out.
 LEFT_OUT = "tests"
 
-# The crate below all others, and what it gets: the functions of chosen.c and of halt_nth.c.
+# The crate below all others, and what it gets: the functions of chosen.c, fail_nth.c and halt_nth.c.
 LOWEST = "executor_core"
-CHOICE = """//! Which wrong body is chosen.
+CHOICE = """//! Which wrong body is chosen, and which request for memory is refused.
 
 unsafe extern "C" {
     pub safe fn choose(number: u32);
 
     pub safe fn chosen() -> u32;
+
+    pub safe fn refused_request() -> u64;
+
+    pub safe fn refuse_request(number: u64);
+
+    pub safe fn was_request_refused() -> u32;
 }
 """
 HALTS = """//! A request for memory that halts, and a thread that waits for a lock meanwhile.

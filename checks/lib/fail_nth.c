@@ -7,6 +7,7 @@
 // There halt_nth.c has a request halt, too, and be refused then.
 // Where N is 0, or not there, the program orders what fails: a request for ORDER bytes and 16 N more has the
 // Nth request after it fail, and none where N is 0.
+// A sanitized program may go on to another N itself, and ask whether its Nth request was made.
 typedef unsigned long size;
 extern void *dlsym(void *library, const char *name);
 extern char *getenv(const char *name);
@@ -36,6 +37,13 @@ static int is_own(const char *caller) { return __executable_start <= caller && c
 
 // That of halt_nth.c.
 extern int was_halted(void);
+
+void refuse_request(unsigned long number) {
+    refused = number;
+    requests = ordered = is_counted = 0;
+}
+
+unsigned was_request_refused(void) { return refused > 0 && requests >= refused; }
 #else
 static const int TOLD = 3;
 static int is_counted = 1;
