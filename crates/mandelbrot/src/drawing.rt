@@ -4,7 +4,7 @@ ghost use Rattle.std.specs.Prelude.{◌≤◌};
 use crate::band::{Band, Pixels};
 use crate::failure::Failure;
 use crate::picture::Picture;
-use async_executor::{Cancelled, Task};
+use async_executor::{Cancelled, Executor, Task};
 use async_utilities::{JoinAll, Pool, ThreadWaker, run_until};
 use std::alloc::Global;
 use std::sync::Wait;
@@ -16,9 +16,9 @@ pub const BANDS_AT_ONCE: u32 = 64;
 type Handle<R> = Task<Band, ThreadWaker, R>;
 
 // Spawns a task for each band of the next window, and gives their handles and the row after them.
-fn spawn_window<R: Wait + Threads + Clone + Drop + Send + Sync + 'static>(
+fn spawn_window<R: Wait + Clone + Drop + Send + Sync>(
     alloc: Global,
-    pool: &Pool<Band, R>,
+    executor: &Executor<Band, ThreadWaker, R>,
     picture: Picture,
     first: u32,
 ) -> Result<(Vec<Handle<R>>, u32), Failure>
@@ -32,21 +32,21 @@ fn spawn_window<R: Wait + Threads + Clone + Drop + Send + Sync + 'static>(
         }
         let rows = picture.band_at(row);
         let band = Band::new(alloc, picture, rows)?;
-        tasks.push(pool.executor().spawn(band)?)?;
+        tasks.push(executor.spawn(band)?)?;
         row = row.saturating_add(rows.count);
     }
     Ok((tasks, row))
 }
 
 // Runs tasks on this thread too, until all of these have ended.
-fn await_window<R: Wait + Threads + Clone + Drop + Send + Sync + 'static>(
+fn await_window<R: Wait + Clone + Drop + Send + Sync>(
     rt: &R,
     alloc: Global,
-    pool: &Pool<Band, R>,
+    executor: &Executor<Band, ThreadWaker, R>,
     tasks: Vec<Handle<R>>,
 ) -> Result<Vec<Pixels>, Failure> {
     let all = JoinAll::new(alloc, tasks)?;
-    let outputs = run_until(rt, alloc, pool.executor(), all)?;
+    let outputs = run_until(rt, alloc, executor, all)?;
     drawn(alloc, outputs)
 }
 
@@ -78,24 +78,25 @@ fn tell(rt: &impl Eprint, done: u32, picture: Picture) {
     let _ = eprintln!(rt; "{done} of {height} rows");
 }
 
-// Draws and prints a window after another.
-fn draw_all<R>(
+// Prints the head of the picture, and draws and prints a window after another.
+fn draw_all<R: Wait + Clone + Drop + Send + Sync + Print + Eprint>(
     rt: &R,
     alloc: Global,
-    pool: &Pool<Band, R>,
+    executor: &Executor<Band, ThreadWaker, R>,
     picture: Picture,
     progress: bool,
-) -> Result<(), Failure>
-where
-    R: Wait + Threads + Clone + Drop + Send + Sync + Print + Eprint + 'static,
-{
+) -> Result<(), Failure> {
+    let (width, height) = (picture.width, picture.height);
+    if print!(rt; "P6\n{width} {height}\n255\n").is_err() {
+        return Err(Failure::Output);
+    }
     let mut done = 0;
-    for _ in 0..picture.height {
-        if done >= picture.height {
+    for _ in 0..height {
+        if done >= height {
             break;
         }
-        let (tasks, next) = spawn_window(alloc, pool, picture, done)?;
-        let bands = await_window(rt, alloc, pool, tasks)?;
+        let (tasks, next) = spawn_window(alloc, executor, picture, done)?;
+        let bands = await_window(rt, alloc, executor, tasks)?;
         print(rt, bands.as_slice())?;
         done = next;
         if progress {
@@ -121,12 +122,8 @@ where
     R: Wait + Threads + Clone + Drop + Send + Sync + Print + Eprint + 'static,
 {
     let others = threads.saturating_sub(1) as usize;
-    let pool: Pool<Band, R> = Pool::new(rt.clone()?, alloc, others)?;
-    let (width, height) = (picture.width, picture.height);
-    if print!(rt; "P6\n{width} {height}\n255\n").is_err() {
-        return Err(Failure::Output);
-    }
-    draw_all(rt, alloc, &pool, picture, progress)?;
+    let pool = Pool::new(rt.clone()?, alloc, others)?;
+    draw_all(rt, alloc, pool.executor(), picture, progress)?;
     for ended in pool.join() {
         ended?;
     }
