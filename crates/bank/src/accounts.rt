@@ -20,7 +20,7 @@ impl Accounts {
     }
 
     /// Moves an amount, if the account that it comes from has so much, and says whether it did.
-    #[tactic(auto, using(crate::proofs::Sums::sum_credited, crate::proofs::Sums::sum_debited))]
+    #[tactic(auto, using(crate::proofs::Sums::sum_moved))]
     pub fn transfer(&mut self, from: usize, to: usize, amount: u64) -> bool
         requires { (from < 10) × (to < 10) }
         ensures enough { IsTrue result ↔ (amount ≤ slice_index self.old.balances from) }

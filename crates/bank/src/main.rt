@@ -5,8 +5,8 @@
 mod accounts;
 
 use accounts::{ACCOUNTS, Accounts};
-use async_executor::{Future, LocalExecutor, Poll, TaskWaker};
-use async_utilities::{Interval, ThreadWaker, Timer, block_on};
+use async_executor::{Future, LocalExecutor, LocalTask, Poll, TaskWaker};
+use async_utilities::{Interval, ThreadWaker, Timer};
 use std::alloc::Global;
 use std::cell::{Cell, RefCell};
 use std::io;
@@ -63,43 +63,90 @@ impl<R: Wait + Clone + Drop> Future<TaskWaker<ThreadWaker, R>> for Customer<R> {
     }
 }
 
-fn simulate<R: Wait + Print + Clone + Drop>(rt: &R, alloc: Global) -> io::Result<()> {
-    let time = Rc::new(alloc, Cell::new(Duration::ZERO))?;
-    let timer = Timer::new(rt.clone()?, StillClock(time.clone()?), alloc)?;
-    let accounts = Rc::new(alloc, RefCell::new(Accounts::open(100)))?;
-    let executor = LocalExecutor::new(rt.clone()?, alloc)?;
-    let mut tasks = Vec::new(alloc);
-    for number in 0..CUSTOMERS {
-        let customer = Customer {
-            accounts: accounts.clone()?,
-            visits: timer.interval(Duration::from_secs(60 * (number as u64 + 1)))?,
-            number,
-            come: 0,
-            refused: 0,
-        };
-        tasks.push(executor.spawn(customer)?)?;
+/// The task of a customer.
+type Visitor<R> = LocalTask<Customer<R>, ThreadWaker, R>;
+
+/// The accounts, the executor that the customers run on, and the timer that they wait for.
+#[derive(Drop)]
+struct Bank<R: Wait + Clone + Drop> {
+    accounts: Rc<RefCell<Accounts>>,
+    time: Rc<Cell<Duration>>,
+    timer: Timer<TaskWaker<ThreadWaker, R>, StillClock, R>,
+    executor: LocalExecutor<Customer<R>, ThreadWaker, R>,
+}
+
+impl<R: Wait + Clone + Drop> Bank<R> {
+    fn open(rt: &R, alloc: Global) -> io::Result<Bank<R>> {
+        let time = Rc::new(alloc, Cell::new(Duration::ZERO))?;
+        Ok(Bank {
+            accounts: Rc::new(alloc, RefCell::new(Accounts::open(100)))?,
+            timer: Timer::new(rt.clone()?, StillClock(time.clone()?), alloc)?,
+            executor: LocalExecutor::new(rt.clone()?, alloc)?,
+            time,
+        })
     }
-    let driver = timer.driver()?;
-    for _ in rt.forever() {
-        if executor.try_tick() {
-            continue;
+
+    /// Spawns a task for each customer.
+    fn spawn_customers(&self, alloc: Global) -> io::Result<Vec<Visitor<R>>> {
+        let mut tasks = Vec::new(alloc);
+        for number in 0..CUSTOMERS {
+            let period = Duration::from_secs(60 * (number as u64 + 1));
+            let customer = Customer {
+                accounts: self.accounts.clone()?,
+                visits: self.timer.interval(period)?,
+                number,
+                come: 0,
+                refused: 0,
+            };
+            tasks.push(self.executor.spawn(customer)?)?;
         }
-        let firing = driver.fire()?;
-        match firing.left {
-            _ if firing.has_woken => {}
-            Some(left) => time.set(time.get().saturating_add(left)),
-            None => break,
-        }
+        Ok(tasks)
     }
+
+    /// Runs the tasks, and moves the time on whenever none can go on, until none waits any more.
+    fn run(&self, rt: &R) -> io::Result<()> {
+        let driver = self.timer.driver()?;
+        for _ in rt.forever() {
+            if self.executor.try_tick() {
+                continue;
+            }
+            let firing = driver.fire()?;
+            match firing.left {
+                _ if firing.has_woken => {}
+                Some(left) => self.time.set(self.time.get().saturating_add(left)),
+                None => break,
+            }
+        }
+        Ok(())
+    }
+}
+
+/// Adds up the transfers that were refused.
+fn count_refused<R>(rt: &R, alloc: Global, tasks: Vec<Visitor<R>>) -> io::Result<u64>
+where
+    R: Wait + Clone + Drop,
+{
+    let waker = ThreadWaker::new(alloc)?;
     let mut refused = 0u64;
     for task in tasks {
-        refused = refused.saturating_add(block_on(rt, alloc, task)??);
+        refused = refused.saturating_add(waker.block_on(rt, task)?);
     }
-    let minutes = time.get().as_secs() / 60;
-    let total = accounts.try_borrow()?.total();
+    Ok(refused)
+}
+
+fn simulate<R>(rt: &R, alloc: Global, bank: &Bank<R>) -> io::Result<()>
+where
+    R: Wait + Print + Clone + Drop,
+{
+    let tasks = bank.spawn_customers(alloc)?;
+    bank.run(rt)?;
+    let refused = count_refused(rt, alloc, tasks)?;
+    let minutes = bank.time.get().as_secs() / 60;
+    let total = bank.accounts.try_borrow()?.total();
     println!(rt; "{minutes} minutes, {refused} transfers refused, {total} in all accounts")
 }
 
 fn main(rt: HostRuntime) -> io::Result<()> {
-    simulate(&rt, rt.alloc())
+    let bank = Bank::open(&rt, rt.alloc())?;
+    simulate(&rt, rt.alloc(), &bank)
 }
