@@ -107,11 +107,18 @@ fn are_told<R: AllocGlobal + Wait + Threads + Clone + Drop + Send + Sync>(
     let (mine, other) = (one.waker().copy()?, two.waker().copy()?);
     let (first, second) = (Polls::new(rt.alloc())?, Polls::new(rt.alloc())?);
     let (early, late) = (counted(&first)?, counted(&second)?);
-    let (mut far, mut near) = (timer.after(Duration::from_secs(1_000_000))?, timer.after(Duration::from_secs(3_600))?);
+    let (mut far, mut near) = (
+        timer.after(Duration::from_secs(1_000_000))?,
+        timer.after(Duration::from_secs(3_600))?,
+    );
     let (driven, told) = thread::join(
         rt,
         || {
-            let ended = thread::join(rt, || one.block_on(early).is_ok(), || two.block_on(late).is_ok());
+            let ended = thread::join(
+                rt,
+                || one.block_on(early).is_ok(),
+                || two.block_on(late).is_ok(),
+            );
             ended.0 && ended.1
         },
         || {
@@ -207,7 +214,9 @@ impl<W> Future<W> for Second {
 }
 
 // A thread waits for a future, with a waker that it keeps. Says whether it parks.
-fn parks<R: AllocGlobal + Wait + Threads + Clone + Drop + Send + Sync>(rt: &R) -> Result<bool, Fail> {
+fn parks<R: AllocGlobal + Wait + Threads + Clone + Drop + Send + Sync>(
+    rt: &R,
+) -> Result<bool, Fail> {
     let waker = ThreadWaker::new(rt.alloc())?;
     let mine = waker.copy()?;
     let future = Second { is_polled: false };
@@ -299,7 +308,13 @@ enum Call {
     IsReady,
 }
 
-const CALLS: [Call; 5] = [Call::Begins, Call::Fires, Call::Replaces, Call::Goes, Call::IsReady];
+const CALLS: [Call; 5] = [
+    Call::Begins,
+    Call::Fires,
+    Call::Replaces,
+    Call::Goes,
+    Call::IsReady,
+];
 
 impl Call {
     fn moment(self) -> Moment {

@@ -1,10 +1,14 @@
 //! Two threads that wait for each other.
+//!
+//! The one that goes on while the other halts is watched: if it waits for a lock, the other one has it, and
+//! halts no longer. So a test that fails does so at once, and one that passes has all the time that it needs.
+use executor_core::halts::{is_thread_waiting, watch_thread};
 use std::alloc::{AllocError, Global};
-use std::sync::atomic::{AtomicU64, Ordering};
+use std::sync::atomic::{AtomicBool, AtomicU64, Ordering};
 use std::sync::{Arc, Wait};
 use std::thread::{self, Threads, yield_now};
 
-/// How often one looks for the other.
+/// How often one looks for another that may never come.
 pub const TURNS: u32 = 2_000_000;
 
 #[derive(Drop)]
@@ -12,6 +16,8 @@ struct Counts {
     halts: AtomicU64,
     releases: AtomicU64,
     misses: AtomicU64,
+    // Whether the thread that goes on is watched.
+    watches: AtomicBool,
 }
 
 /// A point where one thread halts, once or several times, until another one lets it go on.
@@ -26,6 +32,7 @@ impl Halt {
             halts: AtomicU64::new(0),
             releases: AtomicU64::new(0),
             misses: AtomicU64::new(0),
+            watches: AtomicBool::new(false),
         };
         Ok(Halt {
             counts: Arc::new(alloc, counts)?,
@@ -39,22 +46,47 @@ impl Halt {
         })
     }
 
-    /// Halts here until another thread lets it go on, or the turns are over.
+    /// Halts here until another thread lets it go on, or waits for a lock, or the turns are over.
     pub fn halt(&self) {
         let before = self.counts.halts.fetch_add(1, Ordering::SeqCst);
-        if !is_above(&self.counts.releases, before) {
+        if !self.is_released(before) {
             self.counts.misses.fetch_add(1, Ordering::SeqCst);
         }
     }
 
-    /// Waits until a thread halts here, and says whether one did so in time.
+    // Whether more than so many halts are let go on. While the other thread is watched, no turn is counted.
+    fn is_released(&self, before: u64) -> bool {
+        let mut turns = TURNS;
+        while turns > 0 && is_thread_waiting() == 0 {
+            if self.counts.releases.load(Ordering::SeqCst) > before {
+                return true;
+            }
+            if !self.counts.watches.load(Ordering::SeqCst) {
+                turns -= 1;
+            }
+            yield_now();
+        }
+        false
+    }
+
+    // Watches this thread, or does so no longer.
+    fn watch(&self, watches: bool) {
+        watch_thread(u32::from(watches));
+        self.counts.watches.store(watches, Ordering::SeqCst);
+    }
+
+    /// Waits until a thread halts here, and says whether one did so in time. From then on this thread is
+    /// watched, until it lets that one go on.
     pub fn await_other(&self) -> bool {
         let released = self.counts.releases.load(Ordering::SeqCst);
-        is_above(&self.counts.halts, released)
+        let halts = is_above(&self.counts.halts, released);
+        self.watch(halts);
+        halts
     }
 
     /// Lets those go on that halt here now.
     pub fn release(&self) {
+        self.watch(false);
         let halts = self.counts.halts.load(Ordering::SeqCst);
         self.counts.releases.store(halts, Ordering::SeqCst);
     }
@@ -70,6 +102,7 @@ impl Halt {
 
     /// Lets those go on that halt here, now or later.
     pub fn open(&self) {
+        self.watch(false);
         self.counts.releases.store(u64::MAX, Ordering::SeqCst);
     }
 
