@@ -67,6 +67,24 @@ lay_out() {
     done > "$copy/names"
 }
 
+# Has the world take the steps of each execution. It is that of the repository, without the recorder: the
+# program that the gate has built or, without a gate, one that is built here.
+ask_world() {
+    exsim=${GATE:+$GATE/crates/exsim/out/exsim}
+    [ -z "$exsim" ] || wait_for exsim
+    if [ -x "$exsim" ]; then
+        for lines in "$copy/executions"/*; do
+            echo "== ${lines##*/}"
+            "$exsim" < "$lines"
+        done > "$copy/log"
+    else
+        # No wrong body is chosen, and no request refused: what each program reads first (chosen.c).
+        sed -i '1i 0 0' "$copy/executions"/*
+        restore_sources executor_core
+        try exsim src/main.rt --cases "$copy/executions"
+    fi
+}
+
 # Takes the programs, and replays their logs. What is said of each execution stands in $copy/said.
 replay() {
     exec 9> "$copy/recorded"
@@ -76,9 +94,7 @@ replay() {
     mv "$copy/log" "$copy/programs"
     [ -z "${LOG:-}" ] || cp "$copy/recorded" "$LOG"
     python3 -B "$top/checks/lib/replay.py" lines "$copy/recorded" "$copy/executions" $(cat "$copy/names")
-    # The world is that of the repository, without the recorder.
-    restore_sources executor_core
-    try exsim src/main.rt --cases "$copy/executions"
+    ask_world
     python3 -B "$top/checks/lib/replay.py" compare "$copy/executions" "$copy/log" > "$copy/said"
 }
 

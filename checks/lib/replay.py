@@ -12,6 +12,7 @@ import os
 import sys
 from collections import Counter
 
+from edits import write
 from owed_steps import check_calls
 from recorded import Refused, executions
 from world_steps import all_kinds, kind_of, steps_of
@@ -49,15 +50,9 @@ def write_lines(log, folder, *named):
         lines = "".join(f"{line}\n" for _, line, _ in steps or ())
         if checks.get(name) != "calls":
             said[name]["file"] = files.setdefault(lines, name)
-            write_case(f"{folder}/{files[lines]}", lines)
+            write(f"{folder}/{files[lines]}", f"{lines}show\n")
     with open(f"{folder}.said", "w") as file:
         json.dump(said, file)
-
-
-def write_case(path, lines):
-    """Writes the lines that exsim takes, behind what each program of the checks reads first (chosen.c)."""
-    with open(path, "w") as file:
-        file.write(f"0 0\n{lines}show\n")
 
 
 def replies_in(output):
