@@ -59,11 +59,23 @@ pub(crate) use sleepers;
 ///
 /// What is large stands in a box: the drop of an `Arc` clears room for all that it may be the last to
 /// hold, and each task drops a share of this as it ends.
-#[derive(Drop)]
 pub struct ExecutorState<W, R> {
     before_flag: CacheLine,
     flag: Flag,
     pub(crate) parts: Box<Parts<W, R>>,
+}
+
+impl<W: Drop, R: Drop> Drop for ExecutorState<W, R> {
+    // Not derived: the proof of each crate that drops a waker would go through all that stands here.
+    fn drop(self) {
+        let ExecutorState {
+            before_flag: _,
+            flag,
+            parts,
+        } = self;
+        drop(flag);
+        drop(parts);
+    }
 }
 
 #[derive(Drop)]

@@ -11,12 +11,26 @@ use std::alloc::Global;
 use std::sync::{Mutex, MutexGuard, Wait};
 use std::time::Duration;
 
-#[derive(Drop)]
 pub(crate) struct Shared<W: Wake, R: Wait + Drop> {
     deadlines: Mutex<Deadlines<W>>,
     pub(crate) drivers: Drivers,
     pub(crate) alloc: Global,
     pub(crate) rt: R,
+}
+
+impl<W: Wake, R: Wait + Drop> Drop for Shared<W, R> {
+    // Not derived: the proof of each crate that drops a timer would go through all that stands here.
+    fn drop(self) {
+        let Shared {
+            deadlines,
+            drivers,
+            alloc: _,
+            rt,
+        } = self;
+        drop(deadlines);
+        drop(drivers);
+        drop(rt);
+    }
 }
 
 impl<W: Wake, R: Wait + Drop> Shared<W, R> {
