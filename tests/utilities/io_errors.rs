@@ -3,7 +3,7 @@
 use async_executor::{
     Cancelled, NewError, OutOfMemory, RunError, RunnerError, SpawnError, SpawnMany,
 };
-use async_utilities::{NoMessage, PoolError, TimerError, Unsent};
+use async_utilities::{NoMessage, PoolError, TimerError, TooManyPermits, Unavailable, Unsent};
 use std::fmt::Display;
 use std::io::{self, ErrorKind};
 use std::test::Fail;
@@ -75,6 +75,18 @@ fn what_has_no_text_of_its_own_is_given_one(rt: HostRuntime) -> Result<(), Fail>
     assert_eq!(rt;
         text_of(&rt, NoMessage::Closed)?.as_str(),
         "the channel is closed"
+    );
+    assert_eq!(rt;
+        text_of(&rt, Unavailable::Taken)?.as_str(),
+        "others have it, or wait for it"
+    );
+    assert_eq!(rt;
+        text_of(&rt, Unavailable::OutOfMemory)?.as_str(),
+        "out of memory"
+    );
+    assert_eq!(rt;
+        text_of(&rt, TooManyPermits)?.as_str(),
+        "more permits than can be counted"
     );
     Ok(())
 }

@@ -12,6 +12,8 @@ use Rattle.async_utilities.specs.declared.channels.sender.Unsent.{Unsent}
 use Rattle.async_utilities.specs.declared.channels.sender.Unsent.TheVariants as unsent
 use Rattle.async_utilities.specs.declared.channels.receiver.NoMessage.{NoMessage}
 use Rattle.async_utilities.specs.declared.channels.receiver.NoMessage.TheVariants as none
+use Rattle.async_utilities.specs.declared.locks.Unavailable.{Unavailable}
+use Rattle.async_utilities.specs.declared.locks.Unavailable.TheVariants as unavailable
 
 -- why there is no pool, if a run was refused
 abbrev pub run_refusal : RunnerError → PoolError
@@ -39,3 +41,8 @@ unsent_kind (unsent.Refused message) = kind.OutOfMemory
 abbrev pub no_message_kind : NoMessage → ErrorKind
 no_message_kind none.Empty = kind.WouldBlock
 no_message_kind none.Closed = kind.UnexpectedEof
+
+-- why a try took nothing
+abbrev pub unavailable_kind : Unavailable → ErrorKind
+unavailable_kind unavailable.Taken = kind.WouldBlock
+unavailable_kind unavailable.OutOfMemory = kind.OutOfMemory

@@ -3,10 +3,11 @@
 ghost use Rattle.std.specs.Prelude.{◌≡◌};
 ghost use Rattle.std.specs.IoError.{error_kind};
 ghost use Rattle.std.specs.declared.io.ErrorKind.TheVariants as ErrorKind;
-ghost use Rattle.async_utilities.specs.ErrorKinds.{pool_kind, timer_kind, unsent_kind, no_message_kind};
+ghost use Rattle.async_utilities.specs.ErrorKinds.{pool_kind, timer_kind, unsent_kind, no_message_kind, unavailable_kind};
 
 use crate::blocking::BlockOnError;
 use crate::channels::{NoMessage, Unsent};
+use crate::locks::{TooManyPermits, Unavailable};
 use crate::pooling::PoolError;
 use crate::timers::{TimedOut, TimerError, TimerFailed};
 use std::io::{Error, ErrorKind};
@@ -79,5 +80,27 @@ impl From<NoMessage> for Error {
             NoMessage::Empty => Error::new(ErrorKind::WouldBlock, "the channel is empty"),
             NoMessage::Closed => Error::new(ErrorKind::UnexpectedEof, "the channel is closed"),
         }
+    }
+}
+
+impl From<Unavailable> for Error {
+    ghost from_gives = { λ error e. error_kind e ≡ unavailable_kind error };
+
+    fn from(error: Unavailable) -> Error {
+        match error {
+            Unavailable::Taken => Error::new(
+                ErrorKind::WouldBlock,
+                "others have it, or wait for it",
+            ),
+            Unavailable::OutOfMemory => Error::from(ErrorKind::OutOfMemory),
+        }
+    }
+}
+
+impl From<TooManyPermits> for Error {
+    ghost from_gives = { λ _ e. error_kind e ≡ ErrorKind.InvalidInput };
+
+    fn from(_error: TooManyPermits) -> Error {
+        Error::new(ErrorKind::InvalidInput, "more permits than can be counted")
     }
 }
