@@ -36,7 +36,7 @@ def tables_in(text):
     """The tests of a module that call the player, and the functions of it that these call."""
     functions = functions_of(text)
     tests = [it for it in functions if text.endswith("#[test]\n", 0, it.first)]
-    tables = [it for it in tests if re.search(r"\bplay(_with|_unsharded)?\(", text_of(text, it))]
+    tables = [it for it in tests if re.search(r"\bplay(_with|_unsharded|_once)?\(", text_of(text, it))]
     called = " ".join(text_of(text, it) for it in tables)
     helpers = [it for it in functions if it not in tests and re.search(rf"\b{it.name}\(", called)]
     return tables, helpers

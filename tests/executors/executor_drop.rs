@@ -3,11 +3,12 @@ use crate::tests::support::running::future::Kind::{LeavesWaker, Never, Ready as 
 use crate::tests::support::running::future::{Ready, Until, WakerPlace};
 use crate::tests::support::running::halt::{Halt, TURNS};
 use crate::tests::support::running::line::Answer::{Cancelled as IsCancelled, Gone, Output, Pending};
+use crate::tests::support::running::line::Line;
 use crate::tests::support::running::line::Line::{
     Cancel, Count, Detach, DropExecutor, DropExecutorHalts, DropHandle, Finished, HaltAt,
     ManyDropped, ManyRan, Poll as PollBy, Returns, Spawn, SpawnMany, Ticks, Wake as WakeBy,
 };
-use crate::tests::support::running::player::play;
+use crate::tests::support::running::player::{play, play_once};
 use crate::tests::support::running::record::Moment::{FutureDrop, FuturePoll, OutputDrop, WakerWake};
 use crate::tests::support::running::record::Record;
 use crate::tests::support::running::task::{FutureWaker, TaskFuture, TestExecutor, spawned};
@@ -62,21 +63,28 @@ fn a_task_that_has_ended_keeps_its_output(rt: HostRuntime) -> Result<(), Fail> {
     )
 }
 
-// A handle that is left keeps the store: what was not drained would stay there.
+// So many tasks, and one whose handle is left. That keeps the store: what was not drained would stay there.
+fn all_are_dropped(count: u64) -> [Line; 7] {
+    [
+        SpawnMany(count),
+        Spawn(Never),
+        ManyDropped(0),
+        DropExecutor,
+        ManyDropped(count),
+        ManyRan(0),
+        PollBy(0, IsCancelled),
+    ]
+}
+
+#[test]
+fn each_of_some_futures_is_dropped(rt: HostRuntime) -> Result<(), Fail> {
+    play(&rt, &all_are_dropped(700))
+}
+
+// All kinds drain in one body, so one of them is enough for what takes seconds.
 #[test]
 fn each_of_many_futures_is_dropped(rt: HostRuntime) -> Result<(), Fail> {
-    play(
-        &rt,
-        &[
-            SpawnMany(70_000),
-            Spawn(Never),
-            ManyDropped(0),
-            DropExecutor,
-            ManyDropped(70_000),
-            ManyRan(0),
-            PollBy(0, IsCancelled),
-        ],
-    )
+    play_once(&rt, &all_are_dropped(70_000))
 }
 
 // The end of a task is told once its future was dropped: at that drop nobody knows of it.

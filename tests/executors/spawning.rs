@@ -135,7 +135,7 @@ fn awaited_alone<R: AllocGlobal + Wait + Clone + Drop + Send + Sync>(
     ])
 }
 
-const MANY: u64 = 50_000;
+const MANY: u64 = 5_000;
 
 #[test]
 fn each_handle_is_that_of_its_future(rt: HostRuntime) -> Result<(), Fail> {
@@ -147,7 +147,7 @@ fn each_handle_is_that_of_its_future(rt: HostRuntime) -> Result<(), Fail> {
         (
             Some([(0, 0); 2]),
             Some([(3, 3); 2]),
-            Some([(50_000, MANY); 2])
+            Some([(5_000, MANY); 2])
         )
     );
     Ok(())
@@ -212,7 +212,7 @@ fn awaited_on_threads<R: AllocGlobal + Wait + Threads + Clone + Drop + Send + Sy
 
 #[test]
 fn four_runs_take_meanwhile(rt: HostRuntime) -> Result<(), Fail> {
-    assert_eq!(rt; awaited_on_threads(&rt)?, (Some((50_000, MANY)), true));
+    assert_eq!(rt; awaited_on_threads(&rt)?, (Some((5_000, MANY)), true));
     Ok(())
 }
 

@@ -537,6 +537,14 @@ pub fn play_unsharded<R: AllocGlobal + Wait + Threads + Clone + Drop + Send + Sy
     thread::scope(thread::scope_env(), rt, |scope| play_all(scope, rt, None, lines))
 }
 
+/// The same, on a new executor that threads share alone: for lines that take seconds.
+pub fn play_once<R: AllocGlobal + Wait + Threads + Clone + Drop + Send + Sync + 'static>(
+    rt: &R,
+    lines: &[Line],
+) -> Result<(), Fail> {
+    thread::scope(thread::scope_env(), rt, |scope| play_shared(scope, rt, None, lines))
+}
+
 /// The same on executors with these limits.
 pub fn play_with<R: AllocGlobal + Wait + Threads + Clone + Drop + Send + Sync + 'static>(
     rt: &R,
