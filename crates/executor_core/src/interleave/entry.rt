@@ -123,12 +123,7 @@ pub(crate) fn has_future<P>(entries: &Vec<TaskEntry<P>>, n: u64) -> bool
 pub(crate) fn some_out<P>(entries: &Vec<TaskEntry<P>>) -> bool
     ensures { result ≡ list_any (λ e. is_some e.out) entries.now.items }
 {
-    for entry in entries {
-        if entry.out.is_some() {
-            return true;
-        }
-    }
-    false
+    entries.iter().any(|entry| entry.out.is_some())
 }
 
 // Puts this in the place of what was known of the task.
