@@ -112,6 +112,23 @@ module _ (xs : List ℕ) (k : ℕ) where
   taken : (free : List ℕ) → Takes free
   taken free = elim (empty_or_push free) [ inl none ↦ subst Takes (sym none) takes_next | inr some ↦ subst Takes (sym some.2) (takes_last some.0 some.1) ]
 
+-- a number goes from the end of those in use to their front
+times-turned : (n id : ℕ) (xs free : List ℕ) → times n ((xs ++ id ∷ []) ++ free) ≡ times n (id ∷ xs ++ free)
+times-turned n id xs free =
+    let a = times-append n (xs ++ id ∷ []) free in
+    let b = times-append n xs (id ∷ []) in
+    let c = times-cons n id [] in
+    let d = times-cons n id (xs ++ free) in
+    let e = times-append n xs free in
+    omega arith
+
+length-turned : (id : ℕ) (xs free : List ℕ) → length ((xs ++ id ∷ []) ++ free) ≡ length (id ∷ xs ++ free)
+length-turned id xs free =
+    let a = length-append (xs ++ id ∷ []) free in
+    let b = length-push xs id in
+    let c = length-append xs free in
+    omega arith
+
 -- another number than the notified one
 times-other : (notified : Option ℕ) (id : ℕ) → notified ≢ Some id → times id (option_to_list notified) ≡ 0
 times-other None id far = refl
@@ -222,7 +239,46 @@ module _ {W : Type 0} {notified : Option ℕ} {pairs : List (ℕ × W)} {free : 
         answer = subst (λ u. Ok (k, change_of (after_insert u w) again) ≡ insert_answer u w) seen lists.1;
       }
 
+  -- no reserved place is free
+  pub refusing : {v : SleeperList W} {is_open : Bool} → list_of notified pairs free places is_open ≡ v → {n : ℕ} → n ≡ set.len v.used → places ≤ n → (w : W) → (v ≡ after_insert v w) × (Err w ≡ insert_answer v w)
+  refusing {v = v} seen count full w =
+      let fixed : places ≡ v.places = ap (λ s. s.places) seen in
+      let none : has_place v ≡ false = le-ltb (set.len v.used) v.places (omega arith) in
+      (sym (cond-false (has_place v) (inserted v w) v none), sym (cond-false (has_place v) (Ok (next_number v, change_of (inserted v w) again)) (Err w) none))
+
   -- update
+  pub slept_sound : (id : ℕ) (w : W) → notified ≡ Some id → IsSoundList None (pairs ++ (id, w) ∷ []) free places pair_room free_room
+  slept_sound id w is =
+      let before : in_use notified pairs ≡ id ∷ keys_of pairs = ap (λ o. in_use o pairs) is in
+      let now : in_use None (pairs ++ (id, w) ∷ []) ≡ keys_of pairs ++ id ∷ [] = keys-push pairs id w in
+      let old = ap length before in
+      let count = ap length now in
+      let long = length-push (keys_of pairs) id in
+      let all = ap (λ l. length (l ++ free)) before in
+      let new = ap (λ l. length (l ++ free)) now in
+      let total = length-turned id (keys_of pairs) free in
+      let within = sound.placed in
+      let fits = sound.numbers_fit in
+      record {
+        numbering =
+            regrouped (in_use notified pairs ++ free) (in_use None (pairs ++ (id, w) ∷ []) ++ free) sound.numbering
+            (λ n. ap (λ l. times n (l ++ free)) now ∙ times-turned n id (keys_of pairs) free ∙ sym (ap (λ l. times n (l ++ free)) before))
+            (omega arith);
+        placed = omega arith;
+        pairs_fit = sound.pairs_fit;
+        places_fit = sound.places_fit;
+        numbers_fit = omega arith;
+      }
+
+  -- there is room for its pair
+  pub slept_room : (id : ℕ) → notified ≡ Some id → length pairs < pair_room
+  slept_room id is =
+      let all = length-in_use notified pairs in
+      let one = ap (λ o. length (option_to_list o)) is in
+      let within = sound.placed in
+      let fits = sound.pairs_fit in
+      omega arith
+
   pub slept_list : (is_open : Bool) (id : ℕ) (w : W) → notified ≡ Some id
       → list_of None (pairs ++ (id, w) ∷ []) free places true ≡ after_update (list_of notified pairs free places is_open) id w
   slept_list is_open id w is =
@@ -358,6 +414,34 @@ module _ {W : Type 0} {notified : Option ℕ} {pairs : List (ℕ × W)} {free : 
       ap (λ o. record { notice = None; waker = o }) (sym found)
       ∙ ap (λ b. record { notice = cond b (Some notice) None; waker = waker_of s id }) (sym no)
 
+  pub notified_removed_sound : (id : ℕ) → notified ≡ Some id → IsSoundList None pairs (free ++ id ∷ []) places pair_room free_room
+  notified_removed_sound id is =
+      let before : in_use notified pairs ≡ id ∷ keys_of pairs = ap (λ o. in_use o pairs) is in
+      let old = ap length before in
+      let all = ap (λ l. length (l ++ free)) before in
+      let a = length-append (keys_of pairs) free in
+      let b = length-append (keys_of pairs) (free ++ id ∷ []) in
+      let c = length-push free id in
+      let within = sound.placed in
+      let fits = sound.numbers_fit in
+      record {
+        numbering = regrouped (in_use notified pairs ++ free) (keys_of pairs ++ (free ++ id ∷ [])) sound.numbering (λ n. counts n before) (omega arith);
+        placed = omega arith;
+        pairs_fit = sound.pairs_fit;
+        places_fit = sound.places_fit;
+        numbers_fit = omega arith;
+      }
+    where
+      counts : (n : ℕ) → in_use notified pairs ≡ id ∷ keys_of pairs → times n (keys_of pairs ++ (free ++ id ∷ [])) ≡ times n (in_use notified pairs ++ free)
+      counts n before =
+          let a = times-append n (keys_of pairs) (free ++ id ∷ []) in
+          let b = times-append n free (id ∷ []) in
+          let c = times-cons n id [] in
+          let d = times-cons n id (keys_of pairs ++ free) in
+          let e = times-append n (keys_of pairs) free in
+          let f = ap (λ l. times n (l ++ free)) before in
+          omega arith
+
   pub notified_removed_list : (is_open : Bool) (id : ℕ) → notified ≡ Some id
       → list_of None pairs (free ++ id ∷ []) places true ≡ after_remove (list_of notified pairs free places is_open) id
   notified_removed_list is_open id is =
@@ -424,6 +508,29 @@ module _ {W : Type 0} {notified : Option ℕ} {pairs : List (ℕ × W)} {free : 
       (λ is. let count = used-len_none sound is in eq-eqb (length pairs) (set.len (set.from_list {R = nat_cmp} (in_use notified pairs))) (omega arith))
       (λ m is. absurd (true≢false (sym (ap is_some is) ∙ none)))
 
+  nobody : is_some notified ≡ false → notified ≡ None
+  nobody none = by_option _ notified (λ same. same) (λ m same. absurd (true≢false (sym (ap is_some same) ∙ none)))
+
+  pub left_sound : {left : List (ℕ × W)} → pairs ≡ left ++ [] → IsSoundList notified left free places pair_room free_room
+  left_sound {left = left} is = subst (λ l. IsSoundList notified l free places pair_room free_room) (is ∙ append-nil left) sound
+
+  pub notified_sound : (left : List (ℕ × W)) (id : ℕ) (w : W) → is_some notified ≡ false → pairs ≡ left ++ (id, w) ∷ [] → IsSoundList (Some id) left free places pair_room free_room
+  notified_sound left id w none is =
+      let used : in_use notified pairs ≡ keys_of left ++ id ∷ [] = ap (λ o. in_use o pairs) (nobody none) ∙ ap keys_of is ∙ keys-push left id w in
+      let count = ap length used in
+      let long = length-push (keys_of left) id in
+      let all = ap (λ l. length (l ++ free)) used in
+      let total = length-turned id (keys_of left) free in
+      let within = sound.placed in
+      let fits = sound.numbers_fit in
+      record {
+        numbering = regrouped (in_use notified pairs ++ free) (id ∷ keys_of left ++ free) sound.numbering (λ n. sym (ap (λ l. times n (l ++ free)) used ∙ times-turned n id (keys_of left) free)) (omega arith);
+        placed = omega arith;
+        pairs_fit = sound.pairs_fit;
+        places_fit = sound.places_fit;
+        numbers_fit = omega arith;
+      }
+
   pub kept_list : (is_open : Bool) → is_some notified ≡ true
       → list_of notified pairs free places is_open ≡ after_notify (list_of notified pairs free places is_open)
   kept_list is_open some =
@@ -440,9 +547,8 @@ module _ {W : Type 0} {notified : Option ℕ} {pairs : List (ℕ × W)} {free : 
   notified_list is_open left id w none is =
       let s : SleeperList W = list_of notified pairs free places is_open in
       let front : left ≡ all_but_last pairs = sym (ap all_but_last is ∙ front-push left (id, w)) in
-      let nobody : notified ≡ None = by_option _ notified (λ same. same) (λ m same. absurd (true≢false (sym (ap is_some same) ∙ none))) in
       let used : set.from_list {R = nat_cmp} (in_use (Some id) left) ≡ s.used =
-      sym (ap (λ o. set.from_list {R = nat_cmp} (in_use o pairs)) nobody ∙ ap (λ l. set.from_list {R = nat_cmp} (keys_of l)) is ∙ ap set.from_list (keys-push left id w) ∙ push-from_list (keys_of left) id) in
+      sym (ap (λ o. set.from_list {R = nat_cmp} (in_use o pairs)) (nobody none) ∙ ap (λ l. set.from_list {R = nat_cmp} (keys_of l)) is ∙ ap set.from_list (keys-push left id w) ∙ push-from_list (keys_of left) id) in
       ap (λ u. record { unnotified = left; used = u; free = free; places = places; is_open = is_open }) used
       ∙ ap (λ l. record { unnotified = l; used = s.used; free = free; places = places; is_open = is_open }) front
       ∙ ap (λ b. record { unnotified = cond b (all_but_last pairs) pairs; used = s.used; free = free; places = places; is_open = is_open }) (sym (none_notified is_open none))

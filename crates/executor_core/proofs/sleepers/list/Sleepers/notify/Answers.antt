@@ -1,7 +1,6 @@
-use Rattle.std.proofs.Common.{◌∙◌, ap, subst, sym, arith, rules}
-use Rattle.std.proofs.lemmas.Grind.{common_steps}
+use Rattle.std.proofs.Common.{◌∙◌, ap, subst, sym}
 use Rattle.executor_core.specs.Sleepers.Calls.{after_notify, notify_answer}
-use Rattle.executor_core.proofs.SleeperCallLemmas.{kept_list, kept_answer, notified_list, notified_answer}
+use Rattle.executor_core.proofs.SleeperCallLemmas.{kept_list, kept_answer, left_sound, notified_sound, notified_list, notified_answer}
 use Rattle.executor_core.proofs.SleeperListLemmas.{lawful}
 use Rattle.executor_core.specs.Sleepers.{SleeperLaw}
 use Rattle.executor_core.proofs.sleepers.list.Sleepers.notify.Goals as goal
@@ -27,10 +26,11 @@ returns-clause-answer g c =
     ∙ ap notify_answer c.self.view_is
 
 pub invariant_of-self : goal.invariant_of-self
-invariant_of-self g c = search rules
+invariant_of-self g c = rw c.pop.ensures.capacity (left_sound c.self.invariant c.in_err-id.ensures.items)
 
 pub invariant_of-self-2 : goal.invariant_of-self-2
-invariant_of-self-2 g c = grind (arith, common_steps)
+invariant_of-self-2 g c =
+    rw c.pop.ensures.capacity (notified_sound c.self.invariant c.pop.new.self.items c.in_ok-id.id c.in_ok-id.waker (sym c.is_some.ensures ∙ c.if-is_some.false) c.in_ok-id.ensures.items)
 
 pub returns-then-is_some-clause-law : goal.returns-then-is_some-clause-law
 returns-then-is_some-clause-law g c = subst SleeperLaw c.self.view_is (lawful c.self.inside.is_open c.self.invariant)

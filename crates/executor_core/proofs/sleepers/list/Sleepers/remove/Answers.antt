@@ -2,8 +2,12 @@ use Rattle.std.proofs.Common.{◌≡◌, ◌∙◌, ap, sym, None, Some}
 use Rattle.std.specs.Map.{lookup}
 use Rattle.std.specs.Prelude.{◌==◌}
 use Rattle.executor_core.specs.Sleepers.Calls.{after_remove, removed_of}
-use Rattle.executor_core.proofs.SleeperCallLemmas.{change_is, is_id, is_other, removed_sound, removed_list, removed_of_found, notified_removed_list, removed_of_notified, unknown_removed_list, unknown_removed_sound, removed_of_unknown}
+use Rattle.executor_core.proofs.SleeperCallLemmas.{change_is, is_id, is_other, removed_sound, removed_list, removed_of_found, notified_removed_sound, notified_removed_list, removed_of_notified, unknown_removed_list, unknown_removed_sound, removed_of_unknown}
 use Rattle.executor_core.proofs.sleepers.list.Sleepers.remove.Goals as goal
+
+pub invariant_of-self : goal.invariant_of-self
+invariant_of-self g c =
+    rw (c.push_reserved.ensures.items, c.push_reserved.ensures.capacity) (notified_removed_sound c.self.invariant c.args.id (is_id c.self.inside.notified c.args.id (sym c.eq.ensures ∙ c.if-eq.true)))
 
 pub returns-then-eq-clause-list : goal.returns-then-eq-clause-list
 returns-then-eq-clause-list g c =

@@ -1,9 +1,19 @@
-use Rattle.std.proofs.Common.{◌∙◌, ap, sym}
+use Rattle.std.proofs.Common.{◌≡◌, ◌∙◌, ap, sym, length, vec_len, rules, arith}
 use Rattle.executor_core.specs.Sleepers.Calls.{again, change_of, after_update, update_answer}
 use Rattle.executor_core.specs.declared.sleepers.list.Update.TheVariants.{WasNotified}
-use Rattle.executor_core.proofs.SleeperCallLemmas.{is_id, is_other, slept_list, slept_answer, replaced_sound, replaced_list, replaced_answer}
+use Rattle.executor_core.proofs.SleeperCallLemmas.{is_id, is_other, slept_sound, slept_room, slept_list, slept_answer, replaced_sound, replaced_list, replaced_answer}
 use Rattle.executor_core.proofs.SleeperListLemmas.{lawful}
 use Rattle.executor_core.proofs.sleepers.list.Sleepers.update.Goals as goal
+
+pub push_reserved-requires : goal.push_reserved-requires
+push_reserved-requires g c =
+    let long : vec_len c.self.inside.unnotified ≡ length c.self.inside.unnotified.items = search rules in
+    let room = slept_room c.self.invariant c.args.id (is_id c.self.inside.notified c.args.id (sym c.eq.ensures ∙ c.if-eq.true)) in
+    omega arith
+
+pub invariant_of-self : goal.invariant_of-self
+invariant_of-self g c =
+    rw (c.push_reserved.ensures.items, c.push_reserved.ensures.capacity) (slept_sound c.self.invariant c.args.id c.args.waker (is_id c.self.inside.notified c.args.id (sym c.eq.ensures ∙ c.if-eq.true)))
 
 pub returns-then-eq-clause-list : goal.returns-then-eq-clause-list
 returns-then-eq-clause-list g c =
