@@ -239,11 +239,21 @@ any_idle : {X : Type 0} (es : List X) (q : QueueLists X) → None ≡ (global_fr
 any_idle [] q none = refl
 any_idle (x ∷ es) q none = absurd (cc)
 
+any_past : (s after : QueueState) (r : ℕ) → None ≡ (search_global s.lists).0 → after ≡ with_lists (search_global s.lists).1 s → Some r ≡ first_occupied after.lists.locals → (after ≡ s) × (search_any s.lists ≡ local_front r (entries_at r s.lists.locals) s.lists)
+any_past s after r none rest found =
+    let kept : after ≡ s = rest ∙ ap (λ q. with_lists q s) (search_global-none s.lists (sym none)) in
+    (kept, any_idle s.lists.global s.lists none ∙ ap (λ o. front_at o s.lists) (sym (found ∙ ap (λ (t : QueueState). first_occupied t.lists.locals) kept)))
+
+pub any_found : (s after : QueueState) (r : ℕ) → None ≡ (search_global s.lists).0 → after ≡ with_lists (search_global s.lists).1 s → Some r ≡ first_occupied after.lists.locals → slice_get (entries_at r after.lists.locals) 0 ≡ (search_any s.lists).0
+any_found s after r none rest found =
+    let past = any_past s after r none rest found in
+    ap (λ (t : QueueState). slice_get (entries_at r t.lists.locals) 0) past.0
+    ∙ sym (ap (λ (p : Option TaskId × QueueLists TaskId). p.0) past.1 ∙ local_found r (entries_at r s.lists.locals) s.lists)
+
 pub any_left : (s after last : QueueState) (r : ℕ) → None ≡ (search_global s.lists).0 → after ≡ with_lists (search_global s.lists).1 s → Some r ≡ first_occupied after.lists.locals → last ≡ with_lists (record after.lists { locals = with_entries r (drop 1 (entries_at r after.lists.locals)) after.lists.locals }) after → last ≡ with_lists (search_any s.lists).1 s
 any_left s after last r none rest found left =
-    let kept : after ≡ s = rest ∙ ap (λ q. with_lists q s) (search_global-none s.lists (sym none)) in
-    let at : search_any s.lists ≡ local_front r (entries_at r s.lists.locals) s.lists = any_idle s.lists.global s.lists none ∙ ap (λ o. front_at o s.lists) (sym (found ∙ ap (λ (t : QueueState). first_occupied t.lists.locals) kept)) in
+    let past = any_past s after r none rest found in
     left
-    ∙ ap (λ (t : QueueState). with_lists (record t.lists { locals = with_entries r (drop 1 (entries_at r t.lists.locals)) t.lists.locals }) t) kept
+    ∙ ap (λ (t : QueueState). with_lists (record t.lists { locals = with_entries r (drop 1 (entries_at r t.lists.locals)) t.lists.locals }) t) past.0
     ∙ ap (λ q. with_lists q s) (sym (local_left r (entries_at r s.lists.locals) s.lists refl))
-    ∙ ap (λ (p : Option TaskId × QueueLists TaskId). with_lists p.1 s) (sym at)
+    ∙ ap (λ (p : Option TaskId × QueueLists TaskId). with_lists p.1 s) (sym past.1)

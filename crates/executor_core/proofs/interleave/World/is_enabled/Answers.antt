@@ -1,6 +1,17 @@
-use Rattle.std.proofs.Common.{◌∙◌, ap, is_some, nat_lt}
+use Rattle.std.proofs.Common.{◌∙◌, ap, inl, inr, not, is_some, nat_lt}
 use Rattle.executor_core.proofs.World.Agreement.{spawned_known}
 use Rattle.executor_core.proofs.interleave.World.is_enabled.Goals as goal
+
+pub returns-in-Spawn : goal.returns-in-Spawn
+returns-in-Spawn g c =
+    let same = ap not c.is_closed-in-Spawn.ensures in
+    elim c.in-Spawn.is [
+      | inl spawn ↦ rw spawn.1 same
+      | inr others ↦ elim others [
+        | inl try ↦ rw try same
+        | inr others ↦ elim others [ inl any ↦ rw any same | inr others ↦ elim others [ inl tick ↦ rw tick same | inr run ↦ rw run same ] ]
+      ]
+    ]
 
 pub returns-in-Wake : goal.returns-in-Wake
 returns-in-Wake g c = rw c.in-Wake.is (c.is_some.ensures ∙ ap is_some c.find_info.ensures ∙ spawned_known c.self.inside c.self.invariant c.self.view_is _)
