@@ -1,9 +1,21 @@
-use Rattle.std.proofs.Common.{subst, sym}
+use Rattle.std.proofs.Common.{subst, sym, ap}
 use Rattle.executor_core.specs.World.Log.{EachDropped}
 use Rattle.executor_core.specs.World.Agreement.{CellsAgree, HandlesAgree}
 use Rattle.executor_core.proofs.World.Agreement.{each_dropped, all_dropped, cells_agree}
 use Rattle.executor_core.proofs.World.Handles.{handles_agree}
 use Rattle.executor_core.proofs.interleave.World.state.Goals as goal
+
+pub returns-clause-global : goal.returns-clause-global
+returns-clause-global g c = ap (λ w. w.global) c.self.view_is
+
+pub returns-clause-locals : goal.returns-clause-locals
+returns-clause-locals g c = ap (λ w. w.locals) c.self.view_is
+
+pub returns-clause-flag : goal.returns-clause-flag
+returns-clause-flag g c = ap (λ w. w.flag) c.self.view_is
+
+pub returns-clause-sleepers : goal.returns-clause-sleepers
+returns-clause-sleepers g c = ap (λ w. w.sleepers) c.self.view_is
 
 pub returns-clause-empty : goal.returns-clause-empty
 returns-clause-empty g c = (
