@@ -1,6 +1,6 @@
-use Rattle.std.proofs.Common.{◌≡◌, ◌∙◌, true, sym, ap, rules}
+use Rattle.std.proofs.Common.{◌≡◌, ◌∙◌, true, sym}
 use Rattle.std.proofs.lemmas.Bool.{cond-true}
-use Rattle.executor_core.specs.Cells.Calls.{after_take, TakesFront}
+use Rattle.executor_core.specs.Cells.Calls.{after_take}
 use Rattle.executor_core.proofs.task.table.Cells.drain_next.Goals as goal
 
 pub returns-clause-table : goal.returns-clause-table
