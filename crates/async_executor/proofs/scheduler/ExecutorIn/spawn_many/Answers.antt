@@ -1,4 +1,4 @@
-use Rattle.std.proofs.Common.{[], ◌∷◌, ◌++◌, refl, arith, length}
+use Rattle.std.proofs.Common.{[], ◌∷◌, ◌++◌, ◌∙◌, refl, arith, length}
 use Rattle.std.proofs.iter.Next.{Yields-more}
 use Rattle.std.proofs.lemmas.List.{length_push}
 use Rattle.async_executor.proofs.Handles.{adds_none, adds_one}
@@ -24,3 +24,17 @@ loop-futures-preserved g c =
         omega (arith, loop.2.3, count, c.add_handle.ensures.len, c.try_reserve.ensures.len),
       ),
     )
+
+pub returns-then-is_err-clause-futures : goal.returns-then-is_err-clause-futures
+returns-then-is_err-clause-futures g c =
+    let loop = c.loop-futures.invariant.2 in
+    (loop.0, omega (arith, loop.3, c.len.ensures), (c.loop-futures.futures, loop.1, refl))
+
+pub returns-then-is_err-clause-handles : goal.returns-then-is_err-clause-handles
+returns-then-is_err-clause-handles g c =
+    let loop = c.loop-futures.invariant.2 in
+    let added = loop.2 in
+    (added.0, c.try_reserve.ensures.items ∙ added.1, omega (arith, added.2, loop.3, c.len.ensures), added.3)
+
+pub returns-then-is_err-clause-place : goal.returns-then-is_err-clause-place
+returns-then-is_err-clause-place g c = tt
