@@ -1,0 +1,4 @@
+use Rattle.async_utilities.proofs.channels.state.State.close.Goals as goal
+
+pub returns : goal.returns
+returns g c = (cc, cc, cc, cc, cc, cc, cc, cc, (cc, cc))
