@@ -1,4 +1,4 @@
-use Rattle.std.proofs.Common.{◌≡◌, ◌∙◌, arith}
+use Rattle.std.proofs.Common.{◌≡◌, ◌∙◌, arith, rules}
 use Rattle.std.proofs.lemmas.List.Elements.{All-push}
 use Rattle.sharded_executor.proofs.executor.shards.Goals as goal
 
@@ -9,3 +9,6 @@ loop-made-preserved g c =
       c.push_reserved.ensures.capacity ∙ inv.1,
       rw c.push_reserved.ensures.items (All-push (λ shard. shard.inner.limits ≡ c.args.limits) c.loop-made.shards.items c.in-Ok.shard inv.2 c.in-Ok.ensures.ok),
     )
+
+pub loop-made-init : goal.loop-made-init
+loop-made-init g c = (c.in_ok-shards.ensures.len, search rules, search rules)
