@@ -85,10 +85,30 @@ impl<R: Wait + Clone + Drop + Send + Sync> Future<FutureWaker<R>> for Leaving<R>
     }
 }
 
+// Any future of this module: one type for all, so that one executor of each kind is built for them.
+#[derive(Drop)]
+enum Waking<R: Wait + Clone + Drop + Send + Sync> {
+    Leaving(Leaving<R>),
+    Keeping(Keeping<R>),
+    Crossed(Crossed<R>),
+}
+
+impl<R: Wait + Clone + Drop + Send + Sync> Future<FutureWaker<R>> for Waking<R> {
+    type Output = usize;
+
+    fn poll(&mut self, w: &FutureWaker<R>) -> Poll<usize> {
+        match self {
+            Waking::Leaving(future) => future.poll(w),
+            Waking::Keeping(future) => future.poll(w),
+            Waking::Crossed(future) => future.poll(w),
+        }
+    }
+}
+
 // Spawns and detaches a task of this future.
 macro_rules! detached {
-    ($ex:expr, $future:expr) => {
-        match $ex.spawn($future) {
+    ($ex:expr, $kind:ident, $future:expr) => {
+        match $ex.spawn(Waking::$kind($future)) {
             Ok(task) => task.detach(),
             Err(_) => return Err("refused".into()),
         }
@@ -113,13 +133,13 @@ const MOST: u64 = 1_000_000;
 macro_rules! woken_in_one_poll {
     ($executor:ident, $rt:expr, $many:expr) => {{
         let alloc = $rt.alloc();
-        let ex = $executor::<Leaving<R>, TestWaker, R>::new($rt.clone()?, alloc)?;
+        let ex = $executor::<Waking<R>, TestWaker, R>::new($rt.clone()?, alloc)?;
         let (wakers, record) = (no_wakers(alloc)?, Record::new(alloc)?);
         for _ in 0..$many {
-            detached!(ex, Leaving::new(Some(1), &wakers, &record, alloc)?);
+            detached!(ex, Leaving, Leaving::new(Some(1), &wakers, &record, alloc)?);
         }
         let before = ticks!(ex, MOST);
-        detached!(ex, Leaving::new(None, &wakers, &record, alloc)?);
+        detached!(ex, Leaving, Leaving::new(None, &wakers, &record, alloc)?);
         let wakes = ex.try_tick();
         let after = ticks!(ex, MOST);
         (before, wakes, after, record.times(FuturePoll))
@@ -168,9 +188,9 @@ fn one_poll_wakes_twenty_thousand_tasks(rt: HostRuntime) -> Result<(), Fail> {
 macro_rules! woken_often {
     ($executor:ident, $rt:expr) => {{
         let alloc = $rt.alloc();
-        let ex = $executor::<Leaving<R>, TestWaker, R>::new($rt.clone()?, alloc)?;
+        let ex = $executor::<Waking<R>, TestWaker, R>::new($rt.clone()?, alloc)?;
         let (wakers, record) = (no_wakers(alloc)?, Record::new(alloc)?);
-        detached!(ex, Leaving::new(Some(100), &wakers, &record, alloc)?);
+        detached!(ex, Leaving, Leaving::new(Some(100), &wakers, &record, alloc)?);
         let first = ticks!(ex, MOST);
         let woken = wake_all(&wakers, alloc);
         let second = ticks!(ex, MOST);
@@ -205,9 +225,9 @@ struct Keeping<R: Wait + Clone + Drop + Send + Sync> {
 }
 
 impl<R: Wait + Clone + Drop + Send + Sync> Future<FutureWaker<R>> for Keeping<R> {
-    type Output = ();
+    type Output = usize;
 
-    fn poll(&mut self, w: &FutureWaker<R>) -> Poll<()> {
+    fn poll(&mut self, w: &FutureWaker<R>) -> Poll<usize> {
         self.record.meet(FuturePoll);
         if !self.kept.is_empty() {
             return Poll::Pending;
@@ -239,9 +259,9 @@ impl<R: Wait + Clone + Drop + Send + Sync> Drop for Keeping<R> {
 macro_rules! keeping {
     ($executor:ident, $rt:expr) => {{
         let alloc = $rt.alloc();
-        let ex = $executor::<Keeping<R>, TestWaker, R>::new($rt.clone()?, alloc)?;
+        let ex = $executor::<Waking<R>, TestWaker, R>::new($rt.clone()?, alloc)?;
         let record = Record::new(alloc)?;
-        detached!(ex, Keeping { kept: Vec::new(alloc), record: record.share()? });
+        detached!(ex, Keeping, Keeping { kept: Vec::new(alloc), record: record.share()? });
         let ticks = ticks!(ex, MOST);
         let before = record.times(FutureDrop);
         drop(ex);
@@ -286,9 +306,9 @@ impl<R: Wait + Clone + Drop + Send + Sync> Crossed<R> {
 }
 
 impl<R: Wait + Clone + Drop + Send + Sync> Future<FutureWaker<R>> for Crossed<R> {
-    type Output = ();
+    type Output = usize;
 
-    fn poll(&mut self, w: &FutureWaker<R>) -> Poll<()> {
+    fn poll(&mut self, w: &FutureWaker<R>) -> Poll<usize> {
         self.parts.record().meet(FuturePoll);
         drop(self.own.replace(w.copy().ok()));
         if let Some(other) = self.other.take() {
@@ -304,12 +324,12 @@ impl<R: Wait + Clone + Drop + Send + Sync> Future<FutureWaker<R>> for Crossed<R>
 macro_rules! crossed {
     ($executor:ident, $rt:expr) => {{
         let alloc = $rt.alloc();
-        let one = $executor::<Crossed<R>, TestWaker, R>::new($rt.clone()?, alloc)?;
-        let two = $executor::<Crossed<R>, TestWaker, R>::new($rt.clone()?, alloc)?;
+        let one = $executor::<Waking<R>, TestWaker, R>::new($rt.clone()?, alloc)?;
+        let two = $executor::<Waking<R>, TestWaker, R>::new($rt.clone()?, alloc)?;
         let places = (WakerPlace::new(alloc)?, WakerPlace::new(alloc)?);
         let records = (Record::new(alloc)?, Record::new(alloc)?);
-        detached!(one, Crossed::new(&places.0, &places.1, &records.0)?);
-        detached!(two, Crossed::new(&places.1, &places.0, &records.1)?);
+        detached!(one, Crossed, Crossed::new(&places.0, &places.1, &records.0)?);
+        detached!(two, Crossed, Crossed::new(&places.1, &places.0, &records.1)?);
         let first = [one.try_tick(), one.try_tick(), two.try_tick(), two.try_tick()];
         let second = [one.try_tick(), one.try_tick(), two.try_tick(), two.try_tick()];
         drop(one);
