@@ -68,28 +68,15 @@ try_lines() {
 # head or its body; or 'no function'.
 functions() { python3 -B "$top/checks/lib/edits.py" functions "$1"; }
 
-# Prints where an edit changes the copy, as FILE:NUMBER of the function, and whether it is tried
-# beside others or alone.
-place_of() {
-    file=$(field "$1" file)
-    add_edit "$1" "$copy" || return 1
-    functions "$top/crates/$(field "$1" crate)/$file" |
-        sed -n "$(python3 -B "$top/checks/lib/edits.py" lines "$1" "$top")p" | sort -u > "$copy/parts"
-    echo "$file:$(cut -d' ' -f1 "$copy/parts" | sort -u | paste -sd-)" \
-        "$(grep -qv body "$copy/parts" && echo alone || echo beside)"
-}
-
 # Plans the edits of a crate, as lines 'PLACE ERROR EDIT beside|alone' of the file left.
 plan_edits() {
-    : > "$copy/left"
-    for edit in $(edits_of uncompiled | xargs grep -lx "crate: $1"); do
-        restore_sources "$1"
-        if place=$(place_of "$edit" 2> "$copy/log"); then
-            echo "${place% *} $(field "$edit" error) $edit ${place#* }" >> "$copy/left"
-        else
-            fail "${edit##*/}: it cannot be applied:" "$copy/log"
-        fi
-    done
+    edits_of uncompiled | xargs grep -lx "crate: $1" |
+        xargs python3 -B "$top/checks/lib/edits.py" places "$top" > "$copy/planned"
+    grep -E ' (beside|alone)$' "$copy/planned" > "$copy/left" || :
+    grep -vE ' (beside|alone)$' "$copy/planned" > "$copy/unapplied" || :
+    while read -r why; do
+        fail "it cannot be applied: $why"
+    done < "$copy/unapplied"
 }
 
 # Applies edits that are left to a crate of the copy: one that is tried alone, or those of different
@@ -112,10 +99,11 @@ apply_round() {
 # Judges the edits that were applied, and takes them from the file left. What is not refused is
 # tried again where the list of errors was cut.
 judge_round() {
-    while read -r file line error; do
-        number=$(functions "$copy/crates/$1/$file" 2>&1 | sed -n "${line}p" | cut -d' ' -f1)
-        echo "$file:$number $error"
-    done < "$copy/found" | sort -u > "$copy/refused"
+    for file in $(cut -d' ' -f1 "$copy/found" | sort -u); do
+        functions "$copy/crates/$1/$file" 2>&1 | awk -v file="$file" '{ print file, NR, $1 }'
+    done > "$copy/numbers"
+    awk 'NR == FNR { number[$1, $2] = $3; next } { print $1 ":" number[$1, $2], $3 }' \
+        "$copy/numbers" "$copy/found" | sort -u > "$copy/refused"
     awk 'NR == FNR { refused[$0]; next } ($1 " " $2) in refused' \
         "$copy/refused" "$copy/tried" > "$copy/judged"
     while read -r _ _ edit _; do

@@ -5,9 +5,10 @@ that its check reads. The old text stands once in the file; \\n in a text is a l
 lines change more places, in turn. A line 'same: TEXT' in place of 'new: TEXT' writes the code in
 another way that does the same, before anything else is changed.
 Usage: edits.py apply EDIT REPOSITORY, which changes its files as they stand, or none, with status 1,
-if an old text does not stand once; edits.py lines EDIT REPOSITORY, the first and the last line of
-its first old text; edits.py functions FILE, for each line the number of the function that it is a
-part of, and whether of its head or its body, or 'no function'.
+if an old text does not stand once; edits.py places REPOSITORY EDIT.., for each edit a line 'PLACE ERROR EDIT
+beside|alone': where its first old text stands, as FILE:NUMBER of the function, the error that it names, and
+whether it changes a body alone, or 'EDIT: why' if it cannot be applied; edits.py functions FILE, for each
+line the number of the function that it is a part of, and whether of its head or its body, or 'no function'.
 """
 import os
 import re
@@ -158,21 +159,32 @@ def parts_of_lines(text):
     return said
 
 
-def main(command, path, repository=None):
+def place_of(edit, repository):
+    """Where an edit changes a repository first, the error that it names, and whether it changes a body alone."""
+    file, old, _ = edit.changes[0]
+    text = read(f"{repository}/crates/{edit.crate}/{file}")
+    first = text.count("\n", 0, text.index(old))
+    parts = sorted(set(parts_of_lines(text)[first : first + old.rstrip("\n").count("\n") + 1]))
+    numbers = "-".join(sorted({part.split(" ")[0] for part in parts}))
+    way = "beside" if all(part.endswith("body") for part in parts) else "alone"
+    return f"{file}:{numbers} {edit.said['error']} {edit.path} {way}"
+
+
+def main(command, path, *others):
     if command == "functions":
         print(*parts_of_lines(read(path)), sep="\n")
         return
-    edit = Edit(path)
-    if command == "lines":
-        file, old, _ = edit.changes[0]
-        text = read(f"{repository}/crates/{edit.crate}/{file}")
-        first = text.count("\n", 0, text.index(old)) + 1
-        print(f"{first},{first + old.rstrip(chr(10)).count(chr(10))}")
-        return
-    try:
-        edit.apply(repository)
-    except Unapplied as why:
-        sys.exit(str(why))
+    for edit in map(Edit, others if command == "places" else [path]):
+        try:
+            if command == "places":
+                edit.texts(path, edit.changes)
+                print(place_of(edit, path))
+            else:
+                edit.apply(*others)
+        except Unapplied as why:
+            if command == "apply":
+                sys.exit(str(why))
+            print(why)
 
 
 if __name__ == "__main__":
