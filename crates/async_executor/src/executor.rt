@@ -22,7 +22,6 @@ use crate::futures::shared::SharedStorage;
 pub use crate::runner::RunError;
 use crate::scheduler::ExecutorIn;
 pub use crate::scheduler::SpawnMany;
-use crate::static_executors::StaticExecutor;
 pub use crate::task::Cancelled;
 pub use crate::waker::TaskWaker;
 pub use executor_core::limits::{Limits, NewError};
@@ -318,29 +317,7 @@ where
         }
     }
 
-    /// The same executor, for as long as the program lives: its drop cancels nothing. Every task is
-    /// woken, and the idle ones are scheduled by rising slot, behind all that are. Otherwise all goes on as
-    /// it was: the queues and the numbers, and the handles and the wakers that were made before. It
-    /// takes no memory.
-    ///
-    /// Example: `uses::leaks`, and on several threads `uses::serves`.
-    ///
-    /// ```text
-    /// let executor: Executor<Ready<u64>, NoopWaker, R> = Executor::new(rt.clone()?, alloc)?;
-    /// executor.spawn(Ready::new(1))?.detach();
-    /// let server = executor.leak();
-    /// server.spawn(Ready::new(2))?.detach();
-    /// // [true, true]
-    /// Ok([server.try_tick(), server.try_tick()])
-    /// ```
-    pub fn leak(self) -> StaticExecutor<F, W, R>
-        ensures { result.executor ≡ self }
-    {
-        self.inner.wake_all();
-        StaticExecutor { executor: self }
-    }
-
-    /// Lets the executor go, and cancels nothing.
+    /// Lets an `Executor` go, and cancels nothing.
     pub(crate) fn let_go(self) {
         let Executor { inner } = self;
         drop(inner);

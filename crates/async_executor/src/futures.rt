@@ -40,7 +40,7 @@ pub struct FutureTable<F, S, T> {
 pub type Out<F, W, R> = Option<(F, TaskWaker<W, R>)>;
 
 impl<F: Drop, S: Drop, T: Drop> FutureTable<F, S, T> {
-    /// A table without places.
+    /// A `FutureTable` without places.
     pub(crate) fn new(alloc: Global) -> FutureTable<F, S, T>
         ensures { result.places.items ≡ [] }
     {
@@ -49,7 +49,7 @@ impl<F: Drop, S: Drop, T: Drop> FutureTable<F, S, T> {
         }
     }
 
-    /// Makes sure of a place for one task more.
+    /// Makes sure of a place for the future of one task more.
     pub(crate) fn reserve(&mut self) -> Result<(), OutOfMemory>
         ensures same { self.new.places.items ≡ self.old.places.items }
         ensures ok { OnOk result (HasRoom self.new) }
@@ -58,7 +58,7 @@ impl<F: Drop, S: Drop, T: Drop> FutureTable<F, S, T> {
         Ok(())
     }
 
-    /// Makes places for this many tasks more.
+    /// Makes places for the futures of this many tasks more.
     pub(crate) fn reserve_places(&mut self, tasks: usize) -> Result<(), OutOfMemory>
         ensures { self.new.places.items ≡ self.old.places.items }
     {
@@ -66,7 +66,7 @@ impl<F: Drop, S: Drop, T: Drop> FutureTable<F, S, T> {
         Ok(())
     }
 
-    /// Gives a new task its place: that of an earlier task, or the next one. Slots are given in
+    /// Gives the future of a new task its place: that of an earlier task, or the next one. Slots are given in
     /// order.
     pub(crate) fn insert(&mut self, id: TaskId, future: F, share: S)
         requires { HasRoom self.old }
@@ -86,7 +86,7 @@ impl<F: Drop, S: Drop, T: Drop> FutureTable<F, S, T> {
         }
     }
 
-    // What is kept of the task, if it has its place.
+    // What this `FutureTable` keeps of the task, if it has its place.
     fn kept(&self, id: TaskId) -> Option<&Kept<F, S, T>>
         ensures kept { option_copied result ≡ kept_at self.now id }
         ensures inside { IsTrue (is_some (kept_at self.now id)) → id.slot < vec_len self.now.places }
@@ -97,7 +97,7 @@ impl<F: Drop, S: Drop, T: Drop> FutureTable<F, S, T> {
         }
     }
 
-    // Whether the task has its place, and nothing is kept of it.
+    // Whether the task has its place in this `FutureTable`, and nothing is kept of it.
     fn is_vacant(&self, id: TaskId) -> bool
         ensures vacant { result ≡ is_vacant (kept_at self.now id) }
         ensures inside { IsTrue result → id.slot < vec_len self.now.places }

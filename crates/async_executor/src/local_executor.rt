@@ -14,10 +14,10 @@ ghost use Rattle.async_executor.specs.SpawnMany.{spawned, SpawnsInTurn, AddsHand
 mod handles;
 mod tickers;
 
-use crate::executor::{RunError, SpawnMany, TaskWaker};
 use crate::futures::local::LocalStorage;
-use crate::scheduler::ExecutorIn;
-use crate::static_executors::StaticLocalExecutor;
+use crate::runner::RunError;
+use crate::scheduler::{ExecutorIn, SpawnMany};
+use crate::waker::TaskWaker;
 use executor_core::limits::{Limits, NewError};
 use executor_core::task::{Future, OutOfMemory, SpawnError, Wake};
 pub use handles::{LocalCancel, LocalFallibleTask, LocalTask};
@@ -59,7 +59,7 @@ where
     W: Wake,
     R: Wait + Clone + Drop,
 {
-    /// As `Executor::new`.
+    /// As `Executor::new`, for tasks that stay on this thread.
     ///
     /// # Errors
     ///
@@ -76,7 +76,7 @@ where
         }
     }
 
-    /// As `Executor::new_with`.
+    /// As `Executor::new_with`, for tasks that stay on this thread.
     ///
     /// # Errors
     ///
@@ -230,26 +230,7 @@ where
         }
     }
 
-    /// As `Executor::leak`.
-    ///
-    /// Example: `uses::leaks_locally`.
-    ///
-    /// ```text
-    /// let executor: LocalExecutor<Ready<u64>, NoopWaker, R> = LocalExecutor::new(rt.clone()?, alloc)?;
-    /// executor.spawn(Ready::new(1))?.detach();
-    /// let server = executor.leak();
-    /// server.spawn(Ready::new(2))?.detach();
-    /// // [true, true]
-    /// Ok([server.try_tick(), server.try_tick()])
-    /// ```
-    pub fn leak(self) -> StaticLocalExecutor<F, W, R>
-        ensures { result.executor ≡ self }
-    {
-        self.inner.wake_all();
-        StaticLocalExecutor { executor: self }
-    }
-
-    /// Lets the executor go, and cancels nothing.
+    /// Lets a `LocalExecutor` go, and cancels nothing.
     pub(crate) fn let_go(self) {
         let LocalExecutor { inner } = self;
         drop(inner);

@@ -71,7 +71,7 @@ pub(crate) struct Lock<T> {
 }
 
 impl<T> Lock<T> {
-    /// A lock that nobody has.
+    /// A `Lock` that nobody has.
     pub(crate) fn new(value: T) -> Lock<T> {
         Lock {
             mutex: Mutex::new(value),
@@ -81,13 +81,13 @@ impl<T> Lock<T> {
         }
     }
 
-    /// The lock, if nobody has it.
+    /// Locks this `Lock`, if nobody has it.
     #[inline(always)]
     pub(crate) fn try_lock(&self) -> Option<MutexGuard<'_, T>> {
         self.mutex.try_lock()
     }
 
-    /// Waits for a lock that was not free.
+    /// Waits for a `Lock` that was not free.
     #[cold]
     #[inline(never)]
     pub(crate) fn wait_for<R: Wait>(&self, rt: &R) -> MutexGuard<'_, T> {

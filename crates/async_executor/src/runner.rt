@@ -22,7 +22,7 @@
 //! limits of its executor say how many that are.
 
 mod run;
-mod words;
+pub(crate) mod words;
 
 pub use crate::machine::{RunAction, RunMachine, RunNext, RunReply, RunRest};
 pub use run::RunError;

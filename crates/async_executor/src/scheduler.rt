@@ -4,30 +4,24 @@
 //! table, and the future is polled or dropped with no lock held. A future that is not ready goes back
 //! there, and then its task is ended in the table. A task with an output is ended in the table first, and
 //! the output goes to the futures if a handle wants it. What neither keeps is dropped after that.
-ghost use Rattle.std.specs.Prelude.{◌≡◌, ◌↔◌, true, false, IfOk, IfErr, IsErr};
+ghost use Rattle.std.specs.Prelude.{◌≡◌, ◌↔◌, true, false, is_some, IfOk, IfErr, IsErr};
 ghost use Rattle.executor_core.specs.Limits.{is_lawful};
 ghost use Rattle.executor_core.specs.SpawnError.{refused_future};
-ghost use Rattle.async_executor.specs.RunError.{run_future};
-ghost use Rattle.async_executor.specs.Runs.{has_ended, IsNewRun};
 ghost use Rattle.executor_core.specs.declared.limits.NewError.TheVariants as NewError;
 ghost use Rattle.async_executor.specs.Deferred.{IsHeldRight, IsDeferredRight};
 
 mod closing;
 mod many;
-mod workers;
 
 use crate::deferred::Deferred;
 use crate::futures::storage::{OutIn, OutputIn, Shareable, Storage};
 use crate::futures::transactions;
 use crate::poller::TaskPoller;
-use crate::runner::{RunError, RunIn};
 use crate::state::{ExecutorState, announce, cells};
 use crate::task::TaskIn;
-use crate::ticker::TickIn;
 use executor_core::limits::{Limits, NewError};
-use executor_core::queue::Ring;
 use executor_core::task::{
-    EndPending, Future, Held, OutOfMemory, Ran, SpawnError, Taken, TaskId, run_taken,
+    EndPending, Future, Held, Notice, OutOfMemory, Ran, SpawnError, Taken, TaskId, run_taken,
 };
 pub(crate) use many::Handle;
 pub use many::SpawnMany;
@@ -54,12 +48,13 @@ macro_rules! take_and_run {
 #[derive(Drop)]
 pub struct ExecutorIn<S: Storage> {
     storage: S,
-    limits: Limits,
+    pub(crate) limits: Limits,
     ghost lawful: { is_lawful limits ≡ true },
 }
 
 impl<S: Shareable> ExecutorIn<S> {
-    /// An executor without tasks, with these limits, if they are lawful.
+    /// `Executor::new_with`, for both kinds of storage: an executor without tasks, with these limits, if they
+    /// are lawful.
     pub(crate) fn new_with(
         rt: S::Runtime,
         alloc: Global,
@@ -78,7 +73,8 @@ impl<S: Shareable> ExecutorIn<S> {
         }
     }
 
-    /// Schedules the future as a new task, behind all that are scheduled.
+    /// `Executor::spawn`, for both kinds of storage: schedules the future as a new task, behind all that are
+    /// scheduled.
     pub(crate) fn spawn(&self, future: S::Future) -> Result<TaskIn<S>, SpawnError<S::Future>>
         ensures ok { IfOk result (λ task. task.answered ≡ false) }
         ensures refused { IfErr result (λ e. refused_future e ≡ future) }
@@ -93,12 +89,12 @@ impl<S: Shareable> ExecutorIn<S> {
 }
 
 impl<S: Storage> ExecutorIn<S> {
-    /// Whether the future of every task was dropped.
+    /// `Executor::is_empty`, for both kinds of storage: whether the future of every task was dropped.
     pub(crate) fn is_empty(&self) -> bool {
         self.storage.state().cells().is_empty()
     }
 
-    /// Wakes every task, and spends the notice of those that were queued.
+    /// Wakes every task of this `ExecutorIn`, and spends the notice of those that were queued.
     pub(crate) fn wake_all(&self) {
         let state = self.state();
         let woken = state.cells().wake_all();
@@ -107,62 +103,44 @@ impl<S: Storage> ExecutorIn<S> {
         }
     }
 
-    /// Runs the task that was scheduled first, and says whether there was one.
+    /// `Executor::try_tick`, for both kinds of storage: runs the task that was scheduled first, and says
+    /// whether there was one.
     pub(crate) fn try_tick(&self) -> bool {
         take_and_run!(self, take_global)
     }
 
-    /// Runs the first task of the global queue, else that of the first run's queue that has one, and
-    /// says whether there was one.
+    /// `Executor::try_tick_any`, for both kinds of storage: runs the first task of the global queue, else
+    /// that of the first run's queue that has one, and says whether there was one.
     pub(crate) fn try_tick_any(&self) -> bool {
         take_and_run!(self, take_any)
     }
 
-    /// A future that runs one task, for which a sleeper's place is reserved here.
-    pub(crate) fn tick(&self) -> Result<TickIn<'_, S>, OutOfMemory>
-        ensures { IfOk result (λ tick. tick.rest ≡ record { number = 0; ended = false }) }
-    {
-        self.state().reserve_sleeper()?;
-        Ok(TickIn::new(self))
-    }
-
-    /// A future that runs tasks beside this one. The queue of its runner is made here, and a
-    /// sleeper's and a runner's place are reserved. What was made before a refusal is given back.
-    pub(crate) fn run<G: Future<S::Waker>>(&self, future: G) -> Result<RunIn<'_, S, G>, RunError<G>>
-        ensures ok { IfOk result (λ run. has_ended run.rest ≡ false) }
-        ensures limits { IfOk result (λ run. IsNewRun self.now.limits run.rest run.own.ring) }
-        ensures refused { IfErr result (λ e. run_future e ≡ future) }
-    {
-        let state = self.state();
-        let Ok(ring) = Ring::new(state.alloc(), self.limits.local) else {
-            return Err(RunError::OutOfMemory(future));
-        };
-        // Before the runner's place: no number is given twice, so one that is refused later is lost.
-        if state.reserve_sleeper().is_err() {
-            return Err(RunError::OutOfMemory(future));
-        }
-        let reserved = state.cells().reserve_runner();
-        match reserved {
-            Ok(key) => Ok(RunIn::new(self, key, self.limits, ring, future)),
-            Err(error) => {
-                state.release_sleeper();
-                Err(RunError::of(error, future))
-            }
-        }
-    }
-
-    /// What the executor shares with its handles and its wakers.
+    /// What this `ExecutorIn` shares with its handles and its wakers.
     pub(crate) fn state(&self) -> &ExecutorState<S::Waker, S::Runtime> {
         self.storage.state()
     }
 
-    /// What keeps the futures of its tasks.
+    /// The storage of this `ExecutorIn`, which keeps the futures of its tasks.
     pub(crate) fn storage(&self) -> &S {
         &self.storage
     }
 
-    /// Polls the future of a taken task once, or drops it if the task was cancelled, and ends
-    /// the task. No lock may be held.
+    /// Runs a task of this `ExecutorIn` that was found, and says whether there was one. No lock may be held.
+    #[inline(always)]
+    pub(crate) fn run_found(&self, found: Option<(Taken<()>, Notice)>) -> bool
+        ensures { result ≡ is_some found }
+    {
+        let Some((taken, notice)) = found else {
+            return false;
+        };
+        // Before the task is run, which may take long: somebody else may go on with the queue.
+        announce!(self.state(), notice);
+        self.run_task(taken);
+        true
+    }
+
+    /// Runs a taken task of this `ExecutorIn`: polls its future once, or drops it if the task was cancelled,
+    /// and ends the task. No lock may be held.
     pub(crate) fn run_task(&self, taken: Taken<()>) {
         let id = taken.id();
         let mut out = transactions::take(&self.storage, id);
@@ -170,7 +148,7 @@ impl<S: Storage> ExecutorIn<S> {
         self.end(id, ran, &mut out);
     }
 
-    /// Ends a task that was run. No lock may be held.
+    /// Ends a task of this `ExecutorIn` that was run. No lock may be held.
     #[inline(always)]
     pub(crate) fn end(&self, id: TaskId, ran: Ran<(), OutputIn<S>>, out: &mut OutIn<S>)
         requires { IsHeldRight ran }
@@ -188,8 +166,8 @@ impl<S: Storage> ExecutorIn<S> {
         }
     }
 
-    /// Does what the end of a task has left to do. A future that was refused is dropped. No lock
-    /// may be held.
+    /// Does what the end of a task of this `ExecutorIn` has left to do. A future that was refused is dropped.
+    /// No lock may be held.
     pub(crate) fn finish(&self, id: TaskId, deferred: Deferred<S::Waker, OutputIn<S>>)
         requires { IsDeferredRight deferred }
     {
@@ -211,7 +189,7 @@ impl<S: Storage> ExecutorIn<S> {
         }
     }
 
-    // Drops a future that was put back, whose task was cancelled while it was polled.
+    // Drops a future of this `ExecutorIn` that was put back, whose task was cancelled while it was polled.
     fn drop_pending(&self, id: TaskId, held: Held)
         requires { held.to_drop ≡ true }
     {
@@ -219,7 +197,7 @@ impl<S: Storage> ExecutorIn<S> {
         self.end_dropped(held);
     }
 
-    // Ends a task that is pending, with nothing to put back.
+    // Ends a task of this `ExecutorIn` that is pending, with nothing to put back.
     #[cold]
     #[inline(never)]
     fn end_pending(&self, id: TaskId, held: Held)
@@ -233,7 +211,7 @@ impl<S: Storage> ExecutorIn<S> {
         }
     }
 
-    // Ends a task whose future was dropped.
+    // Ends a task of this `ExecutorIn` whose future was dropped.
     #[inline(always)]
     fn end_dropped(&self, held: Held)
         requires { held.to_drop ≡ true }
@@ -245,8 +223,8 @@ impl<S: Storage> ExecutorIn<S> {
     }
 }
 
-/// Polls the future of a taken task once, or drops it if the task was cancelled. No lock may be
-/// held.
+/// Polls the future of a task taken from an `ExecutorIn` once, or drops it if the task was cancelled. No lock
+/// may be held.
 #[inline(always)]
 pub(crate) fn poll_taken<S: Storage>(taken: Taken<()>, out: &mut OutIn<S>) -> Ran<(), OutputIn<S>>
     ensures { IsHeldRight result }

@@ -18,7 +18,7 @@
 //! `Notice` until its next search spends it. If it is dropped before that, it passes the notice on, and
 //! another sleeper may be woken in its place. The same holds of a task that it saw and did not take. A
 //! `Notice` can be neither copied nor dropped, so a path that forgets one does not compile.
-ghost use Rattle.std.specs.Prelude.{◌≡◌, None, true, is_some, MatchResult};
+ghost use Rattle.std.specs.Prelude.{◌≡◌, None, true, is_some, IfOk, MatchResult};
 
 use crate::futures::storage::Storage;
 use crate::scheduler::ExecutorIn;
@@ -36,7 +36,7 @@ pub struct SleeperIn<'a, S: Storage> {
     notice: Option<Notice>,
 }
 
-// Takes the sleeper of this number out of the list, and stores the flag before the list's lock is given
+// Takes the `SleeperIn` of this number out of the list, and stores the flag before the list's lock is given
 // up. There is a notice if it was notified.
 fn remove<W: Wake, R: Wait + Clone + Drop>(
     state: &ExecutorState<W, R>,
@@ -51,7 +51,8 @@ fn remove<W: Wake, R: Wait + Clone + Drop>(
     notice
 }
 
-// Puts a waker at the end of the list, and stores the flag. It comes back if no reserved place is free.
+// Puts the waker of a `SleeperIn` at the end of the list, and stores the flag. It comes back if no reserved
+// place is free.
 fn insert<W: Wake, R: Wait + Clone + Drop>(
     state: &ExecutorState<W, R>,
     waker: W,
@@ -64,9 +65,20 @@ fn insert<W: Wake, R: Wait + Clone + Drop>(
     }
 }
 
+impl<S: Storage> ExecutorIn<S> {
+    /// `Executor::sleeper`, for both kinds of storage: one that is awake, whose place is reserved here.
+    pub(crate) fn sleeper(&self) -> Result<SleeperIn<'_, S>, OutOfMemory>
+        ensures awake { IfOk result (λ sleeper. sleeper.number ≡ None) }
+        ensures own { IfOk result (λ sleeper. sleeper.executor.now ≡ self.now) }
+    {
+        self.state().reserve_sleeper()?;
+        Ok(SleeperIn::new(self))
+    }
+}
+
 impl<'a, S: Storage> SleeperIn<'a, S> {
-    /// One that is awake. It has a reserved place among the sleepers.
-    pub(crate) fn new(executor: &'a ExecutorIn<S>) -> SleeperIn<'a, S>
+    // A `SleeperIn` that is awake. It has a reserved place among the sleepers.
+    fn new(executor: &'a ExecutorIn<S>) -> SleeperIn<'a, S>
         ensures awake { result.number ≡ None }
         ensures own { result.executor.now ≡ executor.now }
     {
@@ -79,7 +91,8 @@ impl<'a, S: Storage> SleeperIn<'a, S> {
 }
 
 impl<S: Storage> SleeperIn<'_, S> {
-    /// Puts a copy of the waker into the list, and looks for a task after that.
+    /// `Sleeper::sleep`, for both kinds of storage: puts a copy of the waker into the list, and looks for a
+    /// task after that.
     pub(crate) fn sleep(&mut self, w: &S::Waker) -> Result<bool, OutOfMemory>
         ensures asleep { MatchResult result (λ asleep. is_some self.new.number ≡ asleep) (λ _. self.new.number ≡ None) }
     {
@@ -129,7 +142,8 @@ impl<S: Storage> SleeperIn<'_, S> {
         }
     }
 
-    /// Leaves the sleepers, and says whether a task stands in any queue: then it owes a search.
+    /// `Sleeper::look`, for both kinds of storage: leaves the sleepers, and says whether a task stands in any
+    /// queue: then it owes a search.
     pub(crate) fn look(&mut self) -> bool
         ensures awake { self.new.number ≡ None }
         ensures told { result ≡ is_some self.new.notice }
@@ -139,7 +153,7 @@ impl<S: Storage> SleeperIn<'_, S> {
         self.look_at_all(again)
     }
 
-    /// Leaves the sleepers, and says whether it owes a search.
+    /// `Sleeper::leave`, for both kinds of storage: leaves the sleepers, and says whether it owes a search.
     pub(crate) fn leave(&mut self) -> bool
         ensures awake { self.new.number ≡ None }
         ensures told { result ≡ is_some self.new.notice }
@@ -154,7 +168,7 @@ impl<S: Storage> SleeperIn<'_, S> {
         self.notice.is_some()
     }
 
-    // Keeps a notice, with one that it has.
+    // Keeps a notice in a `SleeperIn`, with one that it has.
     fn keep(&mut self, notice: Notice)
         ensures number { self.new.number ≡ self.old.number }
         ensures kept { is_some self.new.notice ≡ true }
@@ -169,7 +183,8 @@ impl<S: Storage> SleeperIn<'_, S> {
         }
     }
 
-    /// Leaves the sleepers, and passes on what it was notified of, or saw.
+    /// `Sleeper::pass_on`, for both kinds of storage: leaves the sleepers, and passes on what it was notified
+    /// of, or saw.
     pub(crate) fn pass_on(&mut self)
         ensures awake { self.new.number ≡ None }
         ensures spent { self.new.notice ≡ None }
@@ -180,8 +195,8 @@ impl<S: Storage> SleeperIn<'_, S> {
         }
     }
 
-    /// Leaves the sleepers, and runs a task of any queue, if there is one. That is the search which it
-    /// owes.
+    /// `Sleeper::try_tick_any`, for both kinds of storage: leaves the sleepers, and runs a task of any queue,
+    /// if there is one. That is the search which it owes.
     pub(crate) fn try_tick_any(&mut self) -> bool
         ensures awake { self.new.number ≡ None }
         ensures spent { self.new.notice ≡ None }

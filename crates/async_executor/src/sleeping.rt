@@ -44,9 +44,9 @@ pub(crate) enum Slept<A> {
     Rested(Rested<A>),
 }
 
-/// Puts a copy of the waker into the list, in place of an earlier one, and stores the flag if the
-/// list was changed. If the copy is refused, the waker itself is woken. If this poll has put a copy
-/// there, one that was not notified since sleeps on by that.
+/// Puts a tick or a run to sleep: puts a copy of the waker into the list, in place of an earlier one, and
+/// stores the flag if the list was changed. If the copy is refused, the waker itself is woken. If this poll
+/// has put a copy there, one that was not notified since sleeps on by that.
 #[inline(always)]
 pub(crate) fn sleep<A, W: Wake, R: Wait + Clone + Drop>(
     state: &ExecutorState<W, R>,
@@ -94,8 +94,8 @@ pub(crate) fn sleep<A, W: Wake, R: Wait + Clone + Drop>(
     }
 }
 
-// Gives the list's lock up, and drops the waker of a number that was removed after that. There is a
-// notice if it was notified.
+// Gives the lock of the list of sleepers up, and drops the waker of a number that was removed after that.
+// There is a notice if it was notified.
 #[inline(always)]
 fn unlock<W: Wake>(
     guard: MutexGuard<'_, ClosedSleepers<W>>,
@@ -107,7 +107,7 @@ fn unlock<W: Wake>(
     notice
 }
 
-/// Leaves the sleepers for good. What a number was notified of is passed on.
+/// A tick or a run leaves the sleepers for good. What a number was notified of is passed on.
 pub(crate) fn leave<A, W: Wake, R: Wait + Clone + Drop>(
     state: &ExecutorState<W, R>,
     departing: Departing<A>,

@@ -91,24 +91,24 @@ pub(crate) struct Parts<W, R> {
 
 // Never blocks, so it needs no `Wait` bound, and its callers pay no check.
 impl<W, R> ExecutorState<W, R> {
-    /// The right to wait.
+    /// The right to wait that this `ExecutorState` keeps.
     pub(crate) fn rt(&self) -> &R {
         &self.parts.rt
     }
 
-    /// The allocator.
+    /// The allocator that this `ExecutorState` keeps.
     pub(crate) fn alloc(&self) -> Global {
         self.parts.alloc
     }
 
-    /// Spends the notice of a task that was queued or taken. If somebody sleeps and nobody was
-    /// notified since, a sleeper is to be notified. It takes no lock.
+    /// Exchanges the flag of this `ExecutorState`: spends the notice of a task that was queued or taken. If
+    /// somebody sleeps and nobody was notified since, a sleeper is to be notified. It takes no lock.
     pub(crate) fn exchange(&self, notice: Notice) -> Option<Pick> {
         self.flag.exchange(notice)
     }
 
-    /// Stores the flag of this state for a change of the list of sleepers, under the lock under which it was
-    /// changed, and gives what else the change carries.
+    /// Stores the flag of this `ExecutorState` for a change of the list of sleepers, under the lock under
+    /// which it was changed, and gives what else the change carries.
     pub(crate) fn store<X>(&self, change: Change<X>, sleepers: &mut Sleepers<W>) -> X
         ensures list { sleepers.new ≡ closed sleepers.old }
         ensures carried { result ≡ change.carried }
@@ -116,7 +116,8 @@ impl<W, R> ExecutorState<W, R> {
         self.flag.store(change, sleepers)
     }
 
-    /// How many sleep. `None` if the lock is taken, for which it does not wait.
+    /// How many sleepers of this `ExecutorState` sleep. `None` if the lock is taken, for which it does not
+    /// wait.
     pub(crate) fn sleepers_in_use(&self) -> Option<usize> {
         let guard = self.parts.sleepers.try_lock()?;
         Some(guard.sleepers.numbers())
@@ -124,7 +125,7 @@ impl<W, R> ExecutorState<W, R> {
 }
 
 impl<W: Wake, R: Wait + Clone + Drop> ExecutorState<W, R> {
-    /// The state of an executor that has no tasks.
+    /// The `ExecutorState` of an executor that has no tasks.
     pub(crate) fn new(rt: R, alloc: Global) -> Result<ExecutorState<W, R>, OutOfMemory> {
         let parts = Parts {
             before_all: BORDER,
@@ -145,8 +146,8 @@ impl<W: Wake, R: Wait + Clone + Drop> ExecutorState<W, R> {
         }
     }
 
-    /// Waits for the table of tasks, which is locked until the guard is dropped. It comes with its
-    /// law: a task stands once in the queues if it is scheduled, and otherwise in none.
+    /// Waits for the table of tasks of this `ExecutorState`, which is locked until the guard is dropped. It
+    /// comes with its law: a task stands once in the queues if it is scheduled, and otherwise in none.
     #[inline(always)]
     pub(crate) fn cells(&self) -> MutexGuard<'_, Cells<(), (), W>>
         ensures { LockLaw (mutex_guard_value result) }
@@ -157,8 +158,8 @@ impl<W: Wake, R: Wait + Clone + Drop> ExecutorState<W, R> {
         cells
     }
 
-    /// Waits for the sleepers, which are locked until the guard is dropped. They come with their
-    /// law, and the flag was stored for each change of their list.
+    /// Waits for the sleepers of this `ExecutorState`, which are locked until the guard is dropped. They come
+    /// with their law, and the flag was stored for each change of their list.
     pub(crate) fn sleepers(&self) -> MutexGuard<'_, ClosedSleepers<W>>
         ensures closed { (mutex_guard_value result).sleepers.is_open ≡ false }
         ensures law { SleeperLaw (mutex_guard_value result).sleepers }
@@ -166,12 +167,13 @@ impl<W: Wake, R: Wait + Clone + Drop> ExecutorState<W, R> {
         sleepers!(self)
     }
 
-    /// Takes the waker of the sleeper that is to be notified.
+    /// Takes the waker of the sleeper of this `ExecutorState` that is to be notified.
     pub(crate) fn notify_sleeper(&self, pick: Pick) -> Option<Wakeup<W>> {
         self.sleepers().sleepers.notify(pick)
     }
 
-    /// Wakes the sleeper that is to be notified, once the lock is given up. No lock may be held.
+    /// Wakes the sleeper of this `ExecutorState` that is to be notified, once the lock is given up. No lock
+    /// may be held.
     #[cold]
     #[inline(never)]
     pub(crate) fn notify(&self, pick: Pick) {
@@ -180,12 +182,12 @@ impl<W: Wake, R: Wait + Clone + Drop> ExecutorState<W, R> {
         }
     }
 
-    /// Reserves the place of one sleeper.
+    /// Reserves the place of one sleeper of this `ExecutorState`.
     pub(crate) fn reserve_sleeper(&self) -> Result<(), OutOfMemory> {
         self.sleepers().sleepers.reserve()
     }
 
-    /// Gives the place of one sleeper back.
+    /// Gives back the place of one sleeper of this `ExecutorState`.
     pub(crate) fn release_sleeper(&self) {
         self.sleepers().sleepers.release();
     }

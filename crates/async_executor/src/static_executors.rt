@@ -5,8 +5,9 @@ ghost use Rattle.std.specs.Prelude.{◌≡◌, ◌↔◌, false, IfOk, IfErr, Is
 ghost use Rattle.executor_core.specs.Limits.{is_lawful, default_limits};
 ghost use Rattle.executor_core.specs.declared.limits.NewError.TheVariants as NewError;
 
-use crate::executor::{Executor, TaskWaker};
+use crate::executor::Executor;
 use crate::local_executor::LocalExecutor;
+use crate::waker::TaskWaker;
 use executor_core::limits::{Limits, NewError};
 use executor_core::task::{Future, OutOfMemory, Wake};
 use std::alloc::Global;
@@ -37,6 +38,35 @@ where
     pub(crate) executor: Executor<F, W, R>,
 }
 
+impl<F, W, R> Executor<F, W, R>
+where
+    F: Future<TaskWaker<W, R>>,
+    W: Wake,
+    R: Wait + Clone + Drop,
+{
+    /// The same executor, for as long as the program lives: its drop cancels nothing. Every task is
+    /// woken, and the idle ones are scheduled by rising slot, behind all that are. Otherwise all goes on as
+    /// it was: the queues and the numbers, and the handles and the wakers that were made before. It
+    /// takes no memory.
+    ///
+    /// Example: `uses::leaks`, and on several threads `uses::serves`.
+    ///
+    /// ```text
+    /// let executor: Executor<Ready<u64>, NoopWaker, R> = Executor::new(rt.clone()?, alloc)?;
+    /// executor.spawn(Ready::new(1))?.detach();
+    /// let server = executor.leak();
+    /// server.spawn(Ready::new(2))?.detach();
+    /// // [true, true]
+    /// Ok([server.try_tick(), server.try_tick()])
+    /// ```
+    pub fn leak(self) -> StaticExecutor<F, W, R>
+        ensures { result.executor ≡ self }
+    {
+        self.inner.wake_all();
+        StaticExecutor { executor: self }
+    }
+}
+
 impl<F, W, R> StaticExecutor<F, W, R>
 where
     F: Future<TaskWaker<W, R>> + Send,
@@ -44,7 +74,7 @@ where
     W: Wake + Send,
     R: Wait + Clone + Drop + Send + Sync,
 {
-    /// As `Executor::new`.
+    /// A `StaticExecutor`, made as by `Executor::new`.
     ///
     /// # Errors
     ///
@@ -58,7 +88,7 @@ where
         Ok(StaticExecutor { executor })
     }
 
-    /// As `Executor::new_with`.
+    /// A `StaticExecutor`, made as by `Executor::new_with`.
     ///
     /// # Errors
     ///
@@ -141,13 +171,39 @@ where
     pub(crate) executor: LocalExecutor<F, W, R>,
 }
 
+impl<F, W, R> LocalExecutor<F, W, R>
+where
+    F: Future<TaskWaker<W, R>>,
+    W: Wake,
+    R: Wait + Clone + Drop,
+{
+    /// As `Executor::leak`: a `StaticLocalExecutor`.
+    ///
+    /// Example: `uses::leaks_locally`.
+    ///
+    /// ```text
+    /// let executor: LocalExecutor<Ready<u64>, NoopWaker, R> = LocalExecutor::new(rt.clone()?, alloc)?;
+    /// executor.spawn(Ready::new(1))?.detach();
+    /// let server = executor.leak();
+    /// server.spawn(Ready::new(2))?.detach();
+    /// // [true, true]
+    /// Ok([server.try_tick(), server.try_tick()])
+    /// ```
+    pub fn leak(self) -> StaticLocalExecutor<F, W, R>
+        ensures { result.executor ≡ self }
+    {
+        self.inner.wake_all();
+        StaticLocalExecutor { executor: self }
+    }
+}
+
 impl<F, W, R> StaticLocalExecutor<F, W, R>
 where
     F: Future<TaskWaker<W, R>>,
     W: Wake,
     R: Wait + Clone + Drop,
 {
-    /// As `LocalExecutor::new`.
+    /// A `StaticLocalExecutor`, made as by `LocalExecutor::new`.
     ///
     /// # Errors
     ///
@@ -161,7 +217,7 @@ where
         Ok(StaticLocalExecutor { executor })
     }
 
-    /// As `LocalExecutor::new_with`.
+    /// A `StaticLocalExecutor`, made as by `LocalExecutor::new_with`.
     ///
     /// # Errors
     ///

@@ -33,7 +33,7 @@ pub struct TaskIn<S: Storage> {
 }
 
 impl<S: Storage> TaskIn<S> {
-    /// The handle of a new task.
+    /// The `TaskIn` of a new task.
     pub(crate) fn new(storage: S, id: TaskId) -> TaskIn<S>
         ensures { result.answered ≡ false }
     {
@@ -44,7 +44,7 @@ impl<S: Storage> TaskIn<S> {
         }
     }
 
-    /// Lets the task run on without a handle.
+    /// `Task::detach`, for both kinds of storage: lets the task run on without a handle.
     pub(crate) fn detach(self) {
         let TaskIn {
             storage,
@@ -65,8 +65,8 @@ impl<S: Storage> TaskIn<S> {
         drop(awaiter);
     }
 
-    /// Cancels the task at once: it is scheduled, and its future is dropped in place of its next
-    /// poll.
+    /// `Task::cancel`, for both kinds of storage. The task is scheduled at once, and its future is dropped in
+    /// place of its next poll.
     pub(crate) fn cancel(&self) {
         let state = self.storage.state();
         let notice = cells!(state).cancel(self.id);
@@ -75,15 +75,16 @@ impl<S: Storage> TaskIn<S> {
         }
     }
 
-    /// Whether the task has ended or was cancelled, or this handle has answered.
+    /// `Task::is_finished`, for both kinds of storage: whether the task has ended or was cancelled, or this
+    /// handle has answered.
     pub(crate) fn is_finished(&self) -> bool
         ensures { IsTrue self.now.answered → IsTrue result }
     {
         self.answered || cells!(self.storage.state()).is_finished(self.id)
     }
 
-    // Answers for a task that ended while its handle was polled. It is inline around the call, so that
-    // the room of what that gives is cleared on this path alone.
+    // Answers for a `TaskIn` whose task ended while the handle was polled. It is inline around the call, so
+    // that the room of what that gives is cleared on this path alone.
     #[inline(always)]
     fn answer_late(&mut self) -> Poll<Result<OutputIn<S>, Cancelled>>
         ensures answered { self.new.answered ≡ true }
@@ -95,7 +96,7 @@ impl<S: Storage> TaskIn<S> {
     }
 }
 
-// Ends the handle of a task that has ended.
+// Detaches a `TaskIn` whose task has ended.
 #[cold]
 #[inline(never)]
 fn detach_ended<S: Storage>(storage: &S, id: TaskId) {
@@ -145,7 +146,7 @@ impl<S: Storage> Drop for TaskIn<S> {
     }
 }
 
-// Cancels the task of a handle that has not answered, and ends the handle.
+// Cancels the task of a `TaskIn` that has not answered, and ends the handle.
 #[inline(never)]
 fn drop_unanswered<S: Storage>(storage: &S, id: TaskId) {
     let state = storage.state();

@@ -59,7 +59,7 @@ pub(crate) struct LentWake {
 }
 
 impl LentWake {
-    /// That of a poll that was lent no waker.
+    /// The `LentWake` of a poll that was lent no waker.
     #[inline(always)]
     pub(crate) fn none() -> LentWake
         ensures { result.is_woken ≡ false }
@@ -67,7 +67,7 @@ impl LentWake {
         LentWake { is_woken: false }
     }
 
-    /// Wakes the task of this id, which is that of the poll, if the waker was woken.
+    /// Wakes the task of this id, which is that of the poll, if the waker that was lent was woken.
     #[inline(always)]
     pub(crate) fn make<W>(self, id: TaskId, cells: &mut Cells<(), (), W>) -> Option<Notice>
         ensures { cells.new ≡ cond self.is_woken (after_wake cells.old id) cells.old }

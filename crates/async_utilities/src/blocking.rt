@@ -32,7 +32,7 @@ pub struct ThreadWaker {
 }
 
 impl ThreadWaker {
-    /// A waker that has not been woken.
+    /// A `ThreadWaker` that has not been woken.
     ///
     /// # Errors
     ///
@@ -53,7 +53,7 @@ impl ThreadWaker {
         self.parker.park(rt);
     }
 
-    /// The same, but no longer than this. It may return before.
+    /// Parks this thread as `park` does, but no longer than this. It may return before.
     ///
     /// Example: `uses::dozes`.
     pub fn park_timeout<R: Wait>(&self, rt: &R, duration: Duration) {
@@ -110,7 +110,7 @@ impl<G> Debug for BlockOnError<G> {
 }
 
 impl<G> BlockOnError<G> {
-    /// The future that was not waited for.
+    /// The future that `block_on` did not wait for.
     ///
     /// Example: `uses::awaited`, at `BlockOnError`.
     pub fn into_inner(self) -> G

@@ -109,7 +109,7 @@ pub fn unbounded<T: Drop, S: Wake, V: Wake, R: Wait + Drop>(
     ends_of(rt, alloc, usize::MAX, state)
 }
 
-// The first two ends of a channel with this state.
+// For `bounded` and `unbounded`: the first two ends of a channel with this state.
 fn ends_of<T: Drop, S: Wake, V: Wake, R: Wait + Drop>(
     rt: R,
     alloc: Global,
@@ -177,28 +177,28 @@ impl<T: Drop, S: Wake, V: Wake, R: Wait + Drop> Channel<T, S, V, R> {
         self.state().is_closed
     }
 
-    /// How many messages are inside.
+    /// How many messages are inside this `Channel`.
     ///
     /// Example: `uses::looks_inside`, at `Channel`.
     pub fn len(&self) -> usize {
         self.state().messages.len()
     }
 
-    /// Whether no message is inside.
+    /// Whether no message is inside this `Channel`.
     ///
     /// Example: `uses::closes_a_channel`.
     pub fn is_empty(&self) -> bool {
         self.len() == 0
     }
 
-    /// Whether there is no room for a message.
+    /// Whether this `Channel` has no room for a message.
     ///
     /// Example: `uses::closes_a_channel`.
     pub fn is_full(&self) -> bool {
         self.len() >= self.capacity
     }
 
-    /// For how many messages there is room. An unbounded channel has `usize::MAX`.
+    /// For how many messages this `Channel` has room. An unbounded one has `usize::MAX`.
     ///
     /// Example: `uses::looks_inside`, at `Channel`.
     pub fn capacity(&self) -> usize

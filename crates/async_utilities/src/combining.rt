@@ -56,7 +56,7 @@ pub trait Change<A>: Drop {
     /// What is made of an output.
     ghost makes: { Self → A → Self.Output };
 
-    /// Makes it.
+    /// Applies this `Change` to an output.
     fn change(self, output: A) -> Self::Output
         ensures { result ≡ makes self output };
 }
@@ -201,7 +201,7 @@ pub(crate) enum Half<G, T> {
 }
 
 impl<G, T> Half<G, T> {
-    // Polls the future, unless its output is there, and keeps the output.
+    // Polls this half of a `Zip`, unless its output is there, and keeps the output.
     fn poll<W>(&mut self, w: &W) -> bool
     where
         G: Future<W, Output = T>,
@@ -220,7 +220,7 @@ impl<G, T> Half<G, T> {
         }
     }
 
-    // The output that is kept.
+    // The output that this half of a `Zip` kept.
     fn kept(self) -> T
         requires { is_open self ≡ false }
         ensures { self ≡ Half.Kept result }
@@ -313,7 +313,7 @@ pub struct Or<A, B> {
 }
 
 impl<A, B> Or<A, B> {
-    /// Awaits the first of them.
+    /// An `Or`: awaits the first of them.
     ///
     /// Example: `uses::takes_the_first`, at `Or`.
     pub fn new(left: A, right: B) -> Or<A, B>
@@ -375,7 +375,7 @@ pub struct Race<A, B> {
 }
 
 impl<A, B> Race<A, B> {
-    /// Awaits the first of them.
+    /// A `Race`: awaits the first of them.
     ///
     /// Example: `uses::alternates`, at `Race`.
     pub fn new(left: A, right: B) -> Race<A, B>

@@ -9,7 +9,7 @@ pub(crate) enum Due<W> {
 }
 
 impl<W: Wake> Due<W> {
-    /// Wakes it.
+    /// Wakes the one that is due, if there is one.
     #[inline(always)]
     pub(crate) fn wake(self) {
         match self {
@@ -27,7 +27,7 @@ pub(crate) struct Left<W> {
 }
 
 impl<W: Wake> Left<W> {
-    /// Drops the waker, and wakes whom it is to.
+    /// Drops the waker that is left, and wakes the one that is due.
     pub(crate) fn end(self) {
         let Left { waker, due } = self;
         drop(waker);
@@ -42,7 +42,7 @@ pub(crate) struct AllDue<W> {
 }
 
 impl<W: Wake> AllDue<W> {
-    /// Wakes them, each once.
+    /// Wakes all that are due, each once.
     pub(crate) fn wake(self) {
         let AllDue { mut waiters } = self;
         while !waiters.is_empty() {

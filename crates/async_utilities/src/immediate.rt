@@ -24,7 +24,7 @@ pub struct Ready<T> {
 }
 
 impl<T> Ready<T> {
-    /// Gives this value.
+    /// A `Ready`: gives this value.
     ///
     /// Example: `uses::is_ready_once`, at `Ready`.
     pub fn new(value: T) -> Ready<T>
@@ -94,7 +94,7 @@ pub struct YieldNow {
 }
 
 impl YieldNow {
-    /// One that was not polled yet.
+    /// A `YieldNow` that was not polled yet.
     ///
     /// Example: `uses::yields_once`, at `YieldNow`.
     pub fn new() -> YieldNow

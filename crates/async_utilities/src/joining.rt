@@ -165,7 +165,7 @@ pub struct AnyOf<G> {
 }
 
 impl<G> AnyOf<G> {
-    /// Awaits the first of them. Of none there is no first: ask `is_empty` before.
+    /// An `AnyOf`: awaits the first of them. Of none there is no first: ask `is_empty` before.
     ///
     /// Example: `uses::picks`, at `AnyOf`.
     pub fn new(futures: Vec<G>) -> AnyOf<G>

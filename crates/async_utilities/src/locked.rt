@@ -29,7 +29,7 @@ pub(crate) struct Locked<S, R> {
 }
 
 impl<S: Drop, R: Wait + Drop> Locked<S, R> {
-    /// With its first holder.
+    /// A state behind its lock, with its first holder.
     pub(crate) fn share(rt: R, alloc: Global, state: S) -> Result<Arc<Locked<S, R>>, OutOfMemory> {
         let state = Mutex::new(state);
         match Arc::new(alloc, Locked { state, rt }) {
@@ -38,7 +38,7 @@ impl<S: Drop, R: Wait + Drop> Locked<S, R> {
         }
     }
 
-    /// Waits for the lock.
+    /// Waits for the lock of this `Locked`, and gives its state.
     #[inline(always)]
     pub(crate) fn state(&self) -> MutexGuard<'_, S> {
         lock!(self.state, &self.rt)
@@ -55,7 +55,8 @@ const SHORTEST: u32 = 128;
 
 const LONGEST: u32 = 1024;
 
-/// Waits for a lock that was not free. Apart, so that one that is free takes a few instructions.
+/// Waits for a lock of `async_utilities` that was not free. Apart, so that one that is free takes a few
+/// instructions.
 #[cold]
 #[inline(never)]
 pub(crate) fn wait_for<'a, T, R: Wait>(mutex: &'a Mutex<T>, rt: &R) -> MutexGuard<'a, T> {

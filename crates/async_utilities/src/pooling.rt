@@ -114,8 +114,8 @@ where
     F::Output: Send + 'static,
     R: Wait + Threads + Clone + Drop + Send + Sync + 'static,
 {
-    /// A new executor, and so many threads that run its tasks. It waits until each thread has the memory
-    /// that it needs, so none of them ends before it is told to.
+    /// A `Pool`: a new `Executor`, and so many threads that run its tasks. It waits until each thread has
+    /// the memory that it needs, so none of them ends before it is told to.
     ///
     /// # Errors
     ///
@@ -131,7 +131,7 @@ where
         Ok(Pool { inner })
     }
 
-    /// The executor, to spawn tasks on.
+    /// The `Executor` of this `Pool`, to spawn tasks on.
     ///
     /// Example: `uses::joins`, at `Pool`.
     pub fn executor(&self) -> &Executor<F, ThreadWaker, R>
@@ -140,8 +140,8 @@ where
         self.inner.executor()
     }
 
-    /// Tells the threads to stop, waits for them, and says what came of each, in the order in which
-    /// they were started. Each began with all that it needs, so it is `Ok`.
+    /// Tells the threads of this `Pool` to stop, waits for them, and says what came of each, in the order
+    /// in which they were started. Each began with all that it needs, so it is `Ok`.
     ///
     /// Example: `uses::winds_up`.
     pub fn join(self) -> Vec<Result<(), PoolError>>

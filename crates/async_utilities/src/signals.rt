@@ -75,8 +75,8 @@ impl<W: Drop> State<W> {
         Ok(self.waiters.join()?)
     }
 
-    // Has one wait at its place with this waker, and gives what is not kept: an earlier waker, or this
-    // one if the signal is set.
+    // Has one wait for the signal at its place with this waker, and gives what is not kept: an earlier
+    // waker, or this one if the signal is set.
     fn wait(&mut self, place: usize, waker: W) -> Option<W>
         ensures { Waits self.old place waker result self.new }
     {
@@ -86,7 +86,7 @@ impl<W: Drop> State<W> {
         self.waiters.wait(place, waker)
     }
 
-    // Gives a place back, with the waker that was left there.
+    // Gives a place at the signal back, with the waker that was left there.
     fn leave(&mut self, place: usize) -> Option<W>
         ensures waker { result ≡ waker_of (place_at self.old.waiters place) }
         ensures leaves { Parts self.old.waiters place self.new.waiters }

@@ -39,7 +39,8 @@ pub trait MakeTask<J: Drop, R: Wait + Clone + Drop>: Drop {
     /// The task. What it gives is dropped.
     type Task: Future<TaskWaker<ThreadWaker, R>>;
 
-    /// Makes it. A job of which there is no memory for a task comes back, and is handed in again later.
+    /// Makes the task of a job. A job of which there is no memory for a task comes back, and is handed in
+    /// again later.
     ///
     /// Example: `uses::hands_in_jobs`, at `servers`, of `Numbers`.
     fn make(&self, job: J, spawner: &Spawner<J, R>) -> Result<Self::Task, J>
@@ -67,9 +68,9 @@ macro_rules! jobs {
 }
 
 impl<J: Drop, R: Wait + Clone + Drop> Desk<J, R> {
-    // Takes the first job for the server of this place. If there is none, the server is counted no longer, and
-    // waits with a copy of this waker; or all is done. It is the waker of a task, so no code of a caller's runs
-    // where it is copied.
+    // Locks the jobs, and takes the first one for the server of this place. If there is none, the server is
+    // counted no longer, and waits with a copy of this waker; or all is done. It is the waker of a task, so
+    // no code of a caller's runs where it is copied.
     fn take(&self, is_counted: &mut bool, place: usize, w: &PoolWaker<R>) -> Poll<Option<J>>
         ensures counted { IfReady result (λ job. is_counted.new ≡ is_some job) }
     {
@@ -97,12 +98,12 @@ impl<J: Drop, R: Wait + Clone + Drop> Desk<J, R> {
         Poll::Pending
     }
 
-    // The place of a server.
+    // Locks the jobs, and gives a new `Server` its place.
     fn join(&self) -> Result<usize, OutOfMemory> {
         Ok(jobs!(self).join()?)
     }
 
-    // The server of this place is gone.
+    // The drop of a `Server`: that of this place is gone.
     fn part(&self, is_counted: bool, place: usize) {
         if is_counted {
             self.end_one();
@@ -111,14 +112,14 @@ impl<J: Drop, R: Wait + Clone + Drop> Desk<J, R> {
         left.end();
     }
 
-    // One that is counted hands in no more jobs.
+    // Locks the jobs: one that is counted hands in no more.
     fn end_one(&self) {
         end_one(jobs!(self), self.alloc);
     }
 }
 
-// One that is counted hands in no more jobs. If all is done then, the servers that wait are woken. Apart, since
-// a server does so once.
+// `JobQueue::end_one`, with the wakes that it leaves: if all is done then, the servers that wait are woken.
+// Apart, since a server does so once.
 #[cold]
 #[inline(never)]
 fn end_one<J: Drop, R: Wait + Clone + Drop>(jobs: LockedJobs<'_, J, R>, alloc: Global) {

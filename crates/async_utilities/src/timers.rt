@@ -88,7 +88,7 @@ impl<W: Wake, C: Clock + Drop, R: Wait + Drop> Timer<W, C, R> {
         Ok(Timer { shared, clock })
     }
 
-    /// A future that is ready once the clock has reached this time. It takes no memory until it is
+    /// A future of this timer, ready once the clock has reached this time. It takes no memory until it is
     /// polled and has to wait.
     ///
     /// # Errors
@@ -103,7 +103,7 @@ impl<W: Wake, C: Clock + Drop, R: Wait + Drop> Timer<W, C, R> {
         After::new(&self.shared, time.nanos())
     }
 
-    /// A future that is ready once so much time has passed, from the time that the clock is read at
+    /// A future of this timer, ready once so much time has passed, from the time that the clock is read at
     /// here on. If that is too long to be counted, it never is.
     ///
     /// # Errors
@@ -120,7 +120,8 @@ impl<W: Wake, C: Clock + Drop, R: Wait + Drop> Timer<W, C, R> {
         Ok(After::new(&self.shared, nanos)?)
     }
 
-    /// Comes once so much time has passed, and then again and again, each time so much later.
+    /// An interval of this timer, which comes once so much time has passed, and then again and again, each
+    /// time so much later.
     ///
     /// # Errors
     ///
@@ -134,7 +135,8 @@ impl<W: Wake, C: Clock + Drop, R: Wait + Drop> Timer<W, C, R> {
         Ok(Interval::new(self.after(period)?, period))
     }
 
-    /// Comes at this time, and then again and again, each time so much later.
+    /// An interval of this timer, which comes at this time, and then again and again, each time so much
+    /// later.
     ///
     /// # Errors
     ///
@@ -152,8 +154,8 @@ impl<W: Wake, C: Clock + Drop, R: Wait + Drop> Timer<W, C, R> {
         Ok(Interval::new(self.at(first)?, period))
     }
 
-    /// The output of the future, or `TimedOut` with the future if so much time passes before it is
-    /// ready.
+    /// A timeout of this timer, which gives the output of the future, or `TimedOut` with the future if so
+    /// much time passes before it is ready.
     ///
     /// # Errors
     ///
@@ -180,7 +182,7 @@ impl<W: Wake, C: Clock + Drop, R: Wait + Drop> Timer<W, C, R> {
         }
     }
 
-    /// Who drives the timer from now on, as long as it is there.
+    /// A driver of this timer from now on, for as long as the driver is there.
     ///
     /// # Errors
     ///
@@ -193,8 +195,8 @@ impl<W: Wake, C: Clock + Drop, R: Wait + Drop> Timer<W, C, R> {
         Driver::new(self)
     }
 
-    /// Polls the future on this thread until it is ready, gives its output, and drives the timer
-    /// meanwhile: it is `Driver::block_on` of a driver for this one call.
+    /// `Driver::block_on` of a driver for this one call: polls the future on this thread until it is ready,
+    /// gives its output, and drives the timer meanwhile.
     ///
     /// # Errors
     ///

@@ -28,7 +28,7 @@ pub trait Job: Drop {
     /// What it gives.
     type Output: Drop;
 
-    /// Does it.
+    /// Does the job, which may block.
     fn run(self) -> Self::Output;
 }
 
@@ -43,7 +43,7 @@ pub struct Work<J: Job, V: Wake, R: Wait + Drop> {
 }
 
 impl<J: Job, V: Wake, R: Wait + Drop> Work<J, V, R> {
-    // The job, which was not begun.
+    // The job of a `Work`, which was not begun.
     fn into_job(self) -> J
         requires { IsSome self.job }
         ensures { self.job ≡ Some result }

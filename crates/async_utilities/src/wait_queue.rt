@@ -65,7 +65,7 @@ impl<W> Model for WaitQueue<W> {
 }
 
 impl<W> WaitQueue<W> {
-    /// Nobody waits, and no place is taken.
+    /// A wait queue in which nobody waits, and no place is taken.
     pub(crate) fn new(alloc: Global) -> Self
         ensures { result ≡ record { places = []; waiting = []; notified = 0; room = 0 } }
     {
@@ -76,7 +76,7 @@ impl<W> WaitQueue<W> {
         }
     }
 
-    /// Whether nobody waits.
+    /// Whether nobody waits in the wait queue.
     pub(crate) fn is_empty(&self) -> bool
         ensures { result ≡ (length self.now.waiting == 0) }
     {
@@ -131,7 +131,7 @@ impl<W: Drop> WaitQueue<W> {
         }
     }
 
-    /// Takes a place, at which nobody waits yet.
+    /// Takes a place of the wait queue, at which nobody waits yet.
     pub(crate) fn join(&mut self) -> Result<usize, AllocError>
         ensures joined { IfOk result (λ place. Takes self.old place self.new) }
         ensures refused { OnErr result (Stays self.old self.new) }
@@ -149,9 +149,9 @@ impl<W: Drop> WaitQueue<W> {
         }
     }
 
-    /// Has one wait at its place with this waker, and gives what is not kept. If it waited already, its
-    /// turn stays, and the earlier waker comes out. Otherwise it stands behind all others. If the place is
-    /// not taken, nothing changes, and the waker comes back.
+    /// Has one wait in the wait queue at its place with this waker, and gives what is not kept. If it
+    /// waited already, its turn stays, and the earlier waker comes out. Otherwise it stands behind all
+    /// others. If the place is not taken, nothing changes, and the waker comes back.
     pub(crate) fn wait(&mut self, place: usize, waker: W) -> Option<W>
         ensures { WaitsAt self.old place waker result self.new }
     {
@@ -202,7 +202,7 @@ impl<W: Drop> WaitQueue<W> {
         }
     }
 
-    /// Gives a place back, with the waker of one that waited there.
+    /// Gives a place of the wait queue back, with the waker of one that waited there.
     pub(crate) fn leave(&mut self, place: usize) -> Option<W>
         ensures waker { result ≡ waker_of (place_at self.old place) }
         ensures leaves { Moves self.old self.new place None (without place self.old.waiting) }
@@ -222,7 +222,8 @@ impl<W: Drop> WaitQueue<W> {
         }
     }
 
-    /// Has one wait no longer, which keeps its place, and gives the waker that it left there.
+    /// Has one in the wait queue wait no longer, which keeps its place, and gives the waker that it left
+    /// there.
     pub(crate) fn come(&mut self, place: usize) -> Option<W>
         ensures waker { result ≡ waker_of (place_at self.old place) }
         ensures comes { Comes self.old place self.new }
@@ -245,8 +246,8 @@ impl<W: Drop> WaitQueue<W> {
         }
     }
 
-    /// Has one wait with this waker, at its place if it has one, else at a new one. Gives the place, and
-    /// an earlier waker. If there is no memory for a place, the waker comes back.
+    /// Has one wait in the wait queue with this waker, at its place if it has one, else at a new one. Gives
+    /// the place, and an earlier waker. If there is no memory for a place, the waker comes back.
     pub(crate) fn enter(&mut self, place: Option<usize>, waker: W) -> Result<(usize, Option<W>), W>
         ensures waits { IfOk result (λ kept. Enters self.old place waker kept self.new) }
         ensures refused { IfErr result (λ back. (place ≡ None) × (back ≡ waker)) }
@@ -263,8 +264,8 @@ impl<W: Drop> WaitQueue<W> {
         Ok((place, unused))
     }
 
-    /// Gives a place back, if there is one. If it was notified of what it did not take, of which so much
-    /// is there, the next one is due.
+    /// Gives a place of the wait queue back, if there is one. If it was notified of what it did not take,
+    /// of which so much is there, the next one is due.
     pub(crate) fn pass(&mut self, place: Option<usize>, there: usize) -> Left<W>
         ensures leaves { Leaves self.old place there (result.waker, result.due) self.new }
         ensures served { IsServed there self.old → IsServed there self.new }

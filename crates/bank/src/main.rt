@@ -103,7 +103,7 @@ impl<R: Wait + Clone + Drop> Bank<R> {
         Ok(tasks)
     }
 
-    /// Runs the tasks, and moves the time on whenever none can go on, until none waits any more.
+    /// Runs the customers' tasks, and moves the time on whenever none can go on, until none waits any more.
     fn run(&self, rt: &R) -> io::Result<()> {
         let driver = self.timer.driver()?;
         for _ in rt.forever() {

@@ -34,7 +34,7 @@ pub struct Options {
 }
 
 impl Options {
-    /// Reads the whole command line.
+    /// Reads the whole command line: its options, and how many files there are.
     ///
     /// # Errors
     ///
@@ -62,14 +62,14 @@ impl Options {
         Ok(options)
     }
 
-    /// Whether standard input is read.
+    /// Whether standard input is read with this command line.
     pub fn reads_input(&self) -> bool
         ensures { result ≡ (self.now.files == 0 || self.now.names_input) }
     {
         self.files == 0 || self.names_input
     }
 
-    // Counts a file.
+    // Counts a file of the command line.
     fn add_file(&mut self, name: &[u8])
         ensures counted { 0 < self.new.files }
         ensures input { self.new.names_input ≡ (self.old.names_input || is_input name.now) }
@@ -143,7 +143,7 @@ pub struct Words<'a, R: System> {
 }
 
 impl<'a, R: System> Words<'a, R> {
-    /// All words behind the program's name.
+    /// All words of the command line behind the program's name.
     pub fn new(rt: &'a R, alloc: Global) -> Words<'a, R> {
         Words {
             rt,
@@ -195,7 +195,7 @@ impl<'a, R: System> Words<'a, R> {
         }
     }
 
-    // The word of this number of threads.
+    // The word of the command line for this number of threads.
     fn threads(&self, number: &[u8]) -> Result<Option<Word>, Failure>
         ensures asks { IfOk result (λ word. AsksForThreads number.now word) }
         ensures known { (count : ℕ) → IsThreadCount number.now count → IsOk result }
@@ -235,7 +235,7 @@ fn quoted(alloc: Global, word: &[u8]) -> Result<String, AllocError> {
     Ok(text)
 }
 
-/// The argument at this place, if there is one. That at 0 is the program's name.
+/// The argument of the command line at this place, if there is one. That at 0 is the program's name.
 ///
 /// # Errors
 ///

@@ -36,7 +36,7 @@ pub struct Shared<R: Wait + Drop> {
 }
 
 impl<R: Wait + Drop> Shared<R> {
-    /// What tasks share if so many threads run them.
+    /// What the tasks of files share if so many threads run them.
     ///
     /// # Errors
     ///
@@ -49,8 +49,8 @@ impl<R: Wait + Drop> Shared<R> {
         })
     }
 
-    // Goes on with a file, by a block that nobody has. There is one for each thread that polls; if
-    // there were none, nothing would be read.
+    // The task of a file goes on with it, by a block that nobody has. There is one for each thread that
+    // polls; if there were none, nothing would be read.
     fn step(&self, file: &mut Undigested) -> Step
         ensures name { file.new.name ≡ file.old.name }
         ensures adds { (message : List ℕ) → FileHolds file.old message →
@@ -75,7 +75,7 @@ struct Undigested {
 }
 
 impl Undigested {
-    // Reads once, into this block.
+    // The task of a file reads once, into this block.
     fn step(&mut self, block: &mut Block) -> Step
         ensures name { self.new.name ≡ self.old.name }
         ensures reads { (message : List ℕ) → FileHolds self.old message →

@@ -23,7 +23,7 @@ pub fn push_line(line: &mut Vec<u8>, name: &[u8], digest: &[u8; 32]) -> Result<(
     Ok(())
 }
 
-// What stands behind the backslash in the place of a byte, if it is escaped.
+// In a line, what stands behind the backslash in the place of a byte, if it is escaped.
 fn escape_of(byte: u8) -> Option<u8>
     ensures { result ≡ escape_of byte }
 {
@@ -35,7 +35,7 @@ fn escape_of(byte: u8) -> Option<u8>
     }
 }
 
-// Whether a byte of the name is escaped.
+// Whether a byte of the name is escaped in its line.
 fn has_escapes(name: &[u8]) -> bool
     ensures { result ≡ has_escapes name.now }
 {

@@ -45,7 +45,7 @@ pub struct Printer<'a, R: System + Send + Sync + 'static> {
 }
 
 impl<'a, R: System + Send + Sync + 'static> Printer<'a, R> {
-    /// Nothing is written yet.
+    /// A printer that has written nothing yet.
     pub fn new(rt: &'a R, alloc: Global, program: &'a str) -> Printer<'a, R>
         ensures { result.all_read ≡ true }
     {
@@ -59,7 +59,7 @@ impl<'a, R: System + Send + Sync + 'static> Printer<'a, R> {
         }
     }
 
-    /// Shows progress from now on, of so many files.
+    /// The printer shows progress from now on, of so many files.
     ///
     /// # Errors
     ///
@@ -101,7 +101,7 @@ impl<'a, R: System + Send + Sync + 'static> Printer<'a, R> {
         }
     }
 
-    /// Writes what the options are.
+    /// Prints what the options are.
     ///
     /// # Errors
     ///
@@ -110,14 +110,14 @@ impl<'a, R: System + Send + Sync + 'static> Printer<'a, R> {
         self.put(HELP.as_bytes())
     }
 
-    /// Shows progress for the last time.
+    /// The printer shows progress for the last time.
     pub fn end(&self, shared: &Shared<R>) {
         if let Some(progress) = &self.progress {
             progress.end(shared);
         }
     }
 
-    /// Says it if standard input was closed before: `sha256sum` closes it in the end, and fails.
+    /// Prints a message if standard input was closed before: `sha256sum` closes it in the end, and fails.
     pub fn close(&self, input: io::Result<Stdin>) {
         if let Err(error) = input {
             if error.raw_os_error() == Some(BAD_DESCRIPTOR) {

@@ -76,14 +76,14 @@ impl<R: System + Send + Sync + 'static> Progress<R> {
         unreachable!()
     }
 
-    /// Takes the line away, for another one in its place.
+    /// Takes the line of progress away, for another one in its place.
     pub fn clear(&self, rt: &R) {
         if self.is_terminal {
             let _ = rt.eprint("\r\x1b[K");
         }
     }
 
-    /// Shows the last line, which stays.
+    /// Shows the last line of progress, which stays.
     pub fn end(&self, shared: &Shared<R>) {
         self.show(shared);
         if self.is_terminal {
@@ -91,7 +91,7 @@ impl<R: System + Send + Sync + 'static> Progress<R> {
         }
     }
 
-    // Shows a line. Nothing is done if it cannot be written.
+    // Shows a line of progress. Nothing is done if it cannot be written.
     fn show(&self, shared: &Shared<R>) {
         let mib = shared.digested.load(Ordering::SeqCst) / MIB;
         let (done, files) = (self.done, self.files);
@@ -103,7 +103,7 @@ impl<R: System + Send + Sync + 'static> Progress<R> {
     }
 }
 
-// Awaits a future, runs tasks meanwhile, and has times come.
+// Awaits a future, runs tasks meanwhile, and has the times of progress come.
 fn await_in_time<F, G, R>(
     timer: &Timer<ThreadWaker, R, R>,
     executor: &Executor<F, ThreadWaker, R>,

@@ -118,7 +118,7 @@ fn octal_digit(number: u8) -> char {
     (b'0' + (number & 7)) as char
 }
 
-// The letter of an escape that has one.
+// In quotes, the letter of an escape that has one.
 fn letter_of(c: char) -> Option<char> {
     match c {
         '\x07' => Some('a'),

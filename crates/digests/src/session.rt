@@ -42,7 +42,7 @@ pub fn run<R: System + Send + Sync + 'static>(rt: &R, alloc: Global, standard: S
     exit_status(&outcome)
 }
 
-// The exit status, if each file was read, or not, or the program stopped before.
+// The exit status of a run, if each file was read, or not, or the program stopped before.
 fn exit_status(outcome: &Result<bool, Failure>) -> u8
     ensures { result ≡ exit_status outcome.now }
 {
@@ -59,7 +59,7 @@ fn program_name<R: System + Send + Sync + 'static>(rt: &R, alloc: Global) -> Opt
     String::from_utf8(name).ok()
 }
 
-// Goes by the options. Whether each file was read.
+// Does a run as the options say. Whether each file was read.
 fn start<R: System + Send + Sync + 'static>(
     alloc: Global,
     standard: Standard,
@@ -87,8 +87,8 @@ fn start<R: System + Send + Sync + 'static>(
     Ok(printer.all_read)
 }
 
-// Standard input, if it is read. Otherwise it is not touched: a terminal stops a background process that
-// reads from it.
+// The standard input of a run, if it is read. Otherwise it is not touched: a terminal stops a background
+// process that reads from it.
 fn input_for(options: &Options, input: Stdin) -> io::Result<Stdin> {
     if options.reads_input() {
         // Whether it is open is asked before a file is opened: that would get the descriptor of a closed
@@ -151,7 +151,7 @@ fn digest_by<R: System + Send + Sync + 'static>(
     print_rest(&mut window, printer)
 }
 
-// Prints what came of the files that are under way.
+// At the end of a run, prints what came of the files that are under way.
 fn print_rest<R: System + Send + Sync + 'static>(
     window: &mut Window<'_, R>,
     printer: &mut Printer<'_, R>,
@@ -194,7 +194,7 @@ fn add<R: System + Send + Sync + 'static>(
     window.spawn(name)
 }
 
-// Prints what came of the first file that is under way. Whether there is one.
+// Awaits the first file that is under way, and prints what came of it. Whether there is one.
 fn print_first<R: System + Send + Sync + 'static>(
     window: &mut Window<'_, R>,
     printer: &mut Printer<'_, R>,

@@ -7,7 +7,7 @@ use std::io;
 use std::io::{ErrorKind, Read, Stdin};
 use std::rt::Files;
 
-/// Whether this name stands for standard input.
+/// Whether the source of this name is standard input.
 pub fn is_input(name: &[u8]) -> bool
     ensures { result ≡ is_input name.now }
 {

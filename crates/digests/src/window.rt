@@ -36,7 +36,7 @@ pub struct Window<'a, R: System + Send + Sync + 'static> {
 }
 
 impl<'a, R: System + Send + Sync + 'static> Window<'a, R> {
-    /// No task yet.
+    /// A window without a task.
     ///
     /// # Errors
     ///

@@ -130,8 +130,8 @@ impl<P: Drop, T: Copy> World<P, T> {
         }
     }
 
-    /// The same with these limits: the queue of each run has room for so many tasks. Turns and shares of
-    /// the global queue are ignored here, since the steps may come in any order.
+    /// As `World::new`, with these limits: the queue of each run has room for so many tasks. Turns and
+    /// shares of the global queue are ignored here, since the steps may come in any order.
     ///
     /// # Errors
     ///
@@ -184,7 +184,7 @@ impl<P: Drop, T: Copy> World<P, T> {
         self.make_step(step)
     }
 
-    // Makes a step that is enabled, and that the log has room for.
+    // `World::step` for a step that is enabled, and that the log has room for.
     fn make_step(&mut self, step: Step<P, T>) -> Reply<T>
         requires room { self.old.accepted ≢ self.old.limit }
         requires enabled { enabled step self.old ≡ true }
@@ -222,7 +222,7 @@ impl<P: Drop, T: Copy> World<P, T> {
         }
     }
 
-    /// Takes one step, of any party.
+    /// The `World` takes one step, of any party.
     ///
     /// # Errors
     ///
@@ -239,7 +239,7 @@ impl<P: Drop, T: Copy> World<P, T> {
         reply
     }
 
-    /// Takes these steps in turn, and gives their replies in order.
+    /// The `World` takes these steps in turn, and gives their replies in order.
     ///
     /// # Errors
     ///
@@ -260,8 +260,8 @@ impl<P: Drop, T: Copy> World<P, T> {
         Ok(replies)
     }
 
-    /// Whether the future of the task is in its cell: the task was spawned, and is owed a poll or a
-    /// drop, or is idle.
+    /// Whether the world has the task's future in its cell: the task was spawned, and is owed a poll or
+    /// a drop, or is idle.
     pub fn keeps(&self, n: u64) -> bool
         ensures { result ≡ (owed n self.now.log || idle n self.now.log) }
     {
@@ -271,7 +271,7 @@ impl<P: Drop, T: Copy> World<P, T> {
         }
     }
 
-    /// Whether the future of the task is out: the task is held, by one holder.
+    /// Whether the world has the task's future out of its cell: the task is held, by one holder.
     pub fn is_out(&self, n: u64) -> bool
         ensures { result ≡ held n self.now.log }
     {
@@ -307,15 +307,15 @@ impl<P: Drop, T: Copy> World<P, T> {
         &self.core
     }
 
-    /// The events, in order.
+    /// The events in the world's log, in order.
     pub fn log(&self) -> &[Event<T>]
         ensures { result.now ≡ self.now.log }
     {
         &self.log
     }
 
-    /// How many notices are out, still to be spent by an exchange of the flag: those that float,
-    /// those that tickers keep, and those in the changes that they have still to store.
+    /// How many notices of the world are out, still to be spent by an exchange of the flag: those that
+    /// float, those that tickers keep, and those in the changes that they have still to store.
     pub fn notices(&self) -> u32
         ensures { result ≡ notices_out self.now }
     {
@@ -326,14 +326,14 @@ impl<P: Drop, T: Copy> World<P, T> {
         notices
     }
 
-    /// The ticker that holds the sleepers' lock, since it has the flag to store.
+    /// The ticker of the world that holds the sleepers' lock, since it has the flag to store.
     pub fn holder(&self) -> Option<usize>
         ensures { result ≡ self.now.holder }
     {
         self.holder
     }
 
-    /// Which step of the ticker comes next. `None` if it was not made.
+    /// Which step of the world's ticker comes next. `None` if it was not made.
     pub fn phase(&self, k: usize) -> Option<Phase>
         ensures { result ≡ option_map (λ t. t.phase) (slice_get self.now.tickers k) }
     {
@@ -343,7 +343,7 @@ impl<P: Drop, T: Copy> World<P, T> {
         }
     }
 
-    /// How many picks are out, still to be spent by a notification of the sleepers.
+    /// How many picks of the world are out, still to be spent by a notification of the sleepers.
     pub fn picks(&self) -> u32
         ensures { result ≡ self.now.picks }
     {

@@ -3,7 +3,7 @@ ghost use Rattle.std.specs.Prelude.{◌≡◌};
 ghost use Rattle.executor_core.specs.Limits.{is_lawful, default_limits};
 ghost use Rattle.executor_core.specs.declared.limits.NewError.TheVariants as NewError;
 
-use crate::task::OutOfMemory;
+use crate::task::error::OutOfMemory;
 use std::alloc::AllocError;
 use thiserror::Error;
 
@@ -33,7 +33,7 @@ pub struct Limits {
 }
 
 impl Limits {
-    /// Whether each of them is in its range.
+    /// Whether each of the limits is in its range.
     pub fn is_lawful(&self) -> bool
         ensures { result ≡ is_lawful self.now }
     {

@@ -38,7 +38,7 @@ pub struct Core<P, T, W> {
 }
 
 impl<P, T, W> Core<P, T, W> {
-    /// No task and no sleeper; the flag is true.
+    /// A core with no task and no sleeper; its flag is true.
     ///
     /// # Errors
     ///
@@ -54,21 +54,21 @@ impl<P, T, W> Core<P, T, W> {
         })
     }
 
-    /// The cells of the tasks, for reading.
+    /// The core's cells, for reading.
     pub fn cells(&self) -> &Cells<P, T, W>
         ensures { result.now ≡ self.now.cells }
     {
         &self.cells
     }
 
-    /// The flag, for reading.
+    /// The core's flag, for reading.
     pub fn flag(&self) -> &FlagValue
         ensures { result.now ≡ self.now.flag }
     {
         &self.flag
     }
 
-    /// The sleepers, for reading.
+    /// The core's sleepers, for reading.
     pub fn sleepers(&self) -> &Sleepers<W>
         ensures { result.now ≡ self.now.sleepers }
     {
@@ -258,7 +258,7 @@ impl<P, T, W> Core<P, T, W> {
         self.cells.unregister(key)
     }
 
-    /// `FlagValue::exchange`, with its answer.
+    /// `FlagValue::exchange` of the core's flag, with its answer.
     pub fn exchange(&mut self, notice: Notice) -> Option<Pick>
         ensures state { self.new ≡ record self.old { flag = true } }
         ensures pick { is_some result ≡ not self.old.flag }
@@ -266,7 +266,7 @@ impl<P, T, W> Core<P, T, W> {
         self.flag.exchange(notice)
     }
 
-    /// `FlagValue::store`, with its answer: it closes the list of sleepers too.
+    /// `FlagValue::store` of the core's flag, with its answer: it closes the list of sleepers too.
     pub fn store<X>(&mut self, change: Change<X>) -> X
         ensures state { self.new ≡ record self.old { flag = change.notified; sleepers = closed self.old.sleepers } }
         ensures carried { result ≡ change.carried }

@@ -20,12 +20,16 @@ pub(crate) mod runner;
 
 use crate::queue::queues::Queues;
 use crate::task::cell::take_cell;
-use crate::task::{Again, Cells, Notice, QueuedNumbers, Taken, TaskId};
+use crate::task::id::TaskId;
+use crate::task::slots::QueuedNumbers;
+use crate::task::table::Cells;
+use crate::task::values::{Again, Notice, Taken};
 pub use ring::{Ring, steal};
 pub use runner::{RunnerError, RunnerKey};
 
 impl<P, T, W> Cells<P, T, W> {
-    /// Takes the task at the global front, or none if the queue is empty. It takes no memory.
+    /// Takes a task from the cells: that at the global front, or none if the queue is empty. It takes no
+    /// memory.
     ///
     /// The notice says that there may be more to take.
     pub fn take_global(&mut self, again: Option<Again>) -> Option<(Taken<P>, Notice)>
@@ -43,9 +47,9 @@ impl<P, T, W> Cells<P, T, W> {
         Some((taken, Notice { unspent: () }))
     }
 
-    /// Takes the task at the global front, else the one at the front of the first runner's queue
-    /// that has one, in order of registration. It gives none exactly if no task stands in any
-    /// queue. It steals nothing, and takes no memory.
+    /// Takes a task from the cells: that at the global front, else the one at the front of the first
+    /// runner's queue that has one, in order of registration. It gives none exactly if no task stands in
+    /// any queue. It steals nothing, and takes no memory.
     ///
     /// The notice says that there may be more to take.
     pub fn take_any(&mut self, again: Option<Again>) -> Option<(Taken<P>, Notice)>
@@ -80,9 +84,10 @@ impl<P, T, W> Cells<P, T, W> {
         Some(taken)
     }
 
-    /// Takes a task for a runner, with a word that says where the walk over the other queues starts:
-    /// the front of its own queue, else the global front with half of what is left, else the front
-    /// half of the first other queue that has one. None if all are empty, or its own has no room.
+    /// Takes a task from the cells for a runner, with a word that says where the walk over the other
+    /// queues starts: the front of its own queue, else the global front with half of what is left, else
+    /// the front half of the first other queue that has one. None if all are empty, or its own has no
+    /// room.
     ///
     /// A runner that is not registered takes the global front. It takes no memory, and visits each
     /// other queue once at most.
@@ -107,8 +112,8 @@ impl<P, T, W> Cells<P, T, W> {
         Some((taken, Notice { unspent: () }))
     }
 
-    /// Moves half of the global queue to the runner's own, as far as there is room, and says how
-    /// many tasks that are: 0 for a runner that is not registered. It takes no memory.
+    /// A runner's call on the cells: moves half of the global queue to its own, as far as there is room,
+    /// and says how many tasks that are: 0 for a runner that is not registered. It takes no memory.
     pub fn fair(&mut self, key: RunnerKey) -> usize
         ensures table { self.new ≡ after_fair self.old key.number }
         ensures count { result ≡ fair_count key.number (queues_of self.old) }
@@ -116,7 +121,8 @@ impl<P, T, W> Cells<P, T, W> {
         self.queues.fair(key)
     }
 
-    /// Reserves a place for a runner, and gives the key of a new one. No number is given twice.
+    /// Reserves a place in the cells for a runner, and gives the key of a new one. No number is given
+    /// twice.
     ///
     /// # Errors
     ///
@@ -132,15 +138,15 @@ impl<P, T, W> Cells<P, T, W> {
         self.queues.reserve_runner()
     }
 
-    /// Gives a free place back, unless there is none or the runner is registered.
+    /// Gives a free place in the cells back, unless there is none or the runner is registered.
     pub fn release_runner(&mut self, key: RunnerKey)
         ensures { self.new ≡ after_release_runner self.old key.number }
     {
         self.queues.release_runner(key)
     }
 
-    /// Makes the empty ring the runner's queue, the last in order of registration. It takes no
-    /// memory.
+    /// Registers a runner in the cells: the empty ring becomes its queue, the last in order of
+    /// registration. It takes no memory.
     ///
     /// # Errors
     ///
@@ -155,9 +161,9 @@ impl<P, T, W> Cells<P, T, W> {
         self.queues.register(key, ring)
     }
 
-    /// Ends the runner's queue and its place. What stood there goes to the global end in order,
-    /// with a notice exactly if there was something. A runner that is not registered changes
-    /// nothing. It takes no memory.
+    /// Unregisters a runner from the cells: its queue and its place end. What stood there goes to the
+    /// global end in order, with a notice exactly if there was something. A runner that is not
+    /// registered changes nothing. It takes no memory.
     pub fn unregister(&mut self, key: RunnerKey) -> Option<Notice>
         ensures table { self.new ≡ after_unregister self.old key.number }
         ensures notice { is_some result ≡ unregister_queues self.old key.number }
@@ -165,51 +171,52 @@ impl<P, T, W> Cells<P, T, W> {
         self.queues.unregister(key)
     }
 
-    // Whether the runner is registered.
+    // Whether the runner is registered in the cells.
     pub(crate) fn is_registered(&self, key: RunnerKey) -> bool
         ensures { result ≡ is_registered key.number self.now.locals }
     {
         self.queues.is_registered(key)
     }
 
-    /// How many tasks stand in the global queue.
+    /// How many tasks stand in the cells' global queue.
     pub fn global_len(&self) -> usize
         ensures { result ≡ length self.now.global }
     {
         self.queues.global_len()
     }
 
-    /// The number of the task at this place of the global queue, the front being 0. It makes a step for
-    /// each task before it: `global_numbers` is for the whole queue.
+    /// The number of the task at this place of the cells' global queue, the front being 0. It makes a
+    /// step for each task before it: `global_numbers` is for the whole queue.
     pub fn global_at(&self, i: usize) -> Option<u64>
         ensures { result ≡ slice_get self.now.global i }
     {
         self.queues.global_at(i)
     }
 
-    /// The numbers of the tasks in the global queue, from the front on. It takes no memory, and makes
-    /// one step for each number.
+    /// The numbers of the tasks in the cells' global queue, from the front on. It takes no memory, and
+    /// makes one step for each number.
     pub fn global_numbers(&self) -> QueuedNumbers<'_, P, T, W>
         ensures { result ≡ self.now.global }
     {
         self.queues.global_numbers()
     }
 
-    /// How many runners are registered.
+    /// How many runners are registered in the cells.
     pub fn runners(&self) -> usize
         ensures { result ≡ length self.now.locals }
     {
         self.queues.runners()
     }
 
-    /// How many tasks stand in the queue of the runner at this position in order of registration.
+    /// How many tasks of the cells stand in the queue of the runner at this position in order of
+    /// registration.
     pub fn local_len(&self, r: usize) -> Option<usize>
         ensures { result ≡ option_map (λ q. length q.entries) (slice_get self.now.locals r) }
     {
         self.queues.local_len(r)
     }
 
-    /// The number of the task at this place of that queue, the front being 0.
+    /// The number of the cells' task at this place of that runner's queue, the front being 0.
     pub fn local_at(&self, r: usize, i: usize) -> Option<u64>
         ensures { result ≡ slice_get (entries_at r self.now.locals) i }
     {
@@ -217,7 +224,7 @@ impl<P, T, W> Cells<P, T, W> {
     }
 }
 
-// Takes the task out of its cell, which is scheduled.
+// For each take: takes the task out of its cell, which is scheduled.
 fn take_out<P, T, W>(queues: &mut Queues<P, T, W>, id: TaskId) -> Taken<P>
     requires there { HasCell queues.old.slots id }
     requires scheduled { scheduled_slot (slice_index_or queues.old.slots id.slot None) ≡ true }

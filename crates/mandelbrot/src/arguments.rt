@@ -54,7 +54,7 @@ struct Options {
 }
 
 impl Options {
-    // Reads one word more.
+    // Reads one word more behind the height.
     fn add(&mut self, word: &str) -> Result<(), BadArguments> {
         if self.counts_next {
             let Some(threads) = number(word, MOST_THREADS) else {
@@ -73,7 +73,7 @@ impl Options {
     }
 }
 
-// A whole number from 1 to the limit.
+// A width, a height or a number of threads: a whole number from 1 to the limit.
 fn number(text: &str, limit: u32) -> Option<u32>
     ensures low { IfSome result (λ number. 0 < number) }
     ensures high { IfSome result (λ number. number ≤ limit) }
@@ -103,7 +103,7 @@ fn read_options(words: &[String]) -> Result<Options, BadArguments> {
     Ok(options)
 }
 
-/// Reads the arguments, without the name of the program. The later one of two `-j` counts.
+/// Reads the arguments of a picture, without the name of the program. The later one of two `-j` counts.
 ///
 /// # Errors
 ///

@@ -30,7 +30,7 @@ struct Drawing {
     ghost in_band: { left ≤ rows.count },
 }
 
-// Adds a pixel.
+// Adds a pixel to a band.
 fn add_pixel(bytes: &mut Vec<u8>, colour: [u8; 3])
     requires { vec_len bytes.old + 3 ≤ vec_capacity bytes.old }
     ensures len { vec_len bytes.new ≡ vec_len bytes.old + 3 }
@@ -42,7 +42,7 @@ fn add_pixel(bytes: &mut Vec<u8>, colour: [u8; 3])
     bytes.push_reserved(blue);
 }
 
-// Adds a row.
+// Adds a row to a band.
 fn add_row(bytes: Vec<u8>, picture: Picture, row: u32) -> Vec<u8>
     requires { vec_len bytes + 3 * picture.width ≤ vec_capacity bytes }
     ensures len { vec_len result ≡ vec_len bytes + 3 * picture.width }
@@ -62,7 +62,7 @@ enum Drawn {
     Whole(Pixels),
 }
 
-// Draws the next row.
+// Draws the next row of a band.
 #[tactic(auto, using(crate::proofs::Rows::one_row))]
 fn draw_row(drawing: Drawing) -> Drawn {
     let Drawing {

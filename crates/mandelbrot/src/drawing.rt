@@ -38,7 +38,7 @@ fn spawn_window<R: Wait + Clone + Drop + Send + Sync>(
     Ok((tasks, row))
 }
 
-// Runs tasks on this thread too, until all of these have ended.
+// Runs tasks on this thread too, until the tasks of a window of bands have ended.
 fn await_window<R: Wait + Clone + Drop + Send + Sync>(
     rt: &R,
     alloc: Global,

@@ -26,7 +26,7 @@ pub enum Failure {
 }
 
 impl Failure {
-    /// The exit status of the program.
+    /// The exit status if there is no picture, or only a part of it.
     pub fn status(self) -> u8 {
         match self {
             Failure::Arguments(_) => 2,

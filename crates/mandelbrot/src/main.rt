@@ -49,7 +49,7 @@ fn processors(rt: &impl Threads) -> u32 {
     }
 }
 
-// The arguments without the name of the program.
+// The arguments of `mandelbrot`, without the name of the program.
 fn read_arguments(rt: &(impl Env + AllocGlobal), alloc: Global) -> Result<Arguments, Failure> {
     let words = match std::env::args(rt) {
         Ok(words) => words,
@@ -66,7 +66,7 @@ fn read_arguments(rt: &(impl Env + AllocGlobal), alloc: Global) -> Result<Argume
     }
 }
 
-// Draws what the arguments ask for.
+// Reads the arguments, and draws what they ask for.
 fn run<R>(rt: &R, alloc: Global, is_terminal: bool) -> Result<(), Failure>
 where
     R: Wait + Threads + Clone + Drop + Send + Sync + Print + Eprint + Env + AllocGlobal + 'static,

@@ -52,7 +52,7 @@ where
     F: Future<TaskWaker<ThreadWaker, R>>,
     R: Wait + Clone + Drop,
 {
-    /// Those of this executor.
+    /// What a `PriorityPool` drives: the levels of this executor.
     ///
     /// Example: `uses::serves_by_levels`, at `PriorityPool`.
     pub fn new(executor: PriorityExecutor<F, ThreadWaker, R, N>) -> Levels<F, R, N>

@@ -93,7 +93,7 @@ where
         Ok(ShardedPool { inner })
     }
 
-    /// The executor, to spawn tasks on.
+    /// The sharded executor, to spawn tasks on.
     ///
     /// Example: `uses::sums_on_shards`, at `ShardedPool`.
     pub fn executor(&self) -> &ShardedExecutor<F, ThreadWaker, R>
@@ -102,8 +102,8 @@ where
         &self.inner.executor().executor
     }
 
-    /// Tells the threads to stop, waits for them, and says what came of each, in the order in which they
-    /// were started. Each began with all that it needs, so it is `Ok`.
+    /// Tells the threads of a `ShardedPool` to stop, waits for them, and says what came of each, in the order
+    /// in which they were started. Each began with all that it needs, so it is `Ok`.
     ///
     /// Example: `uses::sums_on_shards`, at `ShardedPool`.
     pub fn join(self) -> Vec<Result<(), PoolError>>

@@ -22,7 +22,7 @@ impl<const N: usize> Model for Answers<N> {
 }
 
 impl<const N: usize> Answers<N> {
-    /// Nobody was asked yet.
+    /// The list of answers before any level was asked.
     pub(crate) fn new() -> Self
         requires { N < 2 ^ 32 }
         ensures { result ≡ [] }

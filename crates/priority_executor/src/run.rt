@@ -65,8 +65,8 @@ where
     R: Wait + Clone + Drop,
     G: Future<W>,
 {
-    // Runs the tasks of a turn, and goes to sleep if there are fewer. If it does not sleep, it wakes the
-    // waker.
+    // Runs the tasks of a turn, of any level, and goes to sleep if there are fewer. If it does not sleep, it
+    // wakes the waker.
     fn serve(&mut self, w: &W)
         ensures asleep { self.new.is_asleep ≡ true → All (λ s. is_some s.inner.number ≡ true) self.new.sleepers.levels.items }
         ensures awake { self.new.is_asleep ≡ false → All (λ s. s.inner.number ≡ None) self.new.sleepers.levels.items }

@@ -141,7 +141,7 @@ where
 
 // What a choice asks of a level.
 trait Level {
-    // Leaves its sleepers, and says whether it has a task.
+    // Leaves the sleepers of this level, and says whether it has a task.
     fn has_task(&mut self) -> bool;
 }
 

@@ -160,7 +160,7 @@ fn shard_of(number: u64, shards: usize) -> usize
     (turn % shards) as usize
 }
 
-// So many counts of nothing.
+// The counts of turns of a new `ShardedExecutor`, for so many shards.
 fn counts(alloc: Global, count: usize) -> Result<Vec<Count>, OutOfMemory>
     ensures { IfOk result (λ counts. vec_len counts ≡ count) }
 {

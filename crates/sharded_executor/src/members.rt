@@ -63,7 +63,7 @@ where
     W: Wake,
     R: Wait + Clone + Drop,
 {
-    /// Those of a run of the shard of this number. All sleepers are awake.
+    /// The members of a run of the shard of this number. All sleepers are awake.
     pub(crate) fn new(
         shards: &'a Vec<Executor<F, W, R>>,
         turns: &'a [Count],
@@ -96,7 +96,7 @@ where
     W: Wake,
     R: Wait + Clone + Drop,
 {
-    /// How many shards there are.
+    /// How many shards there are, each with a sleeper of this run.
     pub(crate) fn count(&self) -> usize
         ensures count { result ≡ vec_len self.now.sleepers }
         ensures some { 0 < result }
@@ -129,7 +129,7 @@ where
         owes
     }
 
-    /// Runs tasks of the shard at this place, and says whether it has more, or had one.
+    /// Has the member at this place run tasks of its shard, and says whether it has more, or had one.
     fn ask(&mut self, at: usize) -> bool
         requires at { at < vec_len self.old.sleepers }
         requires room { vec_len self.old.answers < vec_capacity self.old.answers }
@@ -147,7 +147,7 @@ where
         has_task
     }
 
-    /// Runs a handful of tasks of the shard at this place, and says whether there was one.
+    /// Has the member at this place run a handful of tasks of its shard, and says whether there was one.
     pub(crate) fn help(&mut self, at: usize) -> bool
         requires { at < vec_len self.old.sleepers }
         ensures count { vec_len self.new.sleepers ≡ vec_len self.old.sleepers }
@@ -166,7 +166,7 @@ where
         true
     }
 
-    /// How many turns the runs of the shard at this place had, modulo 2^64.
+    /// How many turns the runs of the shard of the member at this place had, modulo 2^64.
     pub(crate) fn turns_at(&self, at: usize) -> u64
         requires { at < vec_len self.now.sleepers }
     {
@@ -177,15 +177,15 @@ where
         }
     }
 
-    /// Runs one task of the shard at this place, if it has one.
+    /// Has the member at this place run one task of its shard, if that has one.
     pub(crate) fn run_one(&mut self, at: usize)
         requires { at < vec_len self.old.sleepers }
     {
         self.sleepers[at].try_tick_any();
     }
 
-    /// Asks the shards for tasks, the own one first, and then each other once, from this one on, up to the
-    /// first that has a task, which it runs. `None` says that none had any.
+    /// Asks the members for tasks of their shards, the own one first, and then each other once, from this one
+    /// on, up to the first that has a task, which it runs. `None` says that none had any.
     pub(crate) fn search(&mut self, first: usize) -> Option<usize>
         requires low { 0 < first }
         requires high { first ≤ vec_len self.old.sleepers }
@@ -203,7 +203,7 @@ where
         }
     }
 
-    // Asks the shards between these places in order, up to the first that has a task.
+    // Asks the members between these places in order, up to the first whose shard has a task.
     fn search_between(&mut self, from: usize, to: usize) -> Option<usize>
         requires order { from ≤ to }
         requires inside { to ≤ vec_len self.old.sleepers }

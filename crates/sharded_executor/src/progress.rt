@@ -16,7 +16,7 @@ pub(crate) struct Count {
 }
 
 impl Count {
-    /// Nothing was counted yet.
+    /// A count on cache lines of its own: nothing was counted yet.
     pub(crate) fn new() -> Count {
         Count {
             before: APART,

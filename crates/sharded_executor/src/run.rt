@@ -133,7 +133,7 @@ where
         }
     }
 
-    // Serves, and wakes the waker if it does not sleep.
+    // Serves the shards, and wakes the waker if it does not sleep.
     fn serve_or_wake(&mut self, w: &W)
         ensures { IsServed (λ s. s.inner.number) self.new.is_asleep self.new.members.sleepers.items self.new.members.answers.items }
     {

@@ -46,7 +46,7 @@ pub fn local_of(line: &[u8]) -> Option<u64>
     places_of(word, arguments)
 }
 
-// The number behind the word of such a line.
+// The number behind the word of a line of limits.
 fn places_of(word: &str, arguments: Arguments) -> Option<u64>
     ensures found { IfSome result (λ places. (word.now ≡ local_word) × (listed arguments ≡ places ∷ [])) }
     ensures read { (places : ℕ) → word.now ≡ local_word → listed arguments ≡ places ∷ [] → result ≡ Some places }
@@ -143,7 +143,7 @@ fn step_with_two(word: &str, n: u64, m: u64) -> Option<Step<(), u64>>
     })
 }
 
-// The word of a line, and the numbers behind it.
+// The word of a command, and the numbers behind it, in this line.
 fn split_line(line: &[u8]) -> Option<(&str, Arguments)>
     ensures found { IfSome result (λ parts. line.now ≡ parts.0.now ++ spaced (listed parts.1)) }
     ensures read { (word : List ℕ) (arguments : Arguments) → IsWord word → AreInRange (listed arguments)
@@ -157,7 +157,7 @@ fn split_line(line: &[u8]) -> Option<(&str, Arguments)>
     }
 }
 
-// The numbers of which this is the text behind the first space.
+// The numbers of a command, of which this is the text behind the first space.
 fn arguments_of(text: &str) -> Option<Arguments>
     ensures found { IfSome result (λ arguments. 32 ∷ text.now ≡ spaced (listed arguments)) }
     ensures read { (arguments : Arguments) → AreInRange (listed arguments)
@@ -169,7 +169,7 @@ fn arguments_of(text: &str) -> Option<Arguments>
     }
 }
 
-// The two numbers of which these are the texts.
+// The two numbers of a command, of which these are the texts.
 fn two_arguments(first: &str, second: &str) -> Option<Arguments>
     ensures found { IfSome result (λ arguments.
         32 ∷ first.now ++ 32 ∷ second.now ≡ spaced (listed arguments)) }
@@ -179,7 +179,7 @@ fn two_arguments(first: &str, second: &str) -> Option<Arguments>
     Some(Arguments::Two(number_of(first)?, number_of(second)?))
 }
 
-// The number of which this is the decimal form.
+// The number in a command of which this is the decimal form.
 fn number_of(text: &str) -> Option<u64>
     ensures found { IfSome result (λ n. text.now ≡ decimal n) }
     ensures read { (n : ℕ) → n < 2 ^ 64 → text.now ≡ decimal n → result ≡ Some n }
@@ -191,7 +191,7 @@ fn number_of(text: &str) -> Option<u64>
     }
 }
 
-// Whether it has no plus sign and no leading zero, both of which `parse` takes.
+// Whether a number in a command has no plus sign and no leading zero, both of which `parse` takes.
 fn is_plain(digits: &[u8]) -> bool
     ensures { IsTrue result ↔ IsPlain digits.now }
 {

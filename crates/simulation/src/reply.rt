@@ -6,7 +6,7 @@ use executor_core::interleave::{Reply, World};
 use executor_core::task::Cells;
 use std::fmt;
 
-// Said if an awaiter came out.
+// The end of a reply's text if an awaiter came out.
 fn awaiter_suffix(awaiter: bool) -> &'static str
     ensures { result.now ≡ awaiter_text awaiter }
 {
@@ -73,7 +73,7 @@ impl fmt::Display for ReplyText {
 #[derive(Drop)]
 pub struct StateText<'a>(pub &'a World<(), u64>);
 
-// What stands between the item at this place and the one before.
+// What a reply to `show` has between the item at this place and the one before.
 fn separator(place: usize) -> &'static str {
     if place > 0 { ", " } else { "" }
 }

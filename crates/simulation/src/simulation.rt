@@ -58,7 +58,7 @@ pub fn run_lines<R: Read + Drop, W: Write + Drop>(alloc: Global, reader: R, mut 
     simulation.run() as u8
 }
 
-// Writes that there was no memory to begin with.
+// Writes that there was no memory to begin the simulation with.
 fn refuse<W: Write>(writer: &mut W) -> Ending {
     if writer.write_all(b"out of memory\n").is_ok() && writer.flush().is_ok() {
         Ending::OutOfMemory
@@ -114,7 +114,7 @@ impl<R: Read + Drop, W: Write + Drop> Simulation<R, W> {
         }
     }
 
-    // Answers the first line, and then the others. It is no command if it said the limits.
+    // Answers the first line of a simulation, and then the others. It is no command if it said the limits.
     fn answer_in(
         &mut self,
         world: &mut World<(), u64>,
@@ -127,7 +127,7 @@ impl<R: Read + Drop, W: Write + Drop> Simulation<R, W> {
         self.answer_others(world)
     }
 
-    // Answers the lines behind the first one.
+    // Answers the lines of a simulation behind the first one.
     fn answer_others(&mut self, world: &mut World<(), u64>) -> io::Result<Ending> {
         for number in 2..u64::MAX {
             let line = match self.lines.next_line() {
@@ -145,7 +145,7 @@ impl<R: Read + Drop, W: Write + Drop> Simulation<R, W> {
     }
 }
 
-// The command of a line that is not too long.
+// `command_of`, for a line of a simulation that is not too long.
 fn command_within(line: &[u8]) -> Option<Command> {
     if line.len() > LINE_LIMIT {
         None
@@ -154,7 +154,7 @@ fn command_within(line: &[u8]) -> Option<Command> {
     }
 }
 
-// Those of runs whose queues have room for so many tasks.
+// The limits of a simulation in which the queues of runs have room for so many tasks.
 fn limits_of(places: u64) -> Limits {
     Limits {
         local: places as usize,
@@ -162,7 +162,7 @@ fn limits_of(places: u64) -> Limits {
     }
 }
 
-// Takes the step, or shows the state.
+// Answers a command of the simulation: takes the step, or shows the state.
 fn answer<W: Write + Drop>(
     world: &mut World<(), u64>,
     replies: &mut BufWriter<W>,
@@ -184,7 +184,7 @@ fn end_at_failure<W: Write + Drop>(replies: &mut BufWriter<W>) -> io::Result<End
     Ok(Ending::ReadFailed)
 }
 
-// Says why there is no world.
+// Ends a simulation: says why there is no world.
 fn end_without_world<W: Write + Drop>(
     replies: &mut BufWriter<W>,
     error: NewError,

@@ -20,7 +20,7 @@ impl From<io::Error> for Failure {
 }
 
 impl Failure {
-    /// The exit status of the program.
+    /// The exit status if there is no count of primes.
     pub fn status(self) -> u8 {
         match self {
             Failure::Refused(_) => 1,

@@ -26,7 +26,7 @@ impl Model for QueueLens {
 }
 
 impl QueueLens {
-    /// Those of the runners from this position on, as many as there is room for.
+    /// The lengths of the runners' queues from this position on, as many as there is room for.
     pub(super) fn of<W>(cells: &Cells<(), (), W>, first: usize) -> QueueLens
         ensures { map (λ q. length q.entries) (take first cells.now.locals) ++ result ≡ map (λ q. length q.entries) (take (first + 64) cells.now.locals) }
     {
@@ -42,7 +42,7 @@ impl QueueLens {
         lens
     }
 
-    /// Them, in order.
+    /// The lengths of the queues, in order.
     pub(super) fn as_slice(&self) -> &[usize]
         ensures { result.now ≡ self.now }
     {

@@ -2,10 +2,10 @@
 ghost use Rattle.std.specs.Prelude.{◌≡◌, IsTrue};
 ghost use Rattle.async_executor.specs.Answers.{is_ready, IsReadyErr, IsReadyNone};
 
-use crate::executor::TaskWaker;
 use crate::futures::shared::SharedStorage;
 use crate::scheduler::Handle;
 use crate::task::{Cancelled, TaskIn, some_if_ok};
+use crate::waker::TaskWaker;
 use executor_core::task::{Future, Poll, Wake};
 use std::sync::Wait;
 
@@ -217,7 +217,7 @@ where
     W: Wake,
     R: Wait + Clone + Drop,
 {
-    /// As `Task::detach`.
+    /// As `Task::detach`, for a `FallibleTask`.
     ///
     /// Example: `uses::ends_fallibly`.
     ///
@@ -235,7 +235,7 @@ where
         task.detach();
     }
 
-    /// As `Task::cancel`.
+    /// As `Task::cancel`, for a `FallibleTask`.
     ///
     /// Example: `uses::ends_fallibly`, at `FallibleTask::detach`.
     pub fn cancel(self) -> Cancel<F, W, R>
@@ -245,7 +245,7 @@ where
         task.cancel()
     }
 
-    /// As `Task::is_finished`.
+    /// As `Task::is_finished`, for a `FallibleTask`.
     ///
     /// Example: `uses::finishes_fallibly`.
     ///

@@ -4,10 +4,10 @@ ghost use Rattle.async_executor.specs.Answers.{is_ready};
 ghost use Rattle.async_executor.specs.Runs.{has_ended};
 ghost use Rattle.async_executor.specs.Runs.Fixed.{fixed};
 
-use crate::executor::TaskWaker;
 use crate::futures::shared::SharedStorage;
 use crate::runner::RunIn;
 use crate::ticker::TickIn;
+use crate::waker::TaskWaker;
 use executor_core::task::{Future, Poll, Wake};
 use std::sync::Wait;
 

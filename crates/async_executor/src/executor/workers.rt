@@ -4,10 +4,11 @@ ghost use Rattle.std.specs.Prelude.{◌≡◌, false, None, is_some, IfOk, Match
 ghost use Rattle.async_executor.specs.Runs.{has_ended};
 ghost use Rattle.async_executor.specs.Runs.Fixed.{fixed};
 
-use crate::executor::{Executor, TaskWaker};
+use crate::executor::Executor;
 use crate::futures::shared::SharedStorage;
 use crate::runner::WorkerIn;
 use crate::sleeper::SleeperIn;
+use crate::waker::TaskWaker;
 use executor_core::queue::RunnerError;
 use executor_core::task::{Future, OutOfMemory, Wake};
 use std::sync::Wait;
@@ -96,9 +97,9 @@ where
     W: Wake,
     R: Wait + Clone + Drop,
 {
-    /// Runs tasks until none is found, or until a whole turn was run since the last one that was over.
-    /// True says that the turn is over, so that there may be more tasks. False says that none was found,
-    /// or that the last one had no successor when it ended.
+    /// This `Worker` runs tasks until none is found, or until a whole turn was run since the last one that
+    /// was over. True says that the turn is over, so that there may be more tasks. False says that none was
+    /// found, or that the last one had no successor when it ended.
     ///
     /// Example: `uses::works`, at `Executor::worker`.
     #[inline(always)]
@@ -147,10 +148,10 @@ where
     W: Wake,
     R: Wait + Clone + Drop,
 {
-    /// Goes to sleep: a copy of the waker is put at the end of the list of sleepers, in place of an
-    /// earlier one, and is woken once there may be a task. Then all queues are looked at. `Ok(true)` says
-    /// that no task stood in any, and that it sleeps. `Ok(false)` says that one did: it runs none, and is
-    /// awake.
+    /// Puts this `Sleeper` to sleep: a copy of the waker is put at the end of the list of sleepers, in place
+    /// of an earlier one, and is woken once there may be a task. Then all queues are looked at. `Ok(true)`
+    /// says that no task stood in any, and that it sleeps. `Ok(false)` says that one did: it runs none, and
+    /// is awake.
     ///
     /// # Errors
     ///
@@ -163,8 +164,8 @@ where
         self.inner.sleep(w)
     }
 
-    /// Leaves the sleepers, and says whether a search is owed: it was notified, or saw a task, and has
-    /// not searched since. One that is awake already stays so.
+    /// This `Sleeper` leaves the sleepers, and says whether a search is owed: it was notified, or saw a task,
+    /// and has not searched since. One that is awake already stays so.
     ///
     /// Example: `uses::sleeps_and_leaves`, at `Executor::sleeper`.
     pub fn leave(&mut self) -> bool
@@ -174,8 +175,8 @@ where
         self.inner.leave()
     }
 
-    /// Leaves the sleepers, and says whether a task stands in any queue, which it leaves there: then a search
-    /// is owed. If none does, this was the search that was owed.
+    /// This `Sleeper` leaves the sleepers, and says whether a task stands in any queue, which it leaves
+    /// there: then a search is owed. If none does, this was the search that was owed.
     ///
     /// Example: `uses::looks`.
     ///
@@ -195,8 +196,8 @@ where
         self.inner.look()
     }
 
-    /// Leaves the sleepers, and passes on what it was notified of, or the task that it saw: another sleeper
-    /// may be woken in its place. Then it owes no search.
+    /// This `Sleeper` leaves the sleepers, and passes on what it was notified of, or the task that it saw:
+    /// another sleeper may be woken in its place. Then it owes no search.
     ///
     /// Example: `uses::looks`, at `Sleeper::look`.
     pub fn pass_on(&mut self)
@@ -206,8 +207,8 @@ where
         self.inner.pass_on();
     }
 
-    /// Leaves the sleepers, and runs a task as `try_tick_any` of the executor does: it answers false
-    /// exactly if no task stood in any queue. That is the search which it owed.
+    /// This `Sleeper` leaves the sleepers, and runs a task as `try_tick_any` of the executor does: it answers
+    /// false exactly if no task stood in any queue. That is the search which it owed.
     ///
     /// Example: `uses::sleeps_and_leaves`, at `Executor::sleeper`.
     pub fn try_tick_any(&mut self) -> bool

@@ -17,26 +17,26 @@ pub trait Storage: Drop {
 
     type Runtime: Wait + Clone + Drop;
 
-    /// What the executor shares with the wakers of its tasks.
+    /// The state in this storage, which the executor shares with the wakers of its tasks.
     fn state(&self) -> &ExecutorState<Self::Waker, Self::Runtime>;
 
-    /// The futures, if nobody has them.
+    /// The futures in this storage, if nobody has them.
     fn try_futures(&self) -> Option<FuturesGuard<'_, FuturesIn<Self>>>;
 
-    /// Waits for the futures that somebody has.
+    /// Waits for the futures in this storage, which somebody has.
     fn wait_for_futures(&self) -> FuturesGuard<'_, FuturesIn<Self>>;
 }
 
 /// Storage of which further shares are made. A call that is generic in a storage is proved, where it is
 /// called, against all that its traits have, and few calls need a share: so these stand apart.
 pub trait Shareable: Storage {
-    /// The first share, of an executor that has no tasks.
+    /// The first share of the storage of an executor that has no tasks.
     fn new(rt: Self::Runtime, alloc: Global) -> Result<Self, OutOfMemory>;
 
-    /// Another share.
+    /// Another share of the storage.
     fn share(&self) -> Result<Self, OutOfMemory>;
 
-    /// A share of the state alone.
+    /// A share of the storage's state alone.
     fn share_state(&self) -> Result<StateIn<Self>, OutOfMemory>;
 }
 
@@ -69,7 +69,7 @@ pub enum FuturesGuard<'a, T: Drop> {
 }
 
 impl<T: Drop> FuturesGuard<'_, T> {
-    /// The table itself.
+    /// The table of futures, in this guard of a storage.
     #[inline(always)]
     pub(crate) fn get(&mut self) -> &mut T {
         match self {
@@ -87,7 +87,7 @@ pub struct Lent<'a, T: Drop> {
 }
 
 impl<'a, T: Drop> Lent<'a, T> {
-    /// Takes the table out of its cell, and leaves this one there.
+    /// Takes the table of a storage out of its cell, and leaves this one there.
     #[inline(always)]
     pub(crate) fn of(cell: &'a Cell<T>, meanwhile: T) -> Lent<'a, T> {
         let futures = cell.replace(meanwhile);

@@ -11,7 +11,7 @@ use crate::deferred::{Deferred, EndThenSearch, finished};
 use crate::futures::storage::{OutIn, OutputIn, Shareable, Storage, futures};
 use crate::futures::{FutureTable, Out};
 use crate::machine::Search;
-use crate::runner::Words;
+use crate::runner::words::Words;
 use crate::state::{ExecutorState, cells};
 use crate::waker::{LentWake, TaskWaker};
 use executor_core::task::{
@@ -46,14 +46,15 @@ pub(crate) fn spawn<S: Shareable>(
     }
 }
 
-/// Makes room for so many tasks more, if there is memory for it: else each spawn makes its own.
+/// Makes room in both tables for so many tasks more, if there is memory for it: else each spawn makes its
+/// own.
 pub(crate) fn reserve<S: Storage>(storage: &S, tasks: usize) {
     let mut futures = futures!(storage);
     let _places = futures.get().reserve_places(tasks);
     let _cells = cells!(storage.state()).reserve(tasks);
 }
 
-/// Takes the future of the task out, with the waker to poll it with.
+/// Takes the future of the task out of the storage, with the waker to poll it with.
 #[inline(always)]
 pub(crate) fn take<S: Storage>(storage: &S, id: TaskId) -> OutIn<S> {
     let mut futures = futures!(storage);
@@ -99,7 +100,7 @@ pub(crate) fn end_then_search<'a, S: Storage>(
         .end_then_search(cells, id, ran, out, search, words)
 }
 
-// Whether no queue has a task, so that a search is in vain.
+// Whether no queue has a task, so that the search of `end_then_search` is in vain.
 #[inline(always)]
 fn is_unscheduled<W>(cells: &Cells<(), (), W>) -> bool {
     if cells.global_len() > 0 {
@@ -143,7 +144,7 @@ fn give_up_and_take_ended<S: Storage>(
     wait_and_take_ended(storage, id)
 }
 
-/// Ends the handle of a task that has ended, once the futures are free.
+/// As `take_ended` for a task that has ended, but waits for the futures.
 #[cold]
 #[inline(never)]
 pub(crate) fn wait_and_take_ended<S: Storage>(
@@ -257,7 +258,7 @@ impl<F: Drop, W: Drop, R: Drop, T: Drop> FutureTable<F, Arc<ExecutorState<W, R>>
         EndThenSearch::Searched(notice, found)
     }
 
-    // Ends a task whose poll was pending, and keeps its future.
+    // With both tables locked, ends a task whose poll was pending, and keeps its future.
     #[inline(always)]
     fn end_pending(
         &mut self,
@@ -288,8 +289,8 @@ impl<F: Drop, W: Drop, R: Drop, T: Drop> FutureTable<F, Arc<ExecutorState<W, R>>
         }
     }
 
-    // Ends a task that gave this output, and keeps it if the handle wants it. What is to be dropped
-    // comes out, and whom to wake.
+    // With both tables locked, ends a task that gave this output, and keeps it if the handle wants it. What
+    // is to be dropped comes out, and whom to wake.
     #[inline(always)]
     fn end_ready(
         &mut self,

@@ -2,10 +2,10 @@
 ghost use Rattle.std.specs.Prelude.{◌≡◌, IsTrue};
 ghost use Rattle.async_executor.specs.Answers.{is_ready, IsReadyErr, IsReadyNone};
 
-use crate::executor::TaskWaker;
 use crate::futures::local::LocalStorage;
 use crate::scheduler::Handle;
 use crate::task::{Cancelled, TaskIn, some_if_ok};
+use crate::waker::TaskWaker;
 use executor_core::task::{Future, Poll, Wake};
 use std::sync::Wait;
 
@@ -37,7 +37,7 @@ where
     W: Wake,
     R: Wait + Clone + Drop,
 {
-    /// As `Task::detach`.
+    /// As `Task::detach`, for a `LocalTask`.
     ///
     /// Example: `uses::limits_locally`, at `LocalExecutor::new_with`.
     #[inline(always)]
@@ -46,7 +46,7 @@ where
         inner.detach();
     }
 
-    /// As `Task::cancel`.
+    /// As `Task::cancel`, for a `LocalTask`.
     ///
     /// Example: `uses::cancels_locally`.
     ///
@@ -66,7 +66,7 @@ where
         LocalCancel { task: self }
     }
 
-    /// As `Task::fallible`.
+    /// As `Task::fallible`, for a `LocalTask`.
     ///
     /// Example: `uses::has_no_local_output`.
     ///
@@ -83,7 +83,7 @@ where
         LocalFallibleTask { task: self }
     }
 
-    /// As `Task::is_finished`.
+    /// As `Task::is_finished`, for a `LocalTask`.
     ///
     /// Example: `uses::finishes_locally`, at `LocalTask`.
     pub fn is_finished(&self) -> bool
@@ -176,7 +176,7 @@ where
     W: Wake,
     R: Wait + Clone + Drop,
 {
-    /// As `Task::detach`.
+    /// As `FallibleTask::detach`, for a `LocalFallibleTask`.
     ///
     /// Example: `uses::ends_locally`.
     ///
@@ -194,7 +194,7 @@ where
         task.detach();
     }
 
-    /// As `Task::cancel`.
+    /// As `FallibleTask::cancel`, for a `LocalFallibleTask`.
     ///
     /// Example: `uses::ends_locally`, at `LocalFallibleTask::detach`.
     pub fn cancel(self) -> LocalCancel<F, W, R>
@@ -204,7 +204,7 @@ where
         task.cancel()
     }
 
-    /// As `Task::is_finished`.
+    /// As `FallibleTask::is_finished`, for a `LocalFallibleTask`.
     ///
     /// Example: `uses::has_no_local_output`, at `LocalTask::fallible`.
     pub fn is_finished(&self) -> bool

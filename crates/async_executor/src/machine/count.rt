@@ -29,7 +29,7 @@ impl Model for Count {
 }
 
 impl Count {
-    /// One that begins.
+    /// A `Count` that begins, up to this limit.
     #[inline(always)]
     pub(in crate::machine) fn up_to(limit: u32) -> Count
         requires { 0 < limit }
@@ -41,7 +41,7 @@ impl Count {
         }
     }
 
-    /// It is below its limit, by its type. It does nothing.
+    /// A `Count` is below its limit, by its type. It does nothing.
     #[inline(always)]
     pub(in crate::machine) fn is_below(&self)
         ensures { self.now.counted < self.now.limit }

@@ -48,7 +48,7 @@ pub(crate) struct Runner {
 }
 
 impl Runner {
-    /// Its key.
+    /// The key of a run's `Runner`, which its `RunRest` keeps.
     #[inline(always)]
     pub(in crate::machine) fn key(&self) -> RunnerKey
         ensures { result ≡ self.now.key }
@@ -56,7 +56,7 @@ impl Runner {
         self.key
     }
 
-    // Its counts are below their limits, by their type. It does nothing.
+    // Both counts of a run's `Runner` are below their limits, by their type. It does nothing.
     #[inline(always)]
     fn counts(&self)
         ensures { IsWithin self.now }
@@ -65,7 +65,7 @@ impl Runner {
         self.found.is_below();
     }
 
-    /// The same after one task more was run, or, if that was the last of its turn, at the start of
+    /// A run's `Runner` after one task more was run, or, if that was the last of its turn, at the start of
     /// the next one.
     #[inline(always)]
     pub(in crate::machine) fn ran(self) -> Result<Runner, Runner>
@@ -79,7 +79,7 @@ impl Runner {
         Ok(runner)
     }
 
-    /// The same after one task more was found, and whether it takes its fair part before that runs.
+    /// A run's `Runner` after one task more was found, and whether it takes its fair part before that runs.
     #[inline(always)]
     pub(in crate::machine) fn found(self) -> (Runner, bool)
         ensures fixed { fixed result.0 ≡ fixed self }
@@ -101,7 +101,7 @@ enum Stage {
 }
 
 impl RunRest {
-    /// Whether the run has ended or was dropped. Nothing is left for it to do then.
+    /// Whether the run of this `RunRest` has ended or was dropped. Nothing is left for it to do then.
     pub fn is_ended(&self) -> bool
         ensures { result ≡ has_ended self.now }
     {
@@ -110,7 +110,7 @@ impl RunRest {
         matches!(self.stage, Ended)
     }
 
-    /// What its poll searches with.
+    /// What the run of this `RunRest` searches with in its poll.
     #[inline(always)]
     pub(crate) fn search(&self) -> Search
         ensures { result ≡ record { key = self.now.runner.key } }
@@ -120,14 +120,14 @@ impl RunRest {
         }
     }
 
-    // That of a run whose runner was not registered.
+    // The `RunRest` of a run whose runner was not registered.
     pub(in crate::machine) fn of_new(runner: Runner) -> RunRest
         ensures { result ≡ record { runner = runner; stage = Stage.New } }
     {
         RunRest { runner, stage: New }
     }
 
-    // That of a run whose runner is registered, and which sleeps under this number, if it is not 0.
+    // The `RunRest` of a run whose runner is registered, and which sleeps under this number, if it is not 0.
     #[inline(always)]
     pub(in crate::machine) fn of_joined(runner: Runner, number: usize) -> RunRest
         ensures { result ≡ record { runner = runner; stage = Stage.Joined number } }
@@ -138,7 +138,7 @@ impl RunRest {
         }
     }
 
-    // That of a run that has ended.
+    // The `RunRest` of a run that has ended.
     pub(in crate::machine) fn of_ended(runner: Runner) -> RunRest
         ensures { result ≡ record { runner = runner; stage = Stage.Ended } }
     {
@@ -148,7 +148,7 @@ impl RunRest {
         }
     }
 
-    /// The run is polled.
+    /// The run of this `RunRest` is polled.
     #[inline(always)]
     pub(crate) fn begin(self) -> Begun
         requires { has_ended self ≡ false }
@@ -163,7 +163,7 @@ impl RunRest {
         }
     }
 
-    /// The run is dropped. Its own future was dropped before.
+    /// The run of this `RunRest` is dropped. Its own future was dropped before.
     pub(crate) fn depart(self) -> Dropped
         requires { has_ended self ≡ false }
         ensures step { result ≡ dropped (begun self) }
@@ -235,7 +235,7 @@ enum RunState {
     Releasing(Releasing),
 }
 
-// Asks for an action.
+// Asks for an action, as a `RunMachine` in this state.
 #[inline(always)]
 fn ask<W>(state: RunState, action: RunAction<W>) -> RunNext<W>
     ensures { result ≡ ask state action }
@@ -243,7 +243,7 @@ fn ask<W>(state: RunState, action: RunAction<W>) -> RunNext<W>
     RunNext::Act(RunMachine { state }, action)
 }
 
-// The run is polled.
+// What a `RunMachine` asks for as its run is polled.
 #[inline(always)]
 fn poll<W>(begun: Begun) -> RunNext<W>
     ensures { result ≡ polls begun }
@@ -256,7 +256,7 @@ fn poll<W>(begun: Begun) -> RunNext<W>
     }
 }
 
-// The run is dropped.
+// What a `RunMachine` asks for once the own future of its run was dropped.
 #[inline(always)]
 fn drop_it<W>(dropped: Dropped) -> RunNext<W>
     ensures { result ≡ drops dropped }
@@ -272,7 +272,7 @@ fn drop_it<W>(dropped: Dropped) -> RunNext<W>
     }
 }
 
-// A task is searched for.
+// A `RunMachine` asks for a search.
 #[inline(always)]
 fn search<W>(searching: Searching<Runner>) -> RunNext<W>
     ensures { result ≡ searches searching }
@@ -283,7 +283,7 @@ fn search<W>(searching: Searching<Runner>) -> RunNext<W>
     )
 }
 
-// A task is run.
+// A `RunMachine` asks for a task to be run.
 #[inline(always)]
 fn run<W>(under_way: UnderWay, taken: Taken<()>) -> RunNext<W>
     ensures { result ≡ runs under_way taken }
@@ -295,7 +295,7 @@ fn run<W>(under_way: UnderWay, taken: Taken<()>) -> RunNext<W>
 }
 
 impl Waiting<Runner> {
-    // The counts of the runner that goes the step are below their limits. It does nothing.
+    // The counts of a `RunMachine` that waits in a step of a tick are below their limits. It does nothing.
     #[inline(always)]
     fn counts(&self)
         ensures { IsWithin (actor_of self.now) }
@@ -315,7 +315,7 @@ impl Waiting<Runner> {
     }
 }
 
-// What comes of a reply to a step of a tick, as the machine says it.
+// What a `RunMachine` makes of a reply to a step of a tick.
 #[inline(always)]
 fn decide<W>(came: Came<Runner, W>) -> RunNext<W>
     ensures { result ≡ decision came }
@@ -331,7 +331,7 @@ fn decide<W>(came: Came<Runner, W>) -> RunNext<W>
     }
 }
 
-// A run whose queue has ended leaves the sleepers.
+// A `RunMachine` leaves the sleepers: the queue of its run has ended.
 #[inline(always)]
 fn leave<W>(left: Left) -> RunNext<W>
     ensures { result ≡ leaves left }
@@ -346,15 +346,14 @@ pub struct RunMachine {
 }
 
 impl RunMachine {
-    /// The rest of a run that was never polled, with the limits of an executor to which none were
-    /// handed in.
+    /// The `RunRest` of a run that was never polled, with the default `Limits`.
     pub fn new(key: RunnerKey) -> RunRest
         ensures { result ≡ new_rest key default_limits }
     {
         RunMachine::new_with(key, Limits::default())
     }
 
-    /// The same with these limits, but for the room in its queue, which is ignored here.
+    /// As `RunMachine::new`, with these limits, but for the room in its queue, which is ignored here.
     pub fn new_with(key: RunnerKey, limits: Limits) -> RunRest
         requires { is_lawful limits ≡ true }
         ensures rest { result ≡ new_rest key limits }
@@ -381,7 +380,7 @@ impl RunMachine {
         }
     }
 
-    /// What comes after this reply, which has to answer the last action.
+    /// What a `RunMachine` does after this reply, which has to answer its last action.
     pub fn next<W>(self, reply: RunReply<W>) -> RunNext<W>
         requires { answers (asked self) reply ≡ true }
         ensures decided { result ≡ decided self reply }

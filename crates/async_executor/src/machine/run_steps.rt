@@ -47,7 +47,7 @@ pub(crate) enum Dropped {
 }
 
 impl Begun {
-    /// The run is dropped before. Its own future was dropped then.
+    /// A run's step after `Begun`: the run is dropped, and not polled. Its own future was dropped before.
     #[inline(always)]
     pub(in crate::machine) fn depart(self) -> Dropped
         ensures step { result ≡ dropped self }
@@ -68,7 +68,7 @@ pub(crate) struct Registering {
 }
 
 impl Registering {
-    /// Makes it. A ring that is refused comes back.
+    /// Takes a run's step `Registering`: makes the ring the queue of its runner. A refused ring comes back.
     pub(crate) fn make<W>(
         self,
         cells: &mut Cells<(), (), W>,
@@ -86,7 +86,7 @@ impl Registering {
         }
     }
 
-    /// The ring is the queue of its runner.
+    /// A run's step after `Registering`: the ring is the queue of its runner.
     pub(in crate::machine) fn registered(self) -> PollingOwn
         ensures step { result ≡ record { runner = self.runner; number = 0 } }
         ensures world { MakesAt at_rest stays (of_registering self) (of_polling result) }
@@ -95,7 +95,7 @@ impl Registering {
         PollingOwn { runner, number: 0 }
     }
 
-    /// There is no ring.
+    /// A run's step after `Registering`: there is no ring.
     pub(crate) fn refused(self) -> NotRegistered
         ensures step { result ≡ record { runner = self.runner } }
         ensures world { of_not_registered result ≡ of_registering self }
@@ -111,7 +111,8 @@ pub(crate) struct NotRegistered {
 }
 
 impl NotRegistered {
-    /// Wakes the waker. The run tries again at its next poll. No lock may be held.
+    /// Takes a run's step `NotRegistered`: wakes the waker. The run tries again at its next poll. No lock may
+    /// be held.
     pub(crate) fn wake<W: Wake>(self, w: &W) -> RunRest
         ensures rest { result ≡ record { runner = self.runner; stage = stage.New } }
         ensures world { rest_ticker result ≡ of_not_registered self }
@@ -120,7 +121,7 @@ impl NotRegistered {
         self.rest()
     }
 
-    /// The waker was woken.
+    /// The rest of a run after `NotRegistered`: the waker was woken.
     pub(in crate::machine) fn rest(self) -> RunRest
         ensures { result ≡ record { runner = self.runner; stage = stage.New } }
     {
@@ -143,14 +144,16 @@ pub(crate) enum OwnPolled<T> {
     Ready(T, Unregistering),
 }
 
-// Drops the future. It is a function, so that the room of an empty place is cleared on this path alone.
+// Drops the own future in a run's step `PollingOwn`. It is a function, so that the room of an empty place is
+// cleared on this path alone.
 #[inline(always)]
 fn let_go<G: Drop>(own: &mut Option<G>) {
     *own = None;
 }
 
 impl PollingOwn {
-    /// Polls it once. One that is ready is dropped. No lock may be held.
+    /// Takes a run's step `PollingOwn`: polls the own future once. One that is ready is dropped. No lock may
+    /// be held.
     #[inline(always)]
     pub(crate) fn poll<W, G: Future<W>>(self, own: &mut Option<G>, w: &W) -> OwnPolled<G::Output>
         ensures runner { runner_polled result ≡ self.runner }
@@ -169,7 +172,7 @@ impl PollingOwn {
         }
     }
 
-    /// The own future is pending.
+    /// A run's step after `PollingOwn`: the own future is pending.
     #[inline(always)]
     pub(in crate::machine) fn pending(self) -> Searching<Runner>
         ensures { result ≡ record { actor = self.runner; number = self.number } }
@@ -181,7 +184,7 @@ impl PollingOwn {
         }
     }
 
-    /// The own future was ready, and was dropped.
+    /// A run's step after `PollingOwn`: the own future was ready, and was dropped.
     #[inline(always)]
     pub(in crate::machine) fn ready(self) -> Unregistering
         ensures { result ≡ record { runner = self.runner; number = self.number } }
@@ -198,7 +201,7 @@ pub(crate) struct Search {
 }
 
 impl Search {
-    /// Searches for a task, with a word that says where the walk over the other queues starts.
+    /// Makes a run's `Search` for a task, with a word that says where the walk over the other queues starts.
     #[inline(always)]
     pub(crate) fn make<W>(
         &self,
@@ -225,7 +228,7 @@ pub(crate) struct NextTask {
 }
 
 impl NextTask {
-    /// Which task it is.
+    /// Which task a run's search found.
     #[inline(always)]
     pub(crate) fn id(&self) -> TaskId
         ensures { result ≡ self.now.taken.id }
@@ -235,7 +238,7 @@ impl NextTask {
 }
 
 impl Searching<Runner> {
-    /// The search found this task.
+    /// A run's step after `Searching`: the search found this task.
     #[inline(always)]
     pub(crate) fn found_next(self, next: NextTask) -> Found<Runner>
         ensures { IsFound self next.taken next.notice result }
@@ -254,7 +257,7 @@ pub(crate) enum Started {
 }
 
 impl Running<Runner> {
-    /// Counts the task in the turn of the run, before it is polled.
+    /// Takes a run's step `Running`: counts the task that was found, before it is polled.
     #[inline(always)]
     pub(crate) fn start(self) -> Started
         ensures fixed { fixed (runner_started result) ≡ fixed self.actor }
@@ -278,7 +281,7 @@ pub(crate) struct Sharing {
 }
 
 impl Sharing {
-    /// Takes it.
+    /// Takes a run's step `Sharing`: takes the fair part of the global queue.
     #[inline(always)]
     pub(crate) fn make<W>(self, cells: &mut Cells<(), (), W>) -> (UnderWay, Taken<()>)
         ensures cells { cells.new ≡ after_fair cells.old self.runner.key.number }
@@ -289,7 +292,7 @@ impl Sharing {
         self.shared()
     }
 
-    /// The fair part was taken.
+    /// A run's step after `Sharing`: the fair part was taken.
     #[inline(always)]
     pub(in crate::machine) fn shared(self) -> (UnderWay, Taken<()>)
         ensures { result ≡ (record { runner = self.runner }, self.taken) }
@@ -305,7 +308,8 @@ pub(crate) struct UnderWay {
 }
 
 impl UnderWay {
-    /// It was run. After the last one of a turn the run yields, so that others of its thread go on.
+    /// A run's step after `UnderWay`: the task was run. After the last one of a turn the run yields, so that
+    /// others of its thread go on.
     #[inline(always)]
     pub(crate) fn ran(self) -> Result<Searching<Runner>, TurnOver>
         ensures fixed { fixed (runner_turned result) ≡ fixed self.runner }
@@ -326,7 +330,7 @@ pub(crate) struct TurnOver {
 }
 
 impl TurnOver {
-    /// Wakes the waker. No lock may be held.
+    /// Takes a run's step `TurnOver`: wakes the waker. No lock may be held.
     #[inline(always)]
     pub(crate) fn wake<W: Wake>(self, w: &W) -> RunRest
         ensures rest { result ≡ record { runner = self.runner; stage = stage.Joined 0 } }
@@ -336,7 +340,7 @@ impl TurnOver {
         self.rest()
     }
 
-    /// The waker was woken.
+    /// The rest of a run after `TurnOver`: the waker was woken.
     #[inline(always)]
     pub(in crate::machine) fn rest(self) -> RunRest
         ensures { result ≡ record { runner = self.runner; stage = stage.Joined 0 } }
@@ -347,7 +351,7 @@ impl TurnOver {
 }
 
 impl Rested<Runner> {
-    /// What the run keeps until its next poll.
+    /// The rest of a run after `Rested`: what it keeps until its next poll.
     #[inline(always)]
     pub(crate) fn keep(self) -> RunRest
         ensures rest { result ≡ record { runner = self.actor; stage = stage.Joined self.number } }
@@ -365,7 +369,8 @@ pub(crate) struct Unregistering {
 }
 
 impl Unregistering {
-    /// Ends it. There is a notice if tasks stood in it, which are queued globally now.
+    /// Takes a run's step `Unregistering`: ends the queue of its runner. There is a notice if tasks stood in
+    /// it, which are queued globally now.
     pub(crate) fn make<W>(self, cells: &mut Cells<(), (), W>) -> (Option<Notice>, Left)
         ensures cells { cells.new ≡ after_unregister cells.old self.runner.key.number }
         ensures step { result.1 ≡ record { runner = self.runner; number = self.number } }
@@ -375,7 +380,7 @@ impl Unregistering {
         (notice, self.unregistered())
     }
 
-    /// The queue has ended.
+    /// A run's step after `Unregistering`: the queue has ended.
     pub(in crate::machine) fn unregistered(self) -> Left
         ensures { result ≡ record { runner = self.runner; number = self.number } }
     {
@@ -391,7 +396,7 @@ pub(crate) struct Left {
 }
 
 impl Left {
-    /// That notice was spent, if there was one.
+    /// A run's step after `Left`: the notice of its queue was spent, if there was one.
     pub(crate) fn depart(self) -> Departing<Runner>
         ensures step { result ≡ departing self.runner self.number }
         ensures world { LeadsRun self.runner in_leaving left_awake (of_left self) (of_departing result) }
@@ -402,7 +407,7 @@ impl Left {
 }
 
 impl Departed<Runner> {
-    /// What the run keeps, which has ended.
+    /// The rest of a run after `Departed`: what it keeps, which has ended.
     pub(crate) fn end(self) -> RunRest
         ensures rest { result ≡ record { runner = self.actor; stage = stage.Ended } }
         ensures world { rest_ticker result ≡ of_departed self (runner_in self.actor) }
@@ -418,7 +423,7 @@ pub(crate) struct Releasing {
 }
 
 impl Releasing {
-    /// Gives it back.
+    /// Takes a run's step `Releasing`: gives the place of its runner back.
     pub(crate) fn make<W>(self, cells: &mut Cells<(), (), W>) -> Departed<Runner>
         ensures cells { cells.new ≡ after_release_runner cells.old self.runner.key.number }
         ensures step { result ≡ record { actor = self.runner } }
@@ -428,7 +433,7 @@ impl Releasing {
         self.released()
     }
 
-    /// It was given back.
+    /// A run's step after `Releasing`: the place was given back.
     pub(in crate::machine) fn released(self) -> Departed<Runner>
         ensures { result ≡ record { actor = self.runner } }
     {

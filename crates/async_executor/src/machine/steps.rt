@@ -39,7 +39,7 @@ pub(crate) struct Searching<A> {
 }
 
 impl<A> Searching<A> {
-    /// A task was found, with the notice of its take.
+    /// A tick's step after `Searching`: a task was found, with the notice of its take.
     #[inline(always)]
     pub(crate) fn found(self, taken: Taken<()>, notice: Notice) -> Found<A>
         ensures found { IsFound self taken notice result }
@@ -57,7 +57,7 @@ impl<A> Searching<A> {
         })
     }
 
-    /// No task was found.
+    /// A tick's step after `Searching`: no task was found.
     #[inline(always)]
     pub(crate) fn empty(self) -> GoingToSleep<A>
         ensures going { IsGoingToSleep self result }
@@ -89,8 +89,8 @@ pub(crate) struct Removing<A> {
 }
 
 impl<A> Removing<A> {
-    /// Removes it. The change leaves its waker, or a notice if it was notified. Which of both comes out at
-    /// the store alone, so `world` holds for both.
+    /// Takes a tick's step `Removing`: removes its number. The change leaves its waker, or a notice if it was
+    /// notified. Which of both comes out at the store alone, so `world` holds for both.
     #[inline(always)]
     pub(crate) fn make<W>(
         self,
@@ -133,8 +133,8 @@ pub(crate) struct StoringRemoved<A> {
 }
 
 impl<A> StoringRemoved<A> {
-    /// The flag was stored, which gave a notice if the number was notified. Its holder acts on its
-    /// task, and not on what it was notified of: that is passed on.
+    /// A tick's step after `StoringRemoved`: the flag was stored, which gave a notice if the number was
+    /// notified. Its holder acts on its task, and not on what it was notified of: that is passed on.
     #[inline(always)]
     pub(crate) fn stored(self, notified: Option<Notice>) -> (Announcing<A>, Notice)
         ensures step { result ≡ (record { actor = self.actor; taken = self.taken }, self.notice) }
@@ -149,7 +149,7 @@ impl<A> StoringRemoved<A> {
     }
 }
 
-// The notices of a task and of a removal as one.
+// The notices of the task that a tick found and of its removal, as one.
 #[inline(always)]
 fn joined(kept: Notice, notified: Option<Notice>) -> Notice
     ensures { result ≡ kept }
@@ -168,7 +168,7 @@ pub(crate) struct Announcing<A> {
 }
 
 impl<A> Announcing<A> {
-    /// The notice was spent, and the pick and the wakeup that came of it.
+    /// A tick's step after `Announcing`: the notice was spent, and the pick and the wakeup that came of it.
     #[inline(always)]
     pub(crate) fn announced(self) -> Running<A>
         ensures step { result ≡ record { actor = self.actor; taken = self.taken } }
@@ -204,7 +204,7 @@ pub(crate) enum Went<A, W> {
 }
 
 impl<A> GoingToSleep<A> {
-    /// Puts the waker into the list.
+    /// Takes a tick's step `GoingToSleep`: puts the waker into the list.
     #[inline(always)]
     pub(crate) fn make<W>(self, sleepers: &mut Sleepers<W>, waker: W) -> Went<A, W>
         requires { sleepers.old.is_open ≡ false }
@@ -225,7 +225,7 @@ impl<A> GoingToSleep<A> {
         }
     }
 
-    /// The copy was refused.
+    /// A tick's step after `GoingToSleep`: the copy of the waker was refused.
     #[inline(always)]
     pub(crate) fn refused(self) -> Yielding<A>
         ensures actor { result.actor ≡ actor_going self }
@@ -244,7 +244,7 @@ pub(crate) struct Inserting<A> {
 }
 
 impl<A> Inserting<A> {
-    /// The waker stands in the list, under this number.
+    /// A tick's step after `Inserting`: the waker stands in the list, under this number.
     #[inline(always)]
     pub(in crate::machine) fn inserted(self, number: usize) -> Storing<A>
         ensures step { result ≡ record { actor = self.actor; number = number } }
@@ -272,7 +272,8 @@ pub(crate) struct Updating<A> {
 }
 
 impl<A> Updating<A> {
-    /// Sleeps on by the waker that stands in the list, unless it was notified.
+    /// Takes a tick's step `Updating`: sleeps on by the waker that stands in the list, unless it was
+    /// notified.
     #[inline(always)]
     pub(crate) fn sleep_on<W>(self, sleepers: &Sleepers<W>) -> Result<Rested<A>, Updating<A>>
         ensures step { result ≡ sleeps_on (notified_number sleepers.now) self }
@@ -284,7 +285,7 @@ impl<A> Updating<A> {
         Ok(self.asleep())
     }
 
-    /// It was not notified, and sleeps on.
+    /// A tick's step after `Updating`: it was not notified, and sleeps on.
     #[inline(always)]
     pub(in crate::machine) fn asleep(self) -> Rested<A>
         ensures step { result ≡ record { actor = self.actor; number = self.number } }
@@ -294,7 +295,7 @@ impl<A> Updating<A> {
         Rested { actor, number }
     }
 
-    /// It was notified, and stands in the list again.
+    /// A tick's step after `Updating`: it was notified, and stands in the list again.
     #[inline(always)]
     pub(in crate::machine) fn was_notified(self) -> Storing<A>
         ensures step { result ≡ record { actor = self.actor; number = self.number } }
@@ -304,7 +305,7 @@ impl<A> Updating<A> {
         Storing { actor, number }
     }
 
-    /// The copy was refused, or no sleeper has the number.
+    /// A tick's step after `Updating`: the copy was refused, or no sleeper has the number.
     #[inline(always)]
     pub(in crate::machine) fn refused(self) -> Yielding<A>
         ensures step { result ≡ record { actor = self.actor; number = self.number } }
@@ -322,8 +323,8 @@ pub(crate) struct Storing<A> {
 }
 
 impl<A> Storing<A> {
-    /// The flag was stored. A task that was queued before the waker stood in the list has woken
-    /// nobody, so a search comes next.
+    /// A tick's step after `Storing`: the flag was stored. A task that was queued before the waker stood in
+    /// the list has woken nobody, so a search comes next.
     #[inline(always)]
     pub(crate) fn stored(self, again: Again) -> (Searching<A>, Again)
         ensures step { result ≡ (record { actor = self.actor; number = self.number }, again) }
@@ -341,7 +342,7 @@ pub(crate) struct Yielding<A> {
 }
 
 impl<A> Yielding<A> {
-    /// Wakes the waker. No lock may be held.
+    /// Takes a tick's step `Yielding`: wakes the waker. No lock may be held.
     #[inline(always)]
     pub(crate) fn wake<W: Wake>(self, w: &W) -> Rested<A>
         ensures step { result ≡ record { actor = self.actor; number = self.number } }
@@ -351,7 +352,7 @@ impl<A> Yielding<A> {
         self.yielded()
     }
 
-    /// The waker was woken.
+    /// A tick's step after `Yielding`: the waker was woken.
     #[inline(always)]
     pub(in crate::machine) fn yielded(self) -> Rested<A>
         ensures step { result ≡ record { actor = self.actor; number = self.number } }
@@ -377,7 +378,7 @@ pub(crate) enum Departing<A> {
 }
 
 impl<A> Departing<A> {
-    // By its number, or 0 if it has none.
+    // A tick's step `Departing`, by its number, or 0 if it has none.
     #[inline(always)]
     pub(in crate::machine) fn of(actor: A, number: usize) -> Departing<A>
         ensures { result ≡ departing actor number }
@@ -396,7 +397,8 @@ pub(crate) struct Leaving<A> {
 }
 
 impl<A> Leaving<A> {
-    /// Removes it. The change leaves its waker, or a notice if it was notified.
+    /// Takes a tick's step `Leaving`: removes its number. The change leaves its waker, or a notice if it was
+    /// notified.
     #[inline(always)]
     pub(crate) fn make<W>(self, sleepers: &mut Sleepers<W>) -> (StoringLeft<A>, Change<Removed<W>>)
         requires { sleepers.old.is_open ≡ false }
@@ -425,7 +427,8 @@ pub(crate) struct StoringLeft<A> {
 }
 
 impl<A> StoringLeft<A> {
-    /// The flag was stored. What it gave if the number was notified is passed on.
+    /// A tick's step after `StoringLeft`: the flag was stored. What it gave if the number was notified is
+    /// passed on.
     #[inline(always)]
     pub(crate) fn stored(self) -> Departed<A>
         ensures step { result ≡ record { actor = self.actor } }

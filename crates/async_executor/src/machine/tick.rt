@@ -32,14 +32,14 @@ pub struct TickRest {
 }
 
 impl TickRest {
-    /// Whether the tick has run a task or was dropped. Nothing is left for it to do then.
+    /// Whether the tick of this `TickRest` has run a task or was dropped. Nothing is left for it to do then.
     pub fn is_ended(self) -> bool
         ensures { result ≡ self.ended }
     {
         self.ended
     }
 
-    /// That of a tick that sleeps under this number, or is awake if the number is 0.
+    /// The `TickRest` of a tick that sleeps under this number, or is awake if the number is 0.
     pub(in crate::machine) fn at(number: usize) -> TickRest
         ensures { result ≡ record { number = number; ended = false } }
     {
@@ -49,14 +49,14 @@ impl TickRest {
         }
     }
 
-    /// The number under which the tick sleeps, or 0 if it is awake.
+    /// The number under which the tick of this `TickRest` sleeps, or 0 if it is awake.
     pub fn number(self) -> usize
         ensures { result ≡ self.number }
     {
         self.number
     }
 
-    // That of a tick that has ended.
+    // The `TickRest` of a tick that has ended.
     #[inline(always)]
     fn after_the_end() -> TickRest
         ensures { result ≡ record { number = 0; ended = true } }
@@ -67,7 +67,7 @@ impl TickRest {
         }
     }
 
-    /// The tick is polled.
+    /// The tick of this `TickRest` is polled.
     #[inline(always)]
     pub(crate) fn begin(self) -> Searching<Alone>
         requires { self.ended ≡ false }
@@ -80,7 +80,7 @@ impl TickRest {
         }
     }
 
-    /// The tick is dropped.
+    /// The tick of this `TickRest` is dropped.
     #[inline(always)]
     pub(crate) fn depart(self) -> Departing<Alone>
         requires { self.ended ≡ false }
@@ -96,7 +96,7 @@ impl TickRest {
 pub(crate) struct Alone;
 
 impl Running<Alone> {
-    /// The task, which is to be run. It is the last thing that the tick does.
+    /// The task that `Alone` is to run: the last thing that the tick does.
     #[inline(always)]
     pub(crate) fn run(self) -> (Taken<()>, Departed<Alone>)
         ensures task { result.0 ≡ self.taken }
@@ -108,7 +108,7 @@ impl Running<Alone> {
 }
 
 impl Rested<Alone> {
-    /// What the tick keeps until its next poll.
+    /// The `TickRest` that a tick keeps until its next poll.
     #[inline(always)]
     pub(crate) fn keep(self) -> TickRest
         ensures step { result ≡ record { number = self.number; ended = false } }
@@ -120,7 +120,7 @@ impl Rested<Alone> {
 }
 
 impl Departed<Alone> {
-    /// What the tick keeps, which has ended.
+    /// The `TickRest` that a tick keeps once it has ended.
     #[inline(always)]
     pub(crate) fn end(self) -> TickRest
         ensures step { result ≡ record { number = 0; ended = true } }
@@ -147,7 +147,7 @@ enum TickState {
     Running(Departed<Alone>),
 }
 
-// The tick is polled, and searches for a task.
+// What a `TickMachine` asks for as its tick is polled: a search.
 #[inline(always)]
 fn poll<W>(number: usize) -> TickNext<W>
     ensures { result ≡ polls number }
@@ -159,7 +159,7 @@ fn poll<W>(number: usize) -> TickNext<W>
     )
 }
 
-// The tick has run its task, or was dropped.
+// How a `TickMachine` ends: its tick has run its task, or was dropped.
 #[inline(always)]
 fn finish<W>(departed: Departed<Alone>) -> TickNext<W>
     ensures { result ≡ returns }
@@ -167,7 +167,7 @@ fn finish<W>(departed: Departed<Alone>) -> TickNext<W>
     TickNext::Rest(departed.end(), TickEnd::Return)
 }
 
-// What comes of a reply, as the machine says it.
+// What a `TickMachine` makes of a reply.
 #[inline(always)]
 fn decide<W>(came: Came<Alone, W>) -> TickNext<W>
     ensures { result ≡ decision came }
@@ -183,7 +183,7 @@ fn decide<W>(came: Came<Alone, W>) -> TickNext<W>
     }
 }
 
-// Asks for an action.
+// Asks for an action, as a `TickMachine` in this state.
 #[inline(always)]
 fn act<W>(state: TickState, action: TickAction<W>) -> TickNext<W>
     ensures { result ≡ TickNext.Act (record { state = state }) action }
@@ -198,7 +198,7 @@ pub struct TickMachine {
 }
 
 impl TickMachine {
-    /// The rest of a tick that was never polled.
+    /// The `TickRest` of a tick that was never polled.
     pub fn new() -> TickRest
         ensures { result ≡ record { number = 0; ended = false } }
     {
@@ -218,7 +218,7 @@ impl TickMachine {
         }
     }
 
-    /// What comes after this reply, which has to answer the last action.
+    /// What a `TickMachine` does after this reply, which has to answer its last action.
     ///
     /// A change of the list is followed by its store, so both can be made while the list is locked.
     #[inline(always)]

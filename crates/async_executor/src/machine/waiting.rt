@@ -139,7 +139,7 @@ pub(in crate::machine) enum Came<A, W> {
     End(Departed<A>),
 }
 
-// A task was found.
+// A task was found: the step that waits for a reply next, and its action.
 #[inline(always)]
 fn find<A, W>(found: steps::Found<A>) -> Came<A, W>
     ensures { result ≡ finds found }
@@ -155,7 +155,7 @@ fn find<A, W>(found: steps::Found<A>) -> Came<A, W>
     }
 }
 
-// No task was found.
+// No task was found: the step that waits for a reply next, and its action.
 #[inline(always)]
 fn go_to_sleep<A, W>(going: GoingToSleep<A>) -> Came<A, W>
     ensures { result ≡ sleeps going }
@@ -169,7 +169,7 @@ fn go_to_sleep<A, W>(going: GoingToSleep<A>) -> Came<A, W>
     }
 }
 
-// It could not go to sleep.
+// It could not go to sleep: no step waits for a reply.
 #[inline(always)]
 fn yield_now<A, W>(yielding: Yielding<A>) -> Came<A, W>
     ensures { result ≡ yields yielding }
@@ -177,7 +177,7 @@ fn yield_now<A, W>(yielding: Yielding<A>) -> Came<A, W>
     Came::Rest(yielding.yielded(), Yield)
 }
 
-/// It leaves the sleepers, if it has a number.
+/// It leaves the sleepers, and waits for a reply, if it has a number.
 #[inline(always)]
 pub(in crate::machine) fn depart<A, W>(departing: Departing<A>) -> Came<A, W>
     ensures { result ≡ departs departing }
@@ -191,7 +191,7 @@ pub(in crate::machine) fn depart<A, W>(departing: Departing<A>) -> Came<A, W>
     }
 }
 
-// It has left, and what it was notified of is spent.
+// It has left, and waits for replies until what it was notified of is spent.
 #[inline(always)]
 fn pass_on<A, W>(departed: Departed<A>, notified: Option<Notice>) -> Came<A, W>
     ensures step { result ≡ passes_on departed notified }
@@ -204,7 +204,7 @@ fn pass_on<A, W>(departed: Departed<A>, notified: Option<Notice>) -> Came<A, W>
 }
 
 impl Spending {
-    /// What is asked next, or nothing once the notice is spent.
+    /// What a step that spends its notice asks next, or nothing once the notice is spent.
     #[inline(always)]
     pub(in crate::machine) fn next<W>(
         self,
@@ -227,7 +227,7 @@ impl Spending {
 }
 
 impl<A> Waiting<A> {
-    /// What comes after this reply, which has to answer the last action.
+    /// What comes after the reply that this step waits for, which has to answer the last action.
     #[inline(always)]
     pub(in crate::machine) fn next<W>(self, reply: TickReply<W>) -> Came<A, W>
         requires { answers (asked_of self) reply ≡ true }

@@ -8,7 +8,7 @@ use crate::machine::run_steps::{NotRegistered, PollingOwn, TurnOver};
 use crate::machine::steps::{GoingToSleep, Searching, Yielding};
 
 impl PollingOwn {
-    /// There is no own future to poll.
+    /// A worker's step after `PollingOwn`: there is no own future to poll.
     #[inline(always)]
     pub(crate) fn go_on(self) -> Searching<Runner>
         ensures { result ≡ record { actor = self.runner; number = self.number } }
@@ -22,7 +22,7 @@ impl PollingOwn {
 }
 
 impl NotRegistered {
-    /// The worker tries again at its next turn.
+    /// What a worker keeps after `NotRegistered`: it tries again at its next turn.
     pub(crate) fn keep(self) -> RunRest
         ensures runner { result.runner ≡ self.runner }
         ensures goes_on { has_ended result ≡ false }
@@ -43,7 +43,7 @@ impl GoingToSleep<Runner> {
 }
 
 impl Yielding<Runner> {
-    // No task was found, and nobody is woken for that.
+    // A worker found no task, and nobody is woken for that.
     #[inline(always)]
     fn stay_awake(self) -> RunRest
         ensures runner { result.runner ≡ self.actor }

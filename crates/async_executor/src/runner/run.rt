@@ -4,11 +4,11 @@
 //! poll of a task takes each lock once: the task that was polled is ended and the next one is taken
 //! in one change. If the end leaves something to drop or to wake, that is done first, and the
 //! search is a change of its own, unless no task was scheduled then.
-ghost use Rattle.std.specs.Prelude.{◌≡◌, [], true, false, Some, None, IsTrue, IfErr, MatchResult};
+ghost use Rattle.std.specs.Prelude.{◌≡◌, [], true, false, Some, None, IsTrue, IfOk, IfErr, MatchResult};
 ghost use Rattle.executor_core.specs.Limits.{is_lawful};
 ghost use Rattle.async_executor.specs.RunError.{run_cause, run_future};
 ghost use Rattle.async_executor.specs.Answers.{is_ready};
-ghost use Rattle.async_executor.specs.Runs.{has_ended, ids_in, new_rest};
+ghost use Rattle.async_executor.specs.Runs.{has_ended, ids_in, new_rest, IsNewRun};
 ghost use Rattle.async_executor.specs.Runs.Fixed.{fixed, runner_worked};
 ghost use Rattle.async_executor.specs.Steps.{actor_going};
 ghost use Rattle.async_executor.specs.Deferred.{IsHeldRight, IsDeferredRight};
@@ -57,7 +57,7 @@ pub enum RunError<G> {
 }
 
 impl<G> RunError<G> {
-    // Why no place was reserved, with the future.
+    // The `RunError` that says why no place was reserved, with the future.
     pub(crate) fn of(error: RunnerError, future: G) -> RunError<G>
         ensures future { run_future result ≡ future }
         ensures cause { run_cause result ≡ error }
@@ -68,7 +68,7 @@ impl<G> RunError<G> {
         }
     }
 
-    /// The future that was refused.
+    /// The future of the run that was refused.
     ///
     /// Example: `uses::helped`, at `RunError`.
     pub fn into_inner(self) -> G
@@ -97,10 +97,38 @@ struct Own<G> {
     ghost empty: { ids_in ring ≡ [] },
 }
 
+impl<S: Storage> ExecutorIn<S> {
+    /// `Executor::run`, for both kinds of storage: a future that runs tasks beside this one. The queue of its
+    /// runner is made here, and a sleeper's and a runner's place are reserved. What was made before a refusal
+    /// is given back.
+    pub(crate) fn run<G: Future<S::Waker>>(&self, future: G) -> Result<RunIn<'_, S, G>, RunError<G>>
+        ensures ok { IfOk result (λ run. has_ended run.rest ≡ false) }
+        ensures limits { IfOk result (λ run. IsNewRun self.now.limits run.rest run.own.ring) }
+        ensures refused { IfErr result (λ e. run_future e ≡ future) }
+    {
+        let state = self.state();
+        let Ok(ring) = Ring::new(state.alloc(), self.limits.local) else {
+            return Err(RunError::OutOfMemory(future));
+        };
+        // Before the runner's place: no number is given twice, so one that is refused later is lost.
+        if state.reserve_sleeper().is_err() {
+            return Err(RunError::OutOfMemory(future));
+        }
+        let reserved = state.cells().reserve_runner();
+        match reserved {
+            Ok(key) => Ok(RunIn::new(self, key, self.limits, ring, future)),
+            Err(error) => {
+                state.release_sleeper();
+                Err(RunError::of(error, future))
+            }
+        }
+    }
+}
+
 impl<'a, S: Storage, G: Future<S::Waker>> RunIn<'a, S, G> {
-    /// A run that was never polled, with these limits. It has reserved places among the sleepers and
-    /// the runners, and the empty queue of its runner.
-    pub(crate) fn new(
+    // A `RunIn` that was never polled, with these limits. It has reserved places among the sleepers and the
+    // runners, and the empty queue of its runner.
+    fn new(
         executor: &'a ExecutorIn<S>,
         key: RunnerKey,
         limits: Limits,
@@ -137,8 +165,8 @@ struct Driver<'x, 'y, S: Storage, G: Drop> {
 }
 
 impl<'x, 'y, S: Storage, G: Drop> Driver<'x, 'y, S, G> {
-    // Searches for a task, and takes its future out. Each search takes one word. One in vain does not
-    // ask for the futures.
+    // Searches for a task of a run, and takes its future out. Each search takes one word. One in vain does
+    // not ask for the futures.
     #[inline(always)]
     fn search(&mut self, again: Option<Again>) -> Option<NextTask> {
         let own = &mut *self.own;
@@ -153,7 +181,7 @@ impl<'x, 'y, S: Storage, G: Drop> Driver<'x, 'y, S, G> {
         found
     }
 
-    // Runs a task, and those that are found after it, until none is found or the turn is over. It is
+    // Runs the task that a run found, and those after it, until none is found or the turn is over. It is
     // asked whether a search follows before a task is ended, so that both are one change.
     fn run_tasks(&mut self, running: Running<Runner>) -> Result<GoingToSleep<Runner>, TurnOver>
         ensures { fixed (runner_worked result) ≡ fixed running.actor }
@@ -187,7 +215,7 @@ impl<'x, 'y, S: Storage, G: Drop> Driver<'x, 'y, S, G> {
         unreachable!()
     }
 
-    // Ends the task and searches for the next one.
+    // Ends a run's task, and searches for the next one.
     #[inline(always)]
     fn end_then_search(&mut self, id: TaskId, ran: Ran<(), OutputIn<S>>) -> Option<NextTask>
         requires { IsHeldRight ran }
@@ -233,7 +261,7 @@ impl<'x, 'y, S: Storage, G: Drop> Driver<'x, 'y, S, G> {
         self.search_anew()
     }
 
-    // Does what the end of a task has left to do.
+    // Does what the end of a run's task has left to do.
     #[cold]
     #[inline(never)]
     fn finish(&mut self, id: TaskId, deferred: Deferred<S::Waker, OutputIn<S>>)
@@ -243,7 +271,7 @@ impl<'x, 'y, S: Storage, G: Drop> Driver<'x, 'y, S, G> {
         self.executor.finish(id, deferred);
     }
 
-    // Searches for a task, which it seldom does apart from the end of the last one.
+    // Searches for a task, which a run seldom does apart from the end of the last one.
     #[cold]
     #[inline(never)]
     fn search_anew(&mut self) -> Option<NextTask> {
@@ -251,7 +279,7 @@ impl<'x, 'y, S: Storage, G: Drop> Driver<'x, 'y, S, G> {
     }
 }
 
-// The table, for the fair part that is due, which it seldom is.
+// The table, for the fair part that a run takes, which is seldom due.
 #[cold]
 #[inline(never)]
 fn cells_for_a_share<S: Storage>(
@@ -327,8 +355,8 @@ fn register<S: Storage, G: Drop>(
     }
 }
 
-// Ends the queue of a runner, passes on what stood in it and what the run was notified of, and gives
-// its places back. The own future was dropped before.
+// Ends a run and the queue of its runner, passes on what stood in it and what the run was notified of, and
+// gives its places back. The own future was dropped before.
 fn end<S: Storage>(executor: &ExecutorIn<S>, unregistering: Unregistering) -> RunRest
     ensures runner { result.runner ≡ unregistering.runner }
     ensures ended { has_ended result ≡ true }

@@ -32,7 +32,7 @@ impl<S: Storage> ExecutorIn<S> {
         }
     }
 
-    // Drops the future of a taken task, and ends the task. No lock may be held.
+    // As an executor closes, drops the future of a taken task, and ends the task. No lock may be held.
     fn drop_task(&self, taken: Taken<()>) {
         let id = taken.id();
         let mut out = transactions::take(&self.storage, id);
@@ -44,7 +44,7 @@ impl<S: Storage> ExecutorIn<S> {
     }
 }
 
-// Drops the future of a taken task that was cancelled. No lock may be held.
+// As an executor closes, drops the future of a taken task that was cancelled. No lock may be held.
 fn drop_taken<S: Storage>(taken: Taken<()>, out: &mut OutIn<S>) -> Ran<(), OutputIn<S>>
     ensures { IsHeldRight result }
 {

@@ -36,7 +36,7 @@ pub struct SpawnMany<F> {
 }
 
 impl<F> SpawnMany<F> {
-    // What is said of a future that was refused after so many were spawned.
+    // The `SpawnMany` for a future that was refused after so many were spawned.
     fn of(error: SpawnError<F>, spawned: usize) -> SpawnMany<F>
         ensures spawned { result.spawned ≡ spawned }
         ensures refused { result.refused ≡ Some (refused_future error) }
@@ -53,7 +53,7 @@ impl<F> SpawnMany<F> {
         }
     }
 
-    /// The future that was refused.
+    /// The future that `spawn_many` could not spawn. `None` if its handle got no place.
     ///
     /// Example: `uses::spawn_two`, at `SpawnMany`.
     pub fn into_inner(self) -> Option<F>
@@ -68,7 +68,7 @@ impl<F> SpawnMany<F> {
 pub trait Handle<S: Storage>: Drop {
     ghost answered: { Self → Bool };
 
-    /// The handle of this task.
+    /// The handle of this task, as `spawn_many` gives it.
     fn of(task: TaskIn<S>) -> Self
         ensures { answered result ≡ task.answered };
 }
@@ -96,8 +96,8 @@ fn add_handle<S: Storage, T: Handle<S>>(handles: &mut Vec<T>, task: TaskIn<S>)
 }
 
 impl<S: Shareable> ExecutorIn<S> {
-    /// Schedules each future that the iterator gives as a new task, and puts its handle at the end
-    /// of the Vec. No lock is held while the iterator is asked.
+    /// `Executor::spawn_many`, for both kinds of storage: schedules each future that the iterator gives as a
+    /// new task, and puts its handle at the end of the Vec. No lock is held while the iterator is asked.
     pub(crate) fn spawn_many<T: Handle<S>, I: Iterator<Item = S::Future>>(
         &self,
         mut futures: I,

@@ -1,5 +1,5 @@
 //! The future that goes the steps of a tick.
-ghost use Rattle.std.specs.Prelude.{◌≡◌, true, false, Some, None, IsTrue};
+ghost use Rattle.std.specs.Prelude.{◌≡◌, true, false, Some, None, IfOk, IsTrue};
 ghost use Rattle.async_executor.specs.Answers.{is_ready};
 
 use crate::futures::storage::Storage;
@@ -7,7 +7,7 @@ use crate::machine::{TickMachine, TickRest};
 use crate::scheduler::ExecutorIn;
 use crate::sleeping::{Slept, announce_found, leave, sleep};
 use crate::state::cells;
-use executor_core::task::{Future, Poll, Wake};
+use executor_core::task::{Future, OutOfMemory, Poll, Wake};
 use std::sync::Wait;
 
 /// A tick of an executor, which it borrows. It keeps nothing else between its polls but its rest.
@@ -16,9 +16,20 @@ pub struct TickIn<'a, S: Storage> {
     rest: TickRest,
 }
 
+impl<S: Storage> ExecutorIn<S> {
+    /// `Executor::tick`, for both kinds of storage: a future that runs one task, for which a sleeper's place
+    /// is reserved here.
+    pub(crate) fn tick(&self) -> Result<TickIn<'_, S>, OutOfMemory>
+        ensures { IfOk result (λ tick. tick.rest ≡ record { number = 0; ended = false }) }
+    {
+        self.state().reserve_sleeper()?;
+        Ok(TickIn::new(self))
+    }
+}
+
 impl<'a, S: Storage> TickIn<'a, S> {
-    /// A tick that was never polled. It has a reserved place among the sleepers.
-    pub(crate) fn new(executor: &'a ExecutorIn<S>) -> TickIn<'a, S>
+    // A `TickIn` that was never polled. It has a reserved place among the sleepers.
+    fn new(executor: &'a ExecutorIn<S>) -> TickIn<'a, S>
         ensures { result.rest ≡ record { number = 0; ended = false } }
     {
         TickIn {

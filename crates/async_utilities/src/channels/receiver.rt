@@ -41,7 +41,8 @@ pub struct Receiver<T: Drop, S: Wake, V: Wake, R: Wait + Drop> {
 }
 
 impl<T: Drop, S: Wake, V: Wake, R: Wait + Drop> Channel<T, S, V, R> {
-    // Takes the first message, if there is one. One that waited at this place does so no longer.
+    // For a `Receiver`: takes the first message, if there is one. One that waited at this place does so no
+    // longer.
     #[inline(always)]
     fn receive_from(&self, place: &mut Option<usize>) -> Result<T, NoMessage>
         ensures taken { OnOk result (place.new ≡ None) }
@@ -58,7 +59,8 @@ impl<T: Drop, S: Wake, V: Wake, R: Wait + Drop> Channel<T, S, V, R> {
         }
     }
 
-    // Takes so many messages at most, under one lock unless senders are to be woken between them.
+    // For `Receiver::try_receive_many`: takes so many messages at most, under one lock unless senders are
+    // to be woken between them.
     fn receive_many(&self, messages: &mut Vec<T>, most: usize) -> Result<usize, NoMessage>
         requires { vec_len messages.old + most ≤ vec_capacity messages.old }
         ensures most { IfOk result (λ n. n ≤ most) }
@@ -99,7 +101,7 @@ impl<T: Drop, S: Wake, V: Wake, R: Wait + Drop> Channel<T, S, V, R> {
         self.receive_or_wait(waker, place)
     }
 
-    // Gives the first message, or waits with this waker.
+    // A receiver's poll, after it found no message: gives the first one, or waits with this waker.
     fn receive_or_wait(&self, waker: V, place: &mut Option<usize>) -> Poll<Option<T>>
         ensures taken { IfReady result (λ message. OnSome message (place.new ≡ None)) }
     {
@@ -124,7 +126,8 @@ impl<T: Drop, S: Wake, V: Wake, R: Wait + Drop> Channel<T, S, V, R> {
         Poll::Ready(message)
     }
 
-    // Has a receiver wait no longer, and the next one be told of a message that it does not take.
+    // The drop of a `Receive`: has the receiver wait no longer, and the next one be told of a message that
+    // it does not take.
     fn leave_receivers(&self, place: Option<usize>) {
         if place.is_some() {
             let left = self.state().leave_receivers(place);

@@ -58,7 +58,7 @@ pub struct Sender<T: Drop, S: Wake, V: Wake, R: Wait + Drop> {
 }
 
 impl<T: Drop, S: Wake, V: Wake, R: Wait + Drop> Channel<T, S, V, R> {
-    // Sends a message, if there is room. One that waited at this place does so no longer.
+    // For a `Sender`: sends a message, if there is room. One that waited at this place does so no longer.
     #[inline(always)]
     fn send_from(&self, message: T, place: &mut Option<usize>) -> Result<(), Unsent<T>>
         ensures back { IfErr result (λ failed. unsent failed ≡ message) }
@@ -103,7 +103,8 @@ impl<T: Drop, S: Wake, V: Wake, R: Wait + Drop> Channel<T, S, V, R> {
         self.send_or_wait(waker, unsent, message, place)
     }
 
-    // Sends this message, or waits with this waker and puts the message there.
+    // A sender's poll, after it found no room: sends this message, or waits with this waker and puts the
+    // message there.
     fn send_or_wait(
         &self,
         waker: S,
@@ -138,7 +139,8 @@ impl<T: Drop, S: Wake, V: Wake, R: Wait + Drop> Channel<T, S, V, R> {
         Poll::Ready(answer)
     }
 
-    // Has a sender wait no longer, and the next one be told of room that it does not use.
+    // The drop of a `Send`: has the sender wait no longer, and the next one be told of room that it does
+    // not use.
     fn leave_senders(&self, place: Option<usize>) {
         if place.is_some() {
             let left = self.state().leave_senders(place);

@@ -49,7 +49,7 @@ impl<W: Drop> Side<W> {
         self.ends == 0
     }
 
-    /// Takes all who wait, to be woken.
+    /// Takes all who wait on this side, to be woken.
     pub(crate) fn take_all(&mut self, alloc: Global) -> AllDue<W>
         ensures all { result.waiters ≡ self.old.waiters }
         ensures nobody { self.new.waiters.waiting ≡ [] }

@@ -52,7 +52,7 @@ pub(crate) struct Closing<S, V> {
 }
 
 impl<S: Wake, V: Wake> Closing<S, V> {
-    /// Wakes the ends of the channel that a change has told, each once.
+    /// Wakes all who waited at a channel that was closed, each once.
     pub(crate) fn wake(self) {
         let Closing { senders, receivers } = self;
         senders.wake();
@@ -77,8 +77,8 @@ impl<T: Drop, S: Drop, V: Drop> State<T, S, V> {
     ghost use Rattle.async_utilities.specs.ChannelSteps.{Closes, LeavesReceivers, LeavesSenders, Receives, ReceivesMany, Sends};
     ghost use Rattle.async_utilities.specs.ChannelSteps.{WaitsToReceive, WaitsToSend};
 
-    /// A channel with a sender and a receiver, that takes so many messages, and has memory for these
-    /// from the first.
+    /// The state of a channel with a sender and a receiver, that takes so many messages, and has memory for
+    /// these from the first.
     pub(crate) fn new(alloc: Global, capacity: usize, reserved: usize) -> Result<Self, AllocError>
         ensures none { IfOk result (λ state. state.messages.items ≡ []) }
         ensures capacity { IfOk result (λ state. state.capacity ≡ capacity) }
@@ -96,8 +96,8 @@ impl<T: Drop, S: Drop, V: Drop> State<T, S, V> {
         })
     }
 
-    /// Puts a message at the end, and has the first receiver that waits be woken. Else the message
-    /// comes back, and nothing changes.
+    /// Under the channel's lock: puts a message at the end, and has the first receiver that waits be woken.
+    /// Else the message comes back, and nothing changes.
     pub(crate) fn send(&mut self, message: T) -> Sent<T, V>
         ensures { Sends self.old message result self.new }
     {
@@ -113,7 +113,8 @@ impl<T: Drop, S: Drop, V: Drop> State<T, S, V> {
         }
     }
 
-    /// Takes the first message, if there is one, and has the first sender that waits be woken.
+    /// Under the channel's lock: takes the first message, if there is one, and has the first sender that
+    /// waits be woken.
     pub(crate) fn receive(&mut self) -> Received<T, S>
         ensures { Receives self.old result self.new }
     {
@@ -127,8 +128,8 @@ impl<T: Drop, S: Drop, V: Drop> State<T, S, V> {
         }
     }
 
-    /// Takes so many messages at most, the first one first, until there is none or a sender is to be
-    /// woken, and puts them behind those of the list, which has room for all.
+    /// Under the channel's lock: takes so many messages at most, the first one first, until there is none
+    /// or a sender is to be woken, and puts them behind those of the list, which has room for all.
     pub(crate) fn receive_many(&mut self, list: &mut Vec<T>, most: usize) -> Batch<S>
         requires { vec_len list.old + most ≤ vec_capacity list.old }
         ensures taken { ReceivesMany self.old list.old.items most result list.new.items self.new }
@@ -161,7 +162,7 @@ impl<T: Drop, S: Drop, V: Drop> State<T, S, V> {
         }
     }
 
-    /// Why there is no message, if there is none.
+    /// Under the channel's lock: why there is no message, if there is none.
     pub(crate) fn no_message(&self) -> NoMessage
         ensures { result ≡ (if self.now.is_closed then none.Closed else none.Empty) }
     {
@@ -172,8 +173,8 @@ impl<T: Drop, S: Drop, V: Drop> State<T, S, V> {
         }
     }
 
-    /// Has a sender wait for room. If there is some, or the channel is closed, or there is no memory
-    /// for its place, the waker comes back, and is to be woken.
+    /// Under the channel's lock: has a sender wait for room. If there is some, or the channel is closed, or
+    /// there is no memory for its place, the waker comes back, and is to be woken.
     pub(crate) fn wait_to_send(
         &mut self,
         place: Option<usize>,
@@ -187,8 +188,8 @@ impl<T: Drop, S: Drop, V: Drop> State<T, S, V> {
         self.senders.waiters.enter(place, waker)
     }
 
-    /// Has a receiver wait for a message. If there is one, or the channel is closed, or there is no
-    /// memory for its place, the waker comes back, and is to be woken.
+    /// Under the channel's lock: has a receiver wait for a message. If there is one, or the channel is
+    /// closed, or there is no memory for its place, the waker comes back, and is to be woken.
     pub(crate) fn wait_to_receive(
         &mut self,
         place: Option<usize>,
@@ -202,7 +203,8 @@ impl<T: Drop, S: Drop, V: Drop> State<T, S, V> {
         self.receivers.waiters.enter(place, waker)
     }
 
-    /// Has a sender wait no longer. If it was told of room that it did not use, the next one is.
+    /// Under the channel's lock: has a sender wait no longer. If it was told of room that it did not use,
+    /// the next one is.
     pub(crate) fn leave_senders(&mut self, place: Option<usize>) -> Left<S>
         ensures { LeavesSenders self.old place result self.new }
     {
@@ -210,7 +212,8 @@ impl<T: Drop, S: Drop, V: Drop> State<T, S, V> {
         self.senders.waiters.pass(place, room)
     }
 
-    /// Has a receiver wait no longer. If it was told of a message that it did not take, the next one is.
+    /// Under the channel's lock: has a receiver wait no longer. If it was told of a message that it did not
+    /// take, the next one is.
     pub(crate) fn leave_receivers(&mut self, place: Option<usize>) -> Left<V>
         ensures { LeavesReceivers self.old place result self.new }
     {
@@ -218,8 +221,8 @@ impl<T: Drop, S: Drop, V: Drop> State<T, S, V> {
         self.receivers.waiters.pass(place, there)
     }
 
-    /// Closes the channel, and gives all who wait. What is inside stays. Nothing changes if it was
-    /// closed before.
+    /// Under the channel's lock: closes the channel, and gives all who wait. What is inside stays. Nothing
+    /// changes if it was closed before.
     pub(crate) fn close(&mut self, alloc: Global) -> Option<Closing<S, V>>
         ensures { Closes self.old result self.new }
     {

@@ -59,7 +59,7 @@ impl BarrierWaitResult {
 }
 
 impl<W: Wake, R: Wait + Drop> Shared<W, R> {
-    // Wakes all of the rounds that are over, the first one first, each without the lock.
+    // Wakes all at the barrier whose round is over, the first one first, each without the lock.
     fn wake_all(&self) {
         for _ in self.rt.forever() {
             let next = self.state().waiters.tell();
@@ -70,7 +70,7 @@ impl<W: Wake, R: Wait + Drop> Shared<W, R> {
         }
     }
 
-    // One comes, and waits unless it is the last.
+    // The first poll of a `BarrierWait`: one comes, and waits unless it is the last.
     fn come(&self, w: &W, arrival: &mut Option<Arrival>) -> bool
         ensures last { result ≡ true → arrival.new ≡ arrival.old }
     {
@@ -99,7 +99,8 @@ impl<W: Wake, R: Wait + Drop> Shared<W, R> {
         false
     }
 
-    // Whether the round is over in which one came. If it is not, it waits on with this waker.
+    // A later poll of a `BarrierWait`: whether the round is over in which one came. If it is not, it waits
+    // on with this waker.
     fn go_on(&self, w: &W, arrival: Arrival) -> bool {
         if self.state().is_over(arrival) {
             return true;
@@ -120,7 +121,7 @@ impl<W: Wake, R: Wait + Drop> Shared<W, R> {
         is_over
     }
 
-    // Gives a place back.
+    // A `BarrierWait` gives its place back.
     fn leave(&self, arrival: Option<Arrival>) {
         if let Some(arrival) = arrival {
             let waker = self.state().leave(arrival);

@@ -85,8 +85,8 @@ impl<W: Wake, R: Wait + Drop> Event<W, R> {
         Ok(Event { shared })
     }
 
-    /// Listens from now on: behind those who listen already. Its place is reserved here, so its polls
-    /// take no memory beside the copy of the waker.
+    /// A listener of the event from now on: behind those who listen already. Its place is reserved here, so
+    /// its polls take no memory beside the copy of the waker.
     ///
     /// # Errors
     ///

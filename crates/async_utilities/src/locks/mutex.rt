@@ -41,7 +41,7 @@ pub struct Mutex<T: Drop, W: Wake, R: Wait + Drop> {
 type Shared<T, W, R> = Locked<State<T, W>, R>;
 
 impl<T: Drop, W: Wake, R: Wait + Drop> Shared<T, W, R> {
-    // Takes the value, or has one wait for it at this place.
+    // The poll of a `Lock`: takes the mutex's value, or has one wait for it at this place.
     fn poll(&self, w: &W, place: &mut Option<usize>) -> Option<T>
         ensures taken { OnSome result (place.new ≡ None) }
     {
@@ -68,14 +68,14 @@ impl<T: Drop, W: Wake, R: Wait + Drop> Shared<T, W, R> {
         None
     }
 
-    // Puts the value back, and wakes the first one that waits.
+    // The drop of a `MutexGuard`: puts the value back, and wakes the first one that waits.
     fn give(&self, value: T) {
         let GaveBack { earlier, due } = self.state().give(value);
         drop(earlier);
         due.wake();
     }
 
-    // Has one wait no longer, and the next one have its turn.
+    // The drop of a `Lock`: has it wait no longer, and the next one have its turn.
     fn leave(&self, place: Option<usize>) {
         if place.is_some() {
             let left = self.state().leave(place);
@@ -111,7 +111,7 @@ impl<T: Drop, W: Wake, R: Wait + Drop> Mutex<T, W, R> {
         Ok(Mutex { shared })
     }
 
-    /// Takes the value, if it is there and nobody waits for it.
+    /// Takes the mutex's value, if it is there and nobody waits for it.
     ///
     /// # Errors
     ///

@@ -98,7 +98,7 @@ impl<T: Drop, W: Wake, R: Wait + Clone + Drop> OnceCell<T, W, R> {
         Ok(OnceCell { shared })
     }
 
-    /// The value, if there is one.
+    /// The value of the `OnceCell`, if there is one.
     ///
     /// Example: `uses::makes_once`, at `OnceCell`.
     pub fn get(&self) -> Option<&T> {
@@ -179,7 +179,7 @@ struct Making<G, W: Wake, R: Wait + Drop> {
 }
 
 impl<G, W: Wake, R: Wait + Drop> Making<G, W, R> {
-    // Whether it has its turn.
+    // Whether it has its turn to make the value of a `OnceCell`.
     fn has_turn(&mut self, w: &W) -> bool {
         if self.permit.is_none() {
             if let Poll::Ready(permit) = self.turn.poll(w) {

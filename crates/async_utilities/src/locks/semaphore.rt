@@ -49,7 +49,7 @@ type Shared<W, R> = Locked<State<W>, R>;
 pub struct TooManyPermits;
 
 impl<W: Wake, R: Wait + Drop> Shared<W, R> {
-    // Gives so many permits, those who wait first, each without the lock.
+    // Gives so many permits of the semaphore, those who wait first, each without the lock.
     fn give(&self, permits: usize) {
         if permits > 0 {
             let given = self.state().give(permits);
@@ -57,7 +57,7 @@ impl<W: Wake, R: Wait + Drop> Shared<W, R> {
         }
     }
 
-    // Wakes who is due, and gives what is left to those behind it.
+    // For a `Semaphore`: wakes who is due, and gives the permits that are left to those behind it.
     fn end(&self, given: Given<W>) {
         let Given { due, mut left } = given;
         due.wake();
@@ -68,7 +68,8 @@ impl<W: Wake, R: Wait + Drop> Shared<W, R> {
         }
     }
 
-    // Takes so many permits, or has one wait for them at this place. Says whether it took them.
+    // The poll of an `Acquire`: takes so many permits, or has one wait for them at this place. Says whether
+    // it took them.
     fn poll(&self, w: &W, place: &mut Option<usize>, permits: usize) -> bool
         ensures taken { result ≡ true → place.new ≡ None }
     {
@@ -93,7 +94,7 @@ impl<W: Wake, R: Wait + Drop> Shared<W, R> {
         false
     }
 
-    // Has one wait no longer, and gives back what it was given.
+    // The drop of an `Acquire`: has it wait no longer, and gives back what it was given.
     fn leave(&self, place: Option<usize>, permits: usize) {
         if place.is_some() {
             let Gone { waker, given } = self.state().leave(place, permits);
@@ -130,7 +131,7 @@ impl<W: Wake, R: Wait + Drop> Semaphore<W, R> {
         Ok(Semaphore { shared })
     }
 
-    /// How many permits nobody has.
+    /// How many permits of the semaphore nobody has.
     ///
     /// Example: `uses::acquires`, at `Semaphore`.
     pub fn permits(&self) -> usize {

@@ -26,7 +26,7 @@ struct Told {
 }
 
 impl Told {
-    // One thread more has told.
+    // One thread more has told how it begins.
     fn add(&mut self, told: Ended)
         ensures pending { self.new.pending ≡ self.old.pending - 1 }
         ensures first { self.new.ended ≡ cond (is_ok self.old.ended) told self.old.ended }
@@ -39,7 +39,7 @@ impl Told {
 }
 
 impl Beginning {
-    /// That of so many threads.
+    /// The beginning of so many threads.
     pub(crate) fn new(alloc: Global, threads: usize) -> Result<Beginning, AllocError> {
         let told = Told {
             pending: threads,
@@ -57,7 +57,7 @@ impl Beginning {
         self.waker.wake();
     }
 
-    /// Waits until all have told, and gives the first refusal.
+    /// Waits until all threads have told how they begin, and gives the first refusal.
     pub(crate) fn wait(&self, rt: &impl Wait) -> Ended {
         for _ in rt.forever() {
             let told = self.told.lock(rt);

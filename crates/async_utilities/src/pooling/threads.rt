@@ -15,7 +15,8 @@ use std::thread::{self, JoinHandle, Threads};
 ///
 /// Example: `uses::drives_in_turns`, at `PoolOf`, of a `Limited`.
 pub trait Driven<R: Wait + Drop>: Drop {
-    /// Runs its tasks on this thread, which is the one of this number, until that future is ready.
+    /// Runs the tasks of a `Driven` executor on this thread, the one of this number, until that future is
+    /// ready.
     ///
     /// # Errors
     ///
@@ -87,7 +88,7 @@ struct Started {
 }
 
 impl Started {
-    // No thread.
+    // The threads of a `PoolOf` before the first one starts: none.
     fn new(alloc: Global) -> Started
         ensures { vec_len result.threads ≡ 0 }
     {
@@ -108,7 +109,7 @@ impl Started {
         Ok(())
     }
 
-    // One thread more.
+    // One thread more of a `PoolOf`.
     fn add(&mut self, thread: Worker)
         requires room { vec_len self.old.threads < vec_capacity self.old.threads }
         requires ended { vec_len self.old.threads < vec_capacity self.old.ended }
@@ -136,8 +137,8 @@ where
     E: Driven<R> + Send + Sync + 'static,
     R: Wait + Threads + Clone + Drop + Send + Sync + 'static,
 {
-    /// So many threads that drive this executor. It waits until each thread has the memory that it needs,
-    /// so none of them ends before it is told to.
+    /// A `PoolOf`: so many threads that drive this executor. It waits until each thread has the memory that
+    /// it needs, so none of them ends before it is told to.
     ///
     /// # Errors
     ///
@@ -213,7 +214,7 @@ where
         }
     }
 
-    /// The executor, to spawn tasks on.
+    /// The executor of this `PoolOf`, to spawn tasks on.
     ///
     /// Example: `uses::drives_in_turns`, at `PoolOf`.
     pub fn executor(&self) -> &E
@@ -222,8 +223,8 @@ where
         &self.executor
     }
 
-    /// Tells the threads to stop, waits for them, and says what came of each, in the order in which they
-    /// were started. Each began with all that it needs, so it is `Ok`.
+    /// Tells the threads of this `PoolOf` to stop, waits for them, and says what came of each, in the order
+    /// in which they were started. Each began with all that it needs, so it is `Ok`.
     ///
     /// Example: `uses::drives_in_turns`, at `PoolOf`.
     pub fn join(self) -> Vec<Result<(), PoolError>>

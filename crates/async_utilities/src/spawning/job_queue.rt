@@ -55,15 +55,15 @@ impl<J: Drop, W: Drop> JobQueue<J, W> {
         })
     }
 
-    /// The place of a server, at which it does not wait yet.
+    /// Under the lock of the jobs: the place of a server, at which it does not wait yet.
     pub(crate) fn join(&mut self) -> Result<usize, AllocError>
         ensures { Joins self.old result self.new }
     {
         self.waiters.join()
     }
 
-    /// Puts a job behind the others, and has the first server that waits be woken. Else the job comes back,
-    /// and nothing changes.
+    /// Under the lock of the jobs: puts one behind the others, and has the first server that waits be
+    /// woken. Else the job comes back, and nothing changes.
     pub(crate) fn give(&mut self, job: J) -> Result<Due<W>, Unsent<J>>
         ensures { Gives self.old job result self.new }
     {
@@ -83,8 +83,8 @@ impl<J: Drop, W: Drop> JobQueue<J, W> {
         Ok(self.waiters.notify(self.jobs.len()))
     }
 
-    /// Takes the first job, if there is one, for the server of this place. It is counted from now on, and
-    /// waits no longer: the waker that it left comes out.
+    /// Under the lock of the jobs: takes the first, if there is one, for the server of this place. It is
+    /// counted from now on, and waits no longer: the waker that it left comes out.
     pub(crate) fn take(&mut self, is_counted: bool, place: usize) -> Option<(J, Option<W>)>
         ensures { Takes self.old is_counted place result self.new }
     {
@@ -96,15 +96,16 @@ impl<J: Drop, W: Drop> JobQueue<J, W> {
         Some((job, self.waiters.come(place)))
     }
 
-    /// Whether no job is left, and nobody may hand in one but the asker, if it is counted.
+    /// Under the lock of the jobs: whether none is left, and nobody may hand in one but the asker, if it is
+    /// counted.
     pub(crate) fn is_last(&self, is_counted: bool) -> bool
         ensures { result ≡ is_last self.now is_counted }
     {
         self.jobs.is_empty() && (self.givers == 0 || (is_counted && self.givers == 1))
     }
 
-    /// Has the server of this place wait for a job with this waker. It is counted no longer, and an earlier
-    /// waker comes out.
+    /// Under the lock of the jobs: has the server of this place wait for a job with this waker. It is
+    /// counted no longer, and an earlier waker comes out.
     pub(crate) fn rest(&mut self, is_counted: bool, place: usize, waker: W) -> Option<W>
         requires empty { self.old.jobs.items ≡ [] }
         requires open { is_last self.old is_counted ≡ false }
@@ -116,8 +117,8 @@ impl<J: Drop, W: Drop> JobQueue<J, W> {
         self.waiters.wait(place, waker)
     }
 
-    /// Counts one server less, and gives its place back. If it was told of a job that it did not take, the
-    /// next one is.
+    /// Under the lock of the jobs: counts one server less, and gives its place back. If it was told of a
+    /// job that it did not take, the next one is.
     pub(crate) fn part(&mut self, place: usize) -> Left<W>
         ensures { Parts self.old place result self.new }
     {
@@ -126,7 +127,8 @@ impl<J: Drop, W: Drop> JobQueue<J, W> {
         self.waiters.pass(Some(place), there)
     }
 
-    /// One that is counted hands in no more jobs. If all is done then, all servers that wait come out.
+    /// Under the lock of the jobs: one that is counted hands in no more jobs. If all is done then, all
+    /// servers that wait come out.
     pub(crate) fn end_one(&mut self, alloc: Global) -> Option<AllDue<W>>
         ensures { EndsOne self.old result self.new }
     {
@@ -137,7 +139,8 @@ impl<J: Drop, W: Drop> JobQueue<J, W> {
         None
     }
 
-    /// The last one that was counted hands in no more jobs, and all servers that wait come out.
+    /// Under the lock of the jobs: the last one that was counted hands in no more jobs, and all servers
+    /// that wait come out.
     pub(crate) fn end_last(&mut self, alloc: Global) -> AllDue<W>
         requires { is_last self.old true ≡ true }
         ensures { Ends self.old result self.new }

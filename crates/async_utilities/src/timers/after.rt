@@ -43,7 +43,7 @@ pub struct After<W: Wake, R: Wait + Drop> {
     place: Option<Deadline>,
 }
 
-// A time that 64 bits hold. No other one is ever reached.
+// The time of an `After`, if 64 bits hold it. No other one is ever reached.
 fn counted(nanos: u128) -> Option<u64>
     ensures { IsAt result nanos }
 {
@@ -51,7 +51,7 @@ fn counted(nanos: u128) -> Option<u64>
 }
 
 impl<W: Wake, R: Wait + Drop> After<W, R> {
-    // Ready at this time, in nanoseconds since the start of the clock.
+    // An `After` that is ready at this time, in nanoseconds since the start of the clock.
     pub(crate) fn new(shared: &Arc<Shared<W, R>>, nanos: u128) -> Result<After<W, R>, OutOfMemory>
         ensures time { IfOk result (λ after. IsAt after.nanos nanos) }
         ensures same { IfOk result (λ after. arc_value after.shared ≡ arc_value shared.now) }
@@ -63,8 +63,8 @@ impl<W: Wake, R: Wait + Drop> After<W, R> {
         })
     }
 
-    /// Has it be ready at this time, in place of its own. What its last poll left there is woken at
-    /// this one, unless it was woken already; or at once, if memory for that is refused.
+    /// Has the `After` be ready at this time, in place of its own. What its last poll left there is woken
+    /// at this one, unless it was woken already; or at once, if memory for that is refused.
     ///
     /// Example: `uses::postpones`, at `After`.
     pub fn reset(&mut self, time: Reading)
@@ -74,7 +74,7 @@ impl<W: Wake, R: Wait + Drop> After<W, R> {
         self.move_to(counted(time.nanos()));
     }
 
-    // Has it be ready so much later than it was to be.
+    // Has the `After` be ready so much later than it was to be.
     pub(crate) fn put_off(&mut self, duration: Duration)
         ensures time { IsLater self.old.nanos (as_nanos duration) self.new.nanos }
         ensures same { arc_value self.new.shared ≡ arc_value self.old.shared }
@@ -84,7 +84,7 @@ impl<W: Wake, R: Wait + Drop> After<W, R> {
         }
     }
 
-    // Has it be ready at this time, with the waker that it left.
+    // Has the `After` be ready at this time, with the waker that it left.
     fn move_to(&mut self, nanos: Option<u64>)
         ensures time { self.new.nanos ≡ nanos }
         ensures same { arc_value self.new.shared ≡ arc_value self.old.shared }
@@ -103,8 +103,8 @@ impl<W: Wake, R: Wait + Drop> After<W, R> {
         self.settle(set);
     }
 
-    // Keeps the place that it was given, and tells who drives the timer; or wakes the waker that found
-    // none.
+    // Keeps the place that the `After` was given, and tells who drives the timer; or wakes the waker that
+    // found none.
     fn settle(&mut self, set: Result<(Deadline, News), W>)
         ensures time { self.new.nanos ≡ self.old.nanos }
         ensures same { arc_value self.new.shared ≡ arc_value self.old.shared }
@@ -118,7 +118,7 @@ impl<W: Wake, R: Wait + Drop> After<W, R> {
         }
     }
 
-    // The latest time, if it has reached this one. The place is given back then.
+    // The poll of an `After`: the latest time, if it has reached this one. The place is given back then.
     fn reached(&mut self, nanos: u64) -> Option<Reading>
         ensures reached { IfSome result (λ now. nanos ≤ as_nanos now.since_start) }
         ensures time { self.new.nanos ≡ self.old.nanos }
@@ -135,7 +135,7 @@ impl<W: Wake, R: Wait + Drop> After<W, R> {
         Some(now)
     }
 
-    // Waits for this time with a copy of a waker, unless it was reached meanwhile.
+    // The poll of an `After`: waits for this time with a copy of a waker, unless it was reached meanwhile.
     fn wait(&mut self, nanos: u64, copy: W) -> Poll<Reading>
         ensures reached { IfReady result (λ now. nanos ≤ as_nanos now.since_start) }
         ensures time { self.new.nanos ≡ self.old.nanos }

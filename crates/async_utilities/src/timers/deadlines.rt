@@ -61,7 +61,7 @@ pub(crate) struct Deadlines<W> {
 }
 
 impl<W: Drop> Deadlines<W> {
-    /// No deadline, at this time.
+    /// The deadlines of a new timer: none, at this time.
     pub(crate) fn new(alloc: Global, now: Reading) -> Deadlines<W>
         ensures none { IsEmpty result.waiting }
         ensures latest { result.latest ≡ now }
@@ -73,7 +73,8 @@ impl<W: Drop> Deadlines<W> {
         }
     }
 
-    /// The clock was read at this time. A time before the latest one counts as that. Gives the latest.
+    /// Tells the deadlines that the clock was read at this time. A time before the latest one counts as
+    /// that. Gives the latest.
     pub(crate) fn advance(&mut self, now: Reading) -> Reading
         ensures latest { time_of self.new.latest ≡ max (time_of self.old.latest) (time_of now) }
         ensures result { result ≡ self.new.latest }
@@ -83,7 +84,7 @@ impl<W: Drop> Deadlines<W> {
         self.latest
     }
 
-    /// The latest time, if this one is reached.
+    /// The latest time that the deadlines were told, if it has reached this one.
     pub(crate) fn reached(&self, nanos: u64) -> Option<Reading>
         ensures reached { IsSome result ↔ (nanos ≤ time_of self.now.latest) }
         ensures latest { IfSome result (λ now. now ≡ self.now.latest) }
@@ -95,7 +96,7 @@ impl<W: Drop> Deadlines<W> {
         }
     }
 
-    // Whether a time is before all that are there.
+    // Whether a time is before all deadlines that are there.
     fn is_nearer(&self, nanos: u64) -> bool
         ensures { result ≡ is_nearer nanos self.now.waiting.entries }
     {

@@ -51,7 +51,7 @@ pub struct Driver<'a, W: Wake, C: Clock + Drop, R: Wait + Drop> {
 }
 
 impl<'a, W: Wake, C: Clock + Drop, R: Wait + Drop> Driver<'a, W, C, R> {
-    // One more who drives it.
+    // One more driver of this timer.
     pub(crate) fn new(timer: &'a Timer<W, C, R>) -> Result<Driver<'a, W, C, R>, OutOfMemory>
         ensures same { IfOk result (λ driver. driver.timer.now ≡ timer.now) }
     {
@@ -67,7 +67,7 @@ impl<'a, W: Wake, C: Clock + Drop, R: Wait + Drop> Driver<'a, W, C, R> {
         })
     }
 
-    /// The waker that is told. To wake it ends a rest.
+    /// The waker of this driver, which is told of nearer deadlines. To wake it ends a rest.
     ///
     /// Example: `uses::rest`, at `Driver`.
     pub fn waker(&self) -> &ThreadWaker
@@ -113,9 +113,9 @@ impl<'a, W: Wake, C: Clock + Drop, R: Wait + Drop> Driver<'a, W, C, R> {
         Ok(())
     }
 
-    /// Polls the future on this thread until it is ready, gives its output, and rests between the
-    /// polls. With the run of an executor it is the one thread of a program; with a `Waiting` it is the
-    /// timer's own.
+    /// With this driver: polls the future on this thread until it is ready, gives its output, and rests
+    /// between the polls. With the run of an executor it is the one thread of a program; with a `Waiting`
+    /// it is the timer's own.
     ///
     /// # Errors
     ///

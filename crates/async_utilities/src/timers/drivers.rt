@@ -13,14 +13,14 @@ pub(crate) struct Drivers {
 }
 
 impl Drivers {
-    /// Nobody drives it.
+    /// The drivers of a new timer: none.
     pub(crate) fn new(alloc: Global) -> Drivers {
         Drivers {
             wakers: Mutex::new(Slab::new(alloc)),
         }
     }
 
-    /// One more drives it, until it parts. Gives its place.
+    /// One more of the drivers, until it parts. Gives its place among them.
     pub(crate) fn join<R: Wait>(&self, rt: &R, waker: ThreadWaker) -> Result<usize, OutOfMemory> {
         match self.wakers.lock(rt).insert(waker) {
             Ok(place) => Ok(place),
@@ -28,7 +28,7 @@ impl Drivers {
         }
     }
 
-    /// Gives a place back.
+    /// Gives a place among the drivers back.
     pub(crate) fn part<R: Wait>(&self, rt: &R, place: usize) {
         let waker = self.wakers.lock(rt).try_remove(place);
         drop(waker);

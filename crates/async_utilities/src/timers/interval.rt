@@ -32,7 +32,7 @@ pub struct Interval<W: Wake, R: Wait + Drop> {
 }
 
 impl<W: Wake, R: Wait + Drop> Interval<W, R> {
-    // Comes at this time, and then again and again.
+    // An interval of this `After`: comes at its time, and then again and again.
     pub(crate) fn new(after: After<W, R>, period: Duration) -> Interval<W, R>
         ensures first { result.after ≡ after }
         ensures period { result.period ≡ period }
@@ -57,7 +57,7 @@ impl<W: Wake, R: Wait + Drop> Interval<W, R> {
         answer
     }
 
-    /// A future of the next time that it comes.
+    /// A future of the next time that this `Interval` comes.
     ///
     /// Example: `uses::comes_twice`, at `Interval`.
     pub fn next(&mut self) -> Next<'_, W, R>

@@ -25,7 +25,7 @@ pub struct Reading {
 }
 
 impl Reading {
-    /// Reads the clock.
+    /// The `Reading` of this clock now.
     ///
     /// # Errors
     ///
@@ -59,7 +59,7 @@ impl Reading {
         self.since_start
     }
 
-    /// The same in nanoseconds.
+    /// The time since the start of the clock in nanoseconds.
     ///
     /// Example: `uses::rests`.
     pub fn nanos(self) -> u128
@@ -69,7 +69,7 @@ impl Reading {
         self.since_start.as_nanos()
     }
 
-    /// The later one of both.
+    /// The later one of both readings.
     pub(crate) fn later(self, other: Reading) -> Reading
         ensures { time_of result ≡ max (time_of self) (time_of other) }
     {

@@ -34,7 +34,7 @@ impl<W: Wake, R: Wait + Drop> Drop for Shared<W, R> {
 }
 
 impl<W: Wake, R: Wait + Drop> Shared<W, R> {
-    /// No deadline, at this time.
+    /// What a new timer shares: no deadline, at this time.
     pub(crate) fn new(rt: R, alloc: Global, now: Reading) -> Shared<W, R> {
         Shared {
             deadlines: Mutex::new(Deadlines::new(alloc, now)),
@@ -49,15 +49,16 @@ impl<W: Wake, R: Wait + Drop> Shared<W, R> {
         lock!(self.deadlines, &self.rt)
     }
 
-    /// The latest time that the clock was read at, which is this one if none was later.
+    /// `Deadlines::advance`, with its lock: the latest time that the clock was read at, which is this one
+    /// if none was later.
     pub(crate) fn latest(&self, now: Reading) -> Reading
         ensures { as_nanos now.since_start ≤ as_nanos result.since_start }
     {
         self.deadlines().advance(now)
     }
 
-    /// Wakes what was left at each deadline that is reached at this time. Says whether there was one,
-    /// and gives the first one that is left.
+    /// `Driver::fire` on what a timer shares: wakes what was left at each deadline that is reached at this
+    /// time. Says whether there was one, and gives the first one that is left.
     pub(crate) fn fire(&self, now: Reading) -> (bool, Option<u64>) {
         self.latest(now);
         let mut has_woken = false;

@@ -24,7 +24,7 @@ struct Chain {
 }
 
 impl Chain {
-    // Makes room for this key and each below it.
+    // Makes room for the links of this key and each below it.
     fn grow(&mut self, key: usize) -> Result<(), AllocError>
         ensures room { OnOk result (key < vec_len self.new.links) }
         ensures succeeds { key < vec_len self.old.links → IsOk result }
@@ -73,7 +73,7 @@ impl Chain {
         }
     }
 
-    // Puts the key behind the last one.
+    // Links the key behind the last one.
     fn insert(&mut self, key: usize)
         requires key_in { key < vec_len self.old.links }
         requires last_in { IsLink self.old self.old.last }
@@ -124,7 +124,7 @@ impl Model for Links {
 }
 
 impl Links {
-    /// No key, and no room for one.
+    /// Links of no key, and no room for one.
     pub(crate) fn new(alloc: Global) -> Self
         ensures { result ≡ record { keys = []; limit = 0 } }
     {
@@ -136,7 +136,7 @@ impl Links {
         Links { chain, len: 0 }
     }
 
-    /// Makes room for this key and each below it.
+    /// Makes room for the links of this key and each below it.
     pub(crate) fn reserve(&mut self, key: usize) -> Result<(), AllocError>
         ensures room { OnOk result (key < self.new.limit) }
         ensures succeeds { key < self.old.limit → IsOk result }
@@ -146,14 +146,14 @@ impl Links {
         self.chain.grow(key)
     }
 
-    /// Whether there is no key.
+    /// Whether no key is linked.
     pub(crate) fn is_empty(&self) -> bool
         ensures { result ≡ (length self.now.keys == 0) }
     {
         self.len == 0
     }
 
-    /// The first key.
+    /// The first key that is linked.
     pub(crate) fn first(&self) -> Option<usize>
         ensures { result ≡ slice_get self.now.keys 0 }
     {
@@ -164,7 +164,7 @@ impl Links {
         }
     }
 
-    /// Puts a key behind the last one.
+    /// Links a key behind the last one.
     pub(crate) fn push(&mut self, key: usize)
         requires room { key < self.old.limit }
         requires absent { ¬ IsIn key self.old.keys }

@@ -43,7 +43,7 @@ pub(crate) struct Parted<W> {
     pub(crate) was_told: bool,
 }
 
-// Whom to wake of an entry that was told.
+// Whom to wake of an entry of `Rounds` that was told.
 fn due_of<W>(entry: Due<Entry<W>>) -> Due<W>
     ensures { (e : Option (Entry W)) → entry ≡ due_to e → result ≡ due_to (waker_in_entry e) }
 {
@@ -57,7 +57,7 @@ fn due_of<W>(entry: Due<Entry<W>>) -> Due<W>
 }
 
 impl<W: Drop> Rounds<W> {
-    /// Nobody waits.
+    /// Rounds in which nobody waits.
     pub(crate) fn new(alloc: Global) -> Rounds<W>
         ensures { result.waiters.waiting ≡ [] }
     {
@@ -114,7 +114,7 @@ impl<W: Drop> Rounds<W> {
         }
     }
 
-    /// Whether the one at this place was told, and has not come yet.
+    /// Whether the one at this place of the rounds was told, and has not come yet.
     pub(crate) fn is_told(&self, place: usize) -> bool
         ensures { result ≡ is_notified (place_at self.now.waiters place) }
     {
@@ -158,7 +158,7 @@ impl<W: Drop> Rounds<W> {
         }
     }
 
-    /// Tells the first one that waits.
+    /// Tells the first one that waits, in whichever round it came.
     pub(crate) fn tell_any(&mut self) -> Due<W>
         ensures due { result ≡ due_first self.old.waiters }
         ensures steps { Steps self.old.waiters self.new.waiters self.old.waiters.waiting }
@@ -167,7 +167,7 @@ impl<W: Drop> Rounds<W> {
         due_of(self.waiters.first())
     }
 
-    /// Gives a place back.
+    /// Gives a place of the rounds back.
     pub(crate) fn leave(&mut self, place: usize) -> Parted<W>
         ensures waker { result.waker ≡ waker_in_entry (waker_of (place_at self.old.waiters place)) }
         ensures told { result.was_told ≡ is_notified (place_at self.old.waiters place) }

@@ -21,7 +21,7 @@ pub struct TaskInfo {
 }
 
 impl TaskInfo {
-    // The id of the task, which has this number.
+    // The id of a world's task: this number, and the slot that is kept of it.
     pub(crate) fn id(self, n: u64) -> TaskId
         ensures { result ≡ record { number = n; slot = self.slot } }
     {
@@ -31,7 +31,7 @@ impl TaskInfo {
         }
     }
 
-    // The same without its handle, which answered.
+    // What a world keeps of a task without its handle, which answered.
     pub(crate) fn without_handle(self) -> TaskInfo
         ensures { result ≡ record self { has_handle = false } }
     {
@@ -41,7 +41,7 @@ impl TaskInfo {
         }
     }
 
-    // The same without its handle, which was detached or dropped, and so without an awaiter.
+    // What a world keeps of a task once its handle was detached or dropped: it has no awaiter either.
     pub(crate) fn detached(self) -> TaskInfo
         ensures { result ≡ record self { has_handle = false; awaited = false } }
     {
@@ -52,14 +52,14 @@ impl TaskInfo {
         }
     }
 
-    // The same, with whether its handle was polled in vain.
+    // What a world keeps of a task, with whether its handle was polled in vain.
     pub(crate) fn with_awaited(self, awaited: bool) -> TaskInfo
         ensures { result ≡ record self { awaited = awaited } }
     {
         TaskInfo { awaited, ..self }
     }
 
-    // The same, with whether its future is to be dropped.
+    // What a world keeps of a task, with whether its future is to be dropped.
     pub(crate) fn with_to_drop(self, to_drop: bool) -> TaskInfo
         ensures { result ≡ record self { to_drop = to_drop } }
     {
@@ -99,7 +99,7 @@ impl<P> TaskEntry<P> {
     }
 }
 
-// What is known of this task, if it was spawned.
+// What a world keeps of this task beside its future, if it was spawned.
 pub(crate) fn find_info<P>(entries: &Vec<TaskEntry<P>>, n: u64) -> Option<TaskInfo>
     ensures { result ≡ slice_get (infos entries.now.items) n }
 {
@@ -109,7 +109,7 @@ pub(crate) fn find_info<P>(entries: &Vec<TaskEntry<P>>, n: u64) -> Option<TaskIn
     }
 }
 
-// Whether the future of this task is out.
+// Whether the entry of this task has its future, which is out.
 pub(crate) fn has_future<P>(entries: &Vec<TaskEntry<P>>, n: u64) -> bool
     ensures { result ≡ is_out (slice_get entries.now.items n) }
 {
@@ -126,7 +126,7 @@ pub(crate) fn some_out<P>(entries: &Vec<TaskEntry<P>>) -> bool
     entries.iter().any(|entry| entry.out.is_some())
 }
 
-// Puts this in the place of what was known of the task.
+// Puts this into the task's entry, in place of what was known of the task.
 pub(crate) fn set_info<P>(entries: &mut Vec<TaskEntry<P>>, n: u64, info: TaskInfo)
     requires { n < length entries.old.items }
     ensures { (e : TaskEntry P) → slice_get entries.old.items n ≡ Some e → entries.new.items ≡ slice_set entries.old.items n (record e { info = info }) }

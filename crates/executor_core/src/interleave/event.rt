@@ -15,7 +15,7 @@ pub enum Purpose {
 }
 
 impl Purpose {
-    // What a task is taken for, by whether it is cancelled.
+    // The purpose in the event of a take, by whether the task is cancelled.
     pub(crate) fn of(cancelled: bool) -> Purpose
         ensures { result ≡ purpose_of cancelled }
     {

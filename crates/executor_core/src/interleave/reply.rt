@@ -82,7 +82,7 @@ impl<T: Copy> Clone for Reply<T> {
     }
 }
 
-// Whether an awaiter came out. A world's wakers are units, and there is nothing more to wake.
+// For a reply: whether an awaiter came out. A world's wakers are units, and there is nothing more to wake.
 pub(crate) fn has_awaiter(awaiter: Option<Wakeup<()>>) -> bool
     ensures { result ≡ is_some awaiter }
 {

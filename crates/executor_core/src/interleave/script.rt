@@ -35,7 +35,7 @@ impl<P: Drop, T: Copy> Poller<P, T> for Script<T> {
     }
 }
 
-// The task as it was taken, to be polled, or cancelled.
+// The task of a script as it was taken, to be polled, or cancelled.
 fn taken<P>(id: TaskId, future: P, cancelled: bool) -> Taken<P>
     ensures id { result.id ≡ id }
     ensures cancelled { result.cancelled ≡ cancelled }
@@ -58,7 +58,7 @@ fn answering<T>(output: Option<T>) -> Script<T>
     }
 }
 
-// One poll of the task, which answers pending.
+// One poll of the task by a script, which answers pending.
 pub(crate) fn poll_pending<P: Drop, T: Copy>(id: TaskId, future: P) -> (Held, P)
     ensures { result.0 ≡ record { id = id; to_drop = false } }
 {
@@ -69,7 +69,7 @@ pub(crate) fn poll_pending<P: Drop, T: Copy>(id: TaskId, future: P) -> (Held, P)
     }
 }
 
-// One poll of the task, which answers this output.
+// One poll of the task by a script, which answers this output.
 pub(crate) fn poll_ready<P: Drop, T: Copy>(id: TaskId, future: P, output: T) -> (Held, T)
     ensures { result ≡ (record { id = id; to_drop = false }, output) }
 {
@@ -80,7 +80,7 @@ pub(crate) fn poll_ready<P: Drop, T: Copy>(id: TaskId, future: P, output: T) -> 
     }
 }
 
-// The drop of the future of a task that was taken cancelled.
+// The drop, by a script, of the future of a task that was taken cancelled.
 fn dispose<P: Drop, T: Copy>(id: TaskId, future: P) -> Held
     ensures { result ≡ record { id = id; to_drop = true } }
 {
@@ -91,8 +91,8 @@ fn dispose<P: Drop, T: Copy>(id: TaskId, future: P) -> Held
     }
 }
 
-// The drop of the future of a cancelled task. One whose poll ended pending came back from its end,
-// and is let go here.
+// The drop, by a script, of the future of a cancelled task. One whose poll ended pending came back from
+// its end, and is let go here.
 pub(crate) fn drop_future<P: Drop, T: Copy>(id: TaskId, future: FutureOut<P>) -> Held
     ensures { result ≡ record { id = id; to_drop = true } }
 {

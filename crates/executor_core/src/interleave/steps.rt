@@ -13,7 +13,7 @@ pub(crate) mod tickers;
 
 use crate::interleave::entry::{TaskEntry, TaskInfo};
 
-// Counts a step about this task, and gives what is known of it.
+// Begins a step of the world about this task: counts it, and gives what is known of the task.
 pub(crate) fn begin<P>(accepted: &mut u32, entries: &Vec<TaskEntry<P>>, n: u64) -> TaskInfo
     requires room { accepted.old < u32.MAX }
     requires spawned { n < length entries.now.items }

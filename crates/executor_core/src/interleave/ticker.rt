@@ -74,7 +74,7 @@ pub struct Ticker {
 }
 
 impl Phase {
-    // How many notices the ticker keeps, with those in its change.
+    // How many notices a world's ticker keeps, with those in its change.
     pub(crate) fn notices(self) -> u32
         ensures { result ≡ notices_in self }
     {
@@ -86,7 +86,7 @@ impl Phase {
         }
     }
 
-    // Whether the ticker takes no step any more.
+    // Whether a world's ticker has ended, and takes no step any more.
     pub(crate) fn has_ended(self) -> bool
         ensures { result ≡ has_ended self }
     {
@@ -95,7 +95,7 @@ impl Phase {
 }
 
 impl Ticker {
-    // One that was just made: a tick, or the run of this runner.
+    // What a world keeps of a ticker that was just made: a tick, or the run of this runner.
     pub(crate) fn new(runner: Option<u64>) -> Ticker
         ensures { result ≡ new_ticker runner }
     {
@@ -106,14 +106,14 @@ impl Ticker {
         }
     }
 
-    // Whether it is a run.
+    // Whether a world's ticker is a run.
     pub(crate) fn is_run(self) -> bool
         ensures { result ≡ is_run self }
     {
         self.runner.is_some()
     }
 
-    // What comes next once its task runs.
+    // The phase of a world's ticker once its task runs.
     fn after_task(self) -> Phase
         ensures { result ≡ after_task self }
     {
@@ -124,14 +124,14 @@ impl Ticker {
         }
     }
 
-    // Whether it has no number.
+    // Whether a world's ticker has no number.
     pub(crate) fn is_awake(self) -> bool
         ensures { result ≡ is_awake self }
     {
         self.number == 0
     }
 
-    // The same after a poll.
+    // What a world keeps of the ticker after a poll.
     pub(crate) fn polled(self) -> Ticker
         ensures { result ≡ polled self }
     {
@@ -141,7 +141,7 @@ impl Ticker {
         }
     }
 
-    // The same after a search, by whether it found a task.
+    // What a world keeps of the ticker after a search, by whether it found a task.
     pub(crate) fn searched(self, found: bool) -> Ticker
         ensures { result ≡ searched found self }
     {
@@ -153,7 +153,7 @@ impl Ticker {
         Ticker { phase, ..self }
     }
 
-    // The same after it went to sleep under this number.
+    // What a world keeps of the ticker after it went to sleep under this number.
     pub(crate) fn slept(self, number: usize) -> Ticker
         ensures { result ≡ slept number self }
     {
@@ -164,7 +164,7 @@ impl Ticker {
         }
     }
 
-    // The same at rest.
+    // What a world keeps of the ticker at rest.
     pub(crate) fn rested(self) -> Ticker
         ensures { result ≡ rested self }
     {
@@ -174,7 +174,7 @@ impl Ticker {
         }
     }
 
-    // The same, awake, after its number was removed, since it found a task.
+    // What a world keeps of the ticker, awake, after its number was removed, since it found a task.
     pub(crate) fn woke(self, notified: bool) -> Ticker
         ensures { result ≡ woke notified self }
     {
@@ -185,7 +185,7 @@ impl Ticker {
         }
     }
 
-    // The same, awake, after its number was removed, since it is dropped.
+    // What a world keeps of the ticker, awake, after its number was removed, since it is dropped.
     pub(crate) fn dropped(self, notified: bool) -> Ticker
         ensures { result ≡ dropped notified self }
     {
@@ -196,7 +196,7 @@ impl Ticker {
         }
     }
 
-    // The same after it was dropped while it is awake.
+    // What a world keeps of the ticker after it was dropped while it is awake.
     pub(crate) fn ended(self) -> Ticker
         ensures { result ≡ ended self }
     {
@@ -206,7 +206,7 @@ impl Ticker {
         }
     }
 
-    // The same after the store of its change.
+    // What a world keeps of the ticker after the store of its change.
     pub(crate) fn stored(self) -> Ticker
         ensures { result ≡ stored self }
     {
@@ -218,14 +218,14 @@ impl Ticker {
         Ticker { phase, ..self }
     }
 
-    // Whether it is neither at rest nor over.
+    // Whether a world's ticker is neither at rest nor over.
     pub(crate) fn is_busy(self) -> bool
         ensures { result ≡ not (at_rest self.phase || is_over self.phase) }
     {
         !matches!(self.phase, Phase::Rest | Phase::Forgotten | Phase::Ended)
     }
 
-    // The same after a close or a leak: one that is at rest is forgotten.
+    // What a world keeps of the ticker after a close or a leak: one that is at rest is forgotten.
     pub(crate) fn forgotten(self) -> Ticker
         ensures { result ≡ forgotten self }
     {
@@ -236,7 +236,7 @@ impl Ticker {
         Ticker { phase, ..self }
     }
 
-    // The same after its runner was unregistered.
+    // What a world keeps of the ticker after its runner was unregistered.
     pub(crate) fn left(self) -> Ticker
         ensures { result ≡ left self }
     {
@@ -247,7 +247,7 @@ impl Ticker {
     }
 }
 
-// What is kept of this ticker. One that was not made is as one that has ended.
+// What a world keeps of this ticker. One that was not made is as one that has ended.
 pub(crate) fn ticker_at(tickers: &Vec<Ticker>, k: usize) -> Ticker
     ensures { result ≡ ticker_or (slice_get tickers.now.items k) }
 {
@@ -261,7 +261,7 @@ pub(crate) fn ticker_at(tickers: &Vec<Ticker>, k: usize) -> Ticker
     }
 }
 
-// Puts this in the place of what was kept of the ticker.
+// Puts this in the place of what a world kept of the ticker.
 pub(crate) fn set_ticker(tickers: &mut Vec<Ticker>, k: usize, ticker: Ticker)
     ensures { tickers.new.items ≡ slice_set tickers.old.items k ticker }
 {

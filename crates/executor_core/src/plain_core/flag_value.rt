@@ -21,7 +21,7 @@ impl Model for FlagValue {
 }
 
 impl FlagValue {
-    /// A flag that is true.
+    /// A plain flag that is true.
     pub fn new() -> Self
         ensures { result ≡ true }
     {
@@ -42,8 +42,8 @@ impl FlagValue {
         Some(Pick { unspent: () })
     }
 
-    /// Spends the change: the flag gets the value that it carries, the list is closed, and what
-    /// else it carries comes out.
+    /// `Flag::store` of a plain flag. It spends the change: the flag gets the value that it carries, the
+    /// list is closed, and what else it carries comes out.
     pub fn store<X, W>(&mut self, change: Change<X>, sleepers: &mut Sleepers<W>) -> X
         ensures flag { self.new ≡ change.notified }
         ensures list { sleepers.new ≡ closed sleepers.old }
@@ -55,7 +55,7 @@ impl FlagValue {
         carried
     }
 
-    /// The value.
+    /// The value of the plain flag.
     pub fn get(&self) -> bool
         ensures { result ≡ self.now }
     {

@@ -9,11 +9,12 @@ ghost use Rattle.executor_core.specs.Cells.Law.{queued_of};
 ghost use Rattle.executor_core.specs.Queues.{search_any};
 
 use crate::queue::queues::Queues;
-use crate::task::{Again, Cells, Notice};
+use crate::task::table::Cells;
+use crate::task::values::{Again, Notice};
 
 impl Notice {
-    /// Who was notified acts on the news: a search has still to follow, in place of the exchange of the
-    /// flag.
+    /// Who was notified, and looks before it takes, acts on the news: a search has still to follow, in
+    /// place of the exchange of the flag.
     pub fn act_on(self) -> Again {
         let Notice { unspent: () } = self;
         Again { unspent: () }
@@ -21,7 +22,7 @@ impl Notice {
 }
 
 impl Again {
-    /// The search is left to others, who have still to hear of it.
+    /// Who looked leaves the search to others, who have still to hear of it.
     pub fn pass_on(self) -> Notice {
         let Again { unspent: () } = self;
         Notice { unspent: () }
@@ -46,7 +47,7 @@ impl<P, T, W> Cells<P, T, W> {
 }
 
 impl<P, T, W> Queues<P, T, W> {
-    // Whether a task stands in any queue.
+    // For a look: whether a task stands in any queue.
     fn has_queued(&self) -> bool
         ensures { result ≡ is_some (search_any self.now.state.lists).0 }
     {

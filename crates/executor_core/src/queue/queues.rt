@@ -21,8 +21,9 @@ ghost use Rattle.std.specs.Borrow.{sem};
 use crate::queue::ring::{Ring, steal};
 use crate::queue::runner::{RunnerError, RunnerKey};
 use crate::task::cell::{Cell, Numbered};
+use crate::task::id::TaskId;
 use crate::task::slots::{QueuedNumbers, Slots};
-use crate::task::{Notice, TaskId};
+use crate::task::values::Notice;
 use std::alloc::{AllocError, Global};
 use std::marker::Model;
 
@@ -74,7 +75,7 @@ impl<P, T, W> Model for Queues<P, T, W> {
 impl<P, T, W> Queues<P, T, W> {
     ghost use Rattle.executor_core.specs.Queues.Lends.{lends_cell};
 
-    // No task is there, and no runner is registered.
+    // `Queues` without a task and without a registered runner.
     pub(crate) fn new(alloc: Global) -> Self
         ensures { result ≡ record { slots = []; state = no_queues } }
     {
@@ -87,21 +88,21 @@ impl<P, T, W> Queues<P, T, W> {
         }
     }
 
-    // As many slots as there are, or more.
+    // `Slots::capacity`, for `Queues`: as many slots as there are, or more.
     pub(crate) fn capacity(&self) -> usize
         ensures { length self.now.slots ≤ result }
     {
         self.slots.capacity()
     }
 
-    // The cell in this slot, with its number.
+    // `Slots::get`, for `Queues`: the cell in this slot, with its number.
     pub(crate) fn get(&self, slot: usize) -> Option<&Numbered<Cell<P, T, W>>>
         ensures { option_copied result ≡ slice_index_or self.now.slots slot None }
     {
         self.slots.get(slot)
     }
 
-    // The cell of the task.
+    // `Slots::cell`, for `Queues`: the cell of the task.
     pub(crate) fn cell(&self, id: TaskId) -> &Cell<P, T, W>
         requires { HasCell self.now.slots id }
         ensures { slice_index_or self.now.slots id.slot None ≡ Some (numbered id result.now) }
@@ -109,7 +110,7 @@ impl<P, T, W> Queues<P, T, W> {
         self.slots.cell(id)
     }
 
-    // The cell of the task, for a change of it.
+    // `Slots::cell_mut`, for `Queues`: the cell of the task, for a change of it.
     pub(crate) fn cell_mut(&mut self, id: TaskId) -> &mut Cell<P, T, W>
         requires { HasCell self.old.slots id }
         ensures* writes_back { sem 𝓛 (lends_cell P.row T.row W.row self.entry id result) }
@@ -118,16 +119,16 @@ impl<P, T, W> Queues<P, T, W> {
         self.slots.cell_mut(id)
     }
 
-    // Room for this many cells more.
+    // `Slots::reserve`, for `Queues`: room for this many cells more.
     pub(crate) fn reserve(&mut self, cells: usize) -> Result<(), AllocError>
         ensures { self.new ≡ self.old }
     {
         self.slots.reserve(cells)
     }
 
-    // Makes the cell of a new task of this future, and queues the task at the global end. If a
-    // growth was refused, the future comes back. Nobody queues a task without its notice, which
-    // comes from here.
+    // `Slots::insert`, for `Queues`: makes the cell of a new task of this future, and queues the task at
+    // the global end. If a growth was refused, the future comes back. Nobody queues a task without its
+    // notice, which comes from here.
     #[inline(always)]
     pub(crate) fn insert(&mut self, number: u64, future: P) -> Result<(TaskId, Notice), P>
         requires { length self.old.state.lists.global + 1 < 2 ^ 64 }
@@ -141,7 +142,7 @@ impl<P, T, W> Queues<P, T, W> {
         Ok((id, Notice { unspent: () }))
     }
 
-    // Takes the cell of the task away, which stands in no global queue.
+    // `Slots::remove`, for `Queues`: takes the cell of the task away, which stands in no global queue.
     pub(crate) fn remove(&mut self, id: TaskId) -> Cell<P, T, W>
         requires there { HasCell self.old.slots id }
         requires unqueued { IsQueue (slice_set self.old.slots id.slot None) self.old.state.lists.global }
@@ -154,8 +155,8 @@ impl<P, T, W> Queues<P, T, W> {
 
 // The global queue.
 impl<P, T, W> Queues<P, T, W> {
-    // Queues the task at the global end. Nobody queues a task without its notice, which comes from
-    // here.
+    // `Slots::push`, for `Queues`: queues the task at the global end. Nobody queues a task without its
+    // notice, which comes from here.
     pub(crate) fn push(&mut self, id: TaskId) -> Notice
         requires queue { IsQueue self.old.slots (self.old.state.lists.global ++ id ∷ []) }
         requires counted { length self.old.state.lists.global + 1 < 2 ^ 64 }
@@ -167,7 +168,7 @@ impl<P, T, W> Queues<P, T, W> {
         Notice { unspent: () }
     }
 
-    // Takes the task at the global front.
+    // `Slots::pop`, for `Queues`: takes the task at the global front.
     pub(crate) fn take_front(&mut self) -> Option<TaskId>
         ensures front { result ≡ (search_global self.old.state.lists).0 }
         ensures slots { self.new.slots ≡ self.old.slots }
@@ -176,21 +177,23 @@ impl<P, T, W> Queues<P, T, W> {
         self.slots.pop()
     }
 
-    // How many tasks stand in the global queue.
+    // `Cells::global_len`, for `Queues`: how many tasks stand in the global queue.
     pub(crate) fn global_len(&self) -> usize
         ensures { result ≡ length self.now.state.lists.global }
     {
         self.slots.len()
     }
 
-    // The number of the task at this place of the global queue, the front being 0.
+    // `Cells::global_at`, for `Queues`: the number of the task at this place of the global queue, the
+    // front being 0.
     pub(crate) fn global_at(&self, place: usize) -> Option<u64>
         ensures { result ≡ option_map (λ id. id.number) (slice_get self.now.state.lists.global place) }
     {
         self.slots.number_at(place)
     }
 
-    // The numbers of the tasks in the global queue, from the front on.
+    // `Cells::global_numbers`, for `Queues`: the numbers of the tasks in the global queue, from the
+    // front on.
     pub(crate) fn global_numbers(&self) -> QueuedNumbers<'_, P, T, W>
         ensures { result ≡ map (λ id. id.number) self.now.state.lists.global }
     {
@@ -212,7 +215,7 @@ fn first_in(locals: &[LocalQueue]) -> Option<usize>
     locals.iter().position(|local| !local.ring.is_empty())
 }
 
-// Whether it stands at this position.
+// Whether the queue of the runner with this number stands at this position.
 fn stands_at(locals: &[LocalQueue], position: usize, runner: u64) -> bool
     ensures { result ≡ unwrap_or (option_map (λ l. l.runner == runner) (slice_get locals.now position)) false }
 {
@@ -222,7 +225,7 @@ fn stands_at(locals: &[LocalQueue], position: usize, runner: u64) -> bool
     }
 }
 
-// Moves half of one queue of the list to another.
+// Moves half of one queue to another, both in the list of the runners' queues.
 fn steal_within(locals: &mut [LocalQueue], from: usize, to: usize)
     requires from { from < length locals.old }
     requires to { to < length locals.old }
@@ -252,7 +255,7 @@ fn move_all<P, T, W>(locals: &mut [LocalQueue], slots: &mut Slots<P, T, W>)
 
 // The places of the runners.
 impl<P, T, W> Queues<P, T, W> {
-    // One place more, and the key of a new runner.
+    // `Cells::reserve_runner`, for `Queues`: one place more, and the key of a new runner.
     pub(crate) fn reserve_runner(&mut self) -> Result<RunnerKey, RunnerError>
         ensures slots { self.new.slots ≡ self.old.slots }
         ensures lists { self.new.state.lists ≡ self.old.state.lists }
@@ -288,7 +291,7 @@ impl<P, T, W> Queues<P, T, W> {
         Ok(())
     }
 
-    // Gives a free place back, unless the runner is registered.
+    // `Cells::release_runner`, for `Queues`: gives a free place back, unless the runner is registered.
     pub(crate) fn release_runner(&mut self, key: RunnerKey)
         ensures slots { self.new.slots ≡ self.old.slots }
         ensures lists { self.new.state.lists ≡ self.old.state.lists }
@@ -299,7 +302,8 @@ impl<P, T, W> Queues<P, T, W> {
         }
     }
 
-    // Makes the ring the runner's queue, the last in order of registration.
+    // `Cells::register`, for `Queues`: makes the ring the runner's queue, the last in order of
+    // registration.
     pub(crate) fn register(&mut self, key: RunnerKey, ring: Ring) -> Result<(), Ring>
         requires { ring.ids ≡ [] }
         ensures variant { IsOk result ↔ ((nat_lt 0 self.old.state.free_places && not (is_registered key.number self.old.state.lists.locals)) ≡ true) }
@@ -318,7 +322,8 @@ impl<P, T, W> Queues<P, T, W> {
         Ok(())
     }
 
-    // Takes the runner's queue and its place away. What stood there goes to the global end.
+    // `Cells::unregister`, for `Queues`: takes the runner's queue and its place away. What stood there
+    // goes to the global end.
     pub(crate) fn unregister(&mut self, key: RunnerKey) -> Option<Notice>
         requires queue { IsQueue self.old.slots (self.old.state.lists.global ++ entries_of key.number self.old.state.lists.locals) }
         requires counted { length (self.old.state.lists.global ++ entries_of key.number self.old.state.lists.locals) < 2 ^ 64 }
@@ -353,8 +358,8 @@ impl<P, T, W> Queues<P, T, W> {
         count
     }
 
-    // All that stands in the runners' queues goes to the global end, in order of registration. Says
-    // whether there was something.
+    // Gathers all queues in one: what stands in the runners' goes to the global end, in order of
+    // registration. Says whether there was something.
     pub(crate) fn gather(&mut self) -> bool
         requires queue { IsQueue self.old.slots (self.old.state.lists.global ++ local_entries self.old.state.lists.locals) }
         requires counted { length (self.old.state.lists.global ++ local_entries self.old.state.lists.locals) < 2 ^ 64 }
@@ -388,14 +393,14 @@ impl<P, T, W> Queues<P, T, W> {
         Some(position)
     }
 
-    // The same, if nobody knows where it stood.
+    // At which position the runner's queue stands, if nobody knows where it stood.
     fn look_for(&self, key: RunnerKey) -> Option<usize>
         ensures { result ≡ position_of key.number self.now.state.lists.locals }
     {
         position_in(&self.locals, key.number)
     }
 
-    // Whether the runner has a queue.
+    // Whether one of the queues is the runner's.
     pub(crate) fn is_registered(&self, key: RunnerKey) -> bool
         ensures { result ≡ is_registered key.number self.now.state.lists.locals }
     {
@@ -403,7 +408,7 @@ impl<P, T, W> Queues<P, T, W> {
     }
 }
 
-// Where a walk with this word starts, over so many queues.
+// At which of so many queues the walk of a search with this word starts.
 fn start_of(word: u64, count: usize) -> usize
     requires { 0 < count }
     ensures { result ≡ word % count }
@@ -413,7 +418,7 @@ fn start_of(word: u64, count: usize) -> usize
 
 // What a runner does.
 impl<P, T, W> Queues<P, T, W> {
-    // Takes the task that the runner's search with this word finds.
+    // `Cells::search`, for `Queues`: takes the task that the runner's search with this word finds.
     #[inline(always)]
     pub(crate) fn search(&mut self, key: RunnerKey, word: u64) -> Option<TaskId>
         ensures found { result ≡ (search key.number word self.old.state.lists).0 }
@@ -435,8 +440,9 @@ impl<P, T, W> Queues<P, T, W> {
         self.take_local(own)
     }
 
-    // Takes the task at the global front, or else at the front of the first runner's queue that has
-    // one. Who takes here has no queue of its own to steal into, so no other task is moved.
+    // `Cells::take_any`, for `Queues`: takes the task at the global front, or else at the front of the
+    // first runner's queue that has one. Who takes here has no queue of its own to steal into, so no
+    // other task is moved.
     pub(crate) fn take_any(&mut self) -> Option<TaskId>
         ensures found { result ≡ (search_any self.old.state.lists).0 }
         ensures slots { self.new.slots ≡ self.old.slots }
@@ -466,7 +472,8 @@ impl<P, T, W> Queues<P, T, W> {
         self.locals[own].ring.pop()
     }
 
-    // Moves half of the global queue to the one at this position, and says how many tasks that are.
+    // `Slots::steal`, for `Queues`: moves half of the global queue to the one at this position, and says
+    // how many tasks that are.
     fn steal_global(&mut self, own: usize) -> usize
         requires { own < length self.old.state.lists.locals }
         ensures slots { self.new.slots ≡ self.old.slots }
@@ -529,7 +536,8 @@ impl<P, T, W> Queues<P, T, W> {
         steal_within(&mut self.locals, from, to);
     }
 
-    // Moves half of the global queue to the runner's own, and says how many tasks that are.
+    // `Cells::fair`, for `Queues`: moves half of the global queue to the runner's own, and says how many
+    // tasks that are.
     pub(crate) fn fair(&mut self, key: RunnerKey) -> usize
         ensures slots { self.new.slots ≡ self.old.slots }
         ensures lists { self.new.state ≡ with_lists (fair key.number self.old.state.lists) self.old.state }
@@ -541,14 +549,14 @@ impl<P, T, W> Queues<P, T, W> {
         }
     }
 
-    // How many runners are registered.
+    // `Cells::runners`, for `Queues`: how many runners are registered.
     pub(crate) fn runners(&self) -> usize
         ensures { result ≡ length self.now.state.lists.locals }
     {
         self.locals.len()
     }
 
-    // How many tasks stand in the queue at this position.
+    // `Cells::local_len`, for `Queues`: how many tasks stand in the queue at this position.
     pub(crate) fn local_len(&self, position: usize) -> Option<usize>
         ensures { result ≡ option_map (λ q. length q.entries) (slice_get self.now.state.lists.locals position) }
     {
@@ -558,7 +566,7 @@ impl<P, T, W> Queues<P, T, W> {
         }
     }
 
-    // The number of the task at this place of the queue at this position.
+    // `Cells::local_at`, for `Queues`: the number of the task at this place of the queue at this position.
     pub(crate) fn local_at(&self, position: usize, place: usize) -> Option<u64>
         ensures { result ≡ option_map (λ id. id.number) (slice_get (entries_at position self.now.state.lists.locals) place) }
     {

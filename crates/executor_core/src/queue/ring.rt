@@ -2,7 +2,8 @@
 ghost use Rattle.std.specs.Prelude.{◌≡◌, ◌+◌, ◌^◌, ◌<◌, ◌↔◌, ◌∷◌, ◌++◌, [], length, take, drop, slice_get, IfOk, IfErr, IsOk, OnOk, option_map, ◌≤◌, ◌==◌};
 ghost use Rattle.executor_core.specs.Queues.{stolen};
 
-use crate::task::{OutOfMemory, TaskId};
+use crate::task::error::OutOfMemory;
+use crate::task::id::TaskId;
 use circular_buffer::HeapCircularBuffer;
 use std::alloc::Global;
 use std::cmp::min;
@@ -40,7 +41,7 @@ impl Ring {
         Ok(Ring { ids })
     }
 
-    /// Puts the id at the end. It takes no memory.
+    /// Puts the id at the end of the ring. It takes no memory.
     ///
     /// # Errors
     ///
@@ -61,7 +62,7 @@ impl Ring {
         self.ids.pop_front()
     }
 
-    /// How many ids stand in it.
+    /// How many ids stand in the ring.
     pub fn len(&self) -> usize
         ensures len { result ≡ length self.now.ids }
         ensures within { result ≤ self.now.capacity }
@@ -69,14 +70,14 @@ impl Ring {
         self.ids.len()
     }
 
-    /// Whether no id stands in it.
+    /// Whether no id stands in the ring.
     pub fn is_empty(&self) -> bool
         ensures { result ≡ (length self.now.ids == 0) }
     {
         self.ids.is_empty()
     }
 
-    // The number of the task at this place, the front being 0.
+    // The number of the task at this place of the ring, the front being 0.
     pub(crate) fn number_at(&self, place: usize) -> Option<u64>
         ensures { result ≡ option_map (λ id. id.number) (slice_get self.now.ids place) }
     {
@@ -86,7 +87,7 @@ impl Ring {
         }
     }
 
-    /// For how many ids there is room.
+    /// For how many ids the ring has room.
     pub fn capacity(&self) -> usize
         ensures capacity { result ≡ self.now.capacity }
         ensures within { result < 2 ^ 63 }

@@ -19,7 +19,7 @@ pub struct ClosedSleepers<W> {
 impl<W> ClosedSleepers<W> {
     ghost use Rattle.executor_core.specs.Sleepers.Calls.{no_sleepers};
 
-    /// Nobody sleeps, and no place is reserved. It takes no memory.
+    /// Closed sleepers: nobody sleeps, and no place is reserved. It takes no memory.
     pub fn new(alloc: Global) -> Self
         ensures { result.sleepers ≡ no_sleepers }
     {

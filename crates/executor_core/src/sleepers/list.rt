@@ -61,7 +61,7 @@ impl<W> Model for Sleepers<W> {
     ghost invariant = { λ a. IsSoundList a.notified a.unnotified.items a.free.items a.places (vec_capacity a.unnotified) (vec_capacity a.free) };
 }
 
-// Room for this many items in all. If there is room, nothing is refused.
+// Room for this many items in all, sleepers or free numbers. If there is room, nothing is refused.
 fn reserve_places<T>(items: &mut Vec<T>, places: usize) -> Result<(), OutOfMemory>
     ensures items { items.new.items ≡ items.old.items }
     ensures capacity { vec_capacity items.old ≤ vec_capacity items.new }
@@ -73,7 +73,7 @@ fn reserve_places<T>(items: &mut Vec<T>, places: usize) -> Result<(), OutOfMemor
     Ok(())
 }
 
-// The number that was given back last leaves, else it is one more than are in use.
+// A sleeper's number: the one that was given back last leaves, else it is one more than are in use.
 fn take_number(free: &mut Vec<usize>, used: usize) -> usize
     requires { used < usize.MAX }
     ensures number { result ≡ unwrap_or (last_of free.old.items) (used + 1) }
@@ -83,14 +83,14 @@ fn take_number(free: &mut Vec<usize>, used: usize) -> usize
     free.pop().unwrap_or(used + 1)
 }
 
-// The place of the number's pair.
+// The place of the sleeper of this number in the list.
 fn place_of<W>(pairs: &[(usize, W)], id: usize) -> Option<usize>
     ensures { result ≡ position (λ p. p.0 == id) pairs.now }
 {
     pairs.iter().position(|pair| pair.0 == id)
 }
 
-// Puts the waker in the place of the number's, which comes out; it comes back if there is none.
+// Puts the waker in the place of the sleeper's, which comes out; it comes back if there is none.
 fn replace_waker<W>(pairs: &mut Vec<(usize, W)>, id: usize, waker: W) -> Update<W>
     ensures items { pairs.new.items ≡ set_value (λ k. k == id) pairs.old.items waker }
     ensures answer { MatchOption (lookup (λ k. k == id) pairs.old.items) (result ≡ Update.Unknown waker) (λ old. result ≡ Update.Asleep old) }
@@ -102,7 +102,7 @@ fn replace_waker<W>(pairs: &mut Vec<(usize, W)>, id: usize, waker: W) -> Update<
     }
 }
 
-// Takes the number's pair out, and gives its waker.
+// Takes the sleeper of this number out of the list, and gives its waker.
 #[cold]
 #[inline(never)]
 fn remove_waker<W>(pairs: &mut Vec<(usize, W)>, id: usize) -> Option<W>
@@ -116,7 +116,7 @@ fn remove_waker<W>(pairs: &mut Vec<(usize, W)>, id: usize) -> Option<W>
 }
 
 impl<W> Sleepers<W> {
-    /// Nobody sleeps, and no place is reserved. It takes no memory.
+    /// A list in which nobody sleeps, and no place is reserved. It takes no memory.
     pub fn new(alloc: Global) -> Self
         ensures list { result ≡ no_sleepers }
         ensures law { SleeperLaw result }
@@ -130,7 +130,7 @@ impl<W> Sleepers<W> {
         }
     }
 
-    /// Reserves a place for one number more.
+    /// Reserves a place in the list for one more sleeper.
     ///
     /// # Errors
     ///
@@ -147,7 +147,7 @@ impl<W> Sleepers<W> {
         Ok(())
     }
 
-    /// Gives one place back if one is free, and else changes nothing. It gives no memory back.
+    /// Gives one place in the list back if one is free, and else changes nothing. It gives no memory back.
     pub fn release(&mut self)
         ensures list { self.new ≡ after_release self.old }
         ensures law { SleeperLaw self.new }
@@ -253,8 +253,8 @@ impl<W> Sleepers<W> {
         Some(Wakeup { waker })
     }
 
-    /// Whether nobody sleeps, or somebody was notified and has not answered: what the flag is to
-    /// say.
+    /// What the flag is to say of the list: whether nobody sleeps, or somebody was notified and has not
+    /// answered.
     pub fn is_notified(&self) -> bool
         ensures answer { result ≡ is_notified self.now }
         ensures law { SleeperLaw self.now }
@@ -262,7 +262,7 @@ impl<W> Sleepers<W> {
         self.notified.is_some() || self.unnotified.is_empty()
     }
 
-    /// How many numbers are in use.
+    /// How many sleepers' numbers are in use.
     pub fn numbers(&self) -> usize
         ensures { result ≡ set.len self.now.used }
     {
@@ -272,7 +272,7 @@ impl<W> Sleepers<W> {
         }
     }
 
-    /// The number that is notified, or 0 if none is.
+    /// The sleeper's number that is notified, or 0 if none is.
     pub fn notified(&self) -> usize
         ensures { result ≡ notified_number self.now }
     {
@@ -297,14 +297,14 @@ impl<W> Sleepers<W> {
         }
     }
 
-    // The law of the numbers, which every call keeps. It does nothing.
+    // The law of the sleepers' numbers, which every call keeps. It does nothing.
     pub(crate) fn law_holds(&self)
         ensures { SleeperLaw self.now }
     {
         self.is_notified();
     }
 
-    // What the change is about, with what the flag is to say of the list as it is now.
+    // What the change of the list is about, with what the flag is to say of the list as it is now.
     fn change<X>(&self, carried: X) -> Change<X>
         ensures change { result ≡ change_of self.now carried }
         ensures law { SleeperLaw self.now }
@@ -315,7 +315,7 @@ impl<W> Sleepers<W> {
         }
     }
 
-    // The flag was stored.
+    // Closes the list of sleepers: the flag was stored.
     pub(crate) fn close(&mut self)
         ensures list { self.new ≡ closed self.old }
         ensures law { SleeperLaw self.new }

@@ -17,19 +17,19 @@ pub struct Flag {
 }
 
 impl Flag {
-    /// A flag that is true.
+    /// A shared flag that is true.
     pub fn new() -> Self {
         Flag {
             value: AtomicBool::new(true),
         }
     }
 
-    /// The value at some moment of the call.
+    /// The value of the shared flag at some moment of the call.
     pub fn get(&self) -> bool {
         self.value.load(Ordering::SeqCst)
     }
 
-    /// Spends the notice: in one atomic step the flag is set, and the pick is there if it was
+    /// Spends the notice: in one atomic step the shared flag is set, and the pick is there if it was
     /// false. It stands for the first half of `State::notify` in the Rust crate.
     pub fn exchange(&self, notice: Notice) -> Option<Pick> {
         let Notice { unspent: () } = notice;
@@ -47,7 +47,7 @@ impl Flag {
         }
     }
 
-    /// Spends the change: the flag gets the value that it carries, the list is closed, and what
+    /// Spends the change: the shared flag gets the value that it carries, the list is closed, and what
     /// else it carries comes out.
     pub fn store<X, W>(&self, change: Change<X>, sleepers: &mut Sleepers<W>) -> X
         ensures list { sleepers.new ≡ closed sleepers.old }

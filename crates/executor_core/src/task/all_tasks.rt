@@ -9,7 +9,9 @@ ghost use Rattle.executor_core.specs.Cells.Calls.{SlotsDiffer, after_wake_all, w
 
 use crate::queue::queues::Queues;
 use crate::task::cell::{cancel_cell, wake_cell};
-use crate::task::{Cells, Notice, TaskId};
+use crate::task::id::TaskId;
+use crate::task::table::Cells;
+use crate::task::values::Notice;
 
 impl<P, T, W> Cells<P, T, W> {
     /// Wakes every task, by rising slot: an idle one is scheduled at the global end, and one whose
@@ -46,7 +48,7 @@ impl<P, T, W> Cells<P, T, W> {
         Notice::of(idle | moved)
     }
 
-    // Whether the cells were closed.
+    // Whether `Cells::close` closed the cells.
     pub(crate) fn is_closed(&self) -> bool
         ensures { result ≡ self.now.closed }
     {
@@ -75,7 +77,7 @@ fn change_all<P, T, W>(queues: &mut Queues<P, T, W>, cancels: bool) -> bool
     idle
 }
 
-// Cancels the task in this slot, or wakes it. Gives its id if it was idle.
+// For the change of all tasks: cancels the one in this slot, or wakes it. Gives its id if it was idle.
 fn change_slot<P, T, W>(queues: &mut Queues<P, T, W>, slot: usize, cancels: bool) -> Option<TaskId>
     ensures slots { queues.new.slots ≡ slice_set queues.old.slots slot (changed_slot (change_by cancels) (slice_index_or queues.old.slots slot None)) }
     ensures state { queues.new.state ≡ queues.old.state }

@@ -56,7 +56,7 @@ pub(crate) fn new_cell<P, T, W>(future: P) -> Cell<P, T, W>
     }
 }
 
-// Whether the future is in the cell or out, and not dropped.
+// Whether a cell's future is in it or out, and not dropped.
 pub(crate) fn has_future<P, T, W>(cell: &Cell<P, T, W>) -> bool
     ensures { result ≡ is_undropped cell.now.state }
 {
@@ -66,21 +66,21 @@ pub(crate) fn has_future<P, T, W>(cell: &Cell<P, T, W>) -> bool
     }
 }
 
-// Whether the future is in the cell.
+// Whether a cell has its future in it.
 pub(crate) fn keeps_future<P, T, W>(cell: &Cell<P, T, W>) -> bool
     ensures { result ≡ (is_idle cell.now.state || is_scheduled cell.now.state) }
 {
     matches!(&cell.state, CellState::Idle(_) | CellState::Scheduled(_))
 }
 
-// Whether the future is out.
+// Whether a cell's future is out.
 pub(crate) fn is_held<P, T, W>(cell: &Cell<P, T, W>) -> bool
     ensures { result ≡ is_held cell.now.state }
 {
     matches!(&cell.state, CellState::Held)
 }
 
-// Whether the future is out, and the task was not cancelled.
+// Whether a cell's future is out, and the task was not cancelled.
 pub(crate) fn takes_back<P, T, W>(cell: &Cell<P, T, W>) -> bool
     ensures { result ≡ takes_back cell.now }
 {
@@ -97,7 +97,7 @@ fn end_held<P, T>(state: CellState<P, T>)
     }
 }
 
-// Schedules an idle task, and says whether it was one.
+// Schedules the task of a cell if it is idle, and says whether it was.
 fn schedule<P, T>(state: &mut CellState<P, T>) -> bool
     ensures state { state.new ≡ state_woken state.old }
     ensures queued { result ≡ is_idle state.old }
@@ -155,7 +155,7 @@ pub(crate) fn pend_cell<P, T, W>(cell: &mut Cell<P, T, W>, future: P) -> bool
     cell.woken
 }
 
-// The awaiter, as a waker that is to be woken.
+// What a change of a cell gives of its awaiter: a waker that is to be woken.
 fn wakeup<W>(awaiter: Option<W>) -> Option<Wakeup<W>>
     ensures { result ≡ wakeup_of awaiter }
 {
@@ -193,7 +193,7 @@ pub(crate) fn dispose_cell<P, T, W>(cell: &mut Cell<P, T, W>) -> Option<Wakeup<W
     wakeup(replace(&mut cell.awaiter, None))
 }
 
-// A poll of the handle in vain: gives the awaiter before.
+// A cell whose handle is polled in vain: keeps the awaiter, and gives the one before.
 pub(crate) fn await_cell<P, T, W>(cell: &mut Cell<P, T, W>, waker: W) -> Option<W>
     ensures cell { cell.new ≡ awaited cell.old waker }
     ensures before { result ≡ cell.old.awaiter }

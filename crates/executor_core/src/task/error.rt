@@ -40,7 +40,7 @@ pub enum SpawnError<P> {
 }
 
 impl<P> SpawnError<P> {
-    /// The future that was refused.
+    /// The future of this `SpawnError`, which was refused.
     ///
     /// Example: `uses::gives_back`, at `SpawnError`.
     pub fn into_inner(self) -> P

@@ -15,10 +15,10 @@ use crate::task::error::OutOfMemory;
 /// }
 /// ```
 pub trait Wake: Drop {
-    /// Asks for another poll.
+    /// Asks for another poll of the future.
     fn wake(&self);
 
-    /// A second waker for the same poll.
+    /// A second waker for the same poll of the future.
     ///
     /// # Errors
     ///
@@ -51,7 +51,7 @@ pub trait Future<W>: Drop {
     /// What it gives in the end.
     type Output: Drop;
 
-    /// Goes on as far as it can, and has the waker woken once it can go on.
+    /// Polls the future: it goes on as far as it can, and has the waker woken once it can go on.
     fn poll(&mut self, w: &W) -> Poll<Self::Output>;
 }
 

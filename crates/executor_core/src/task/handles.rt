@@ -100,8 +100,8 @@ impl<P, T, W> Cells<P, T, W> {
         (notice, output, awaiter)
     }
 
-    /// Whether the task's future was dropped, or is to be dropped since the task was cancelled. It
-    /// stands for `async_task::Task::is_finished`.
+    /// For a handle: whether the task's future was dropped, or is to be dropped since the task was
+    /// cancelled. It stands for `async_task::Task::is_finished`.
     ///
     /// It looks at the cell and not at the handle. Of a task without a cell it is true.
     pub fn is_finished(&self, id: TaskId) -> bool

@@ -10,14 +10,14 @@ pub struct TaskId {
 }
 
 impl TaskId {
-    /// The number: tasks are numbered from 0 in order of spawning.
+    /// The id's number: tasks are numbered from 0 in order of spawning.
     pub fn number(self) -> u64
         ensures { result ≡ self.number }
     {
         self.number
     }
 
-    /// The slot, which another task may have once this one's cell was removed.
+    /// The id's slot, which another task may have once this one's cell was removed.
     pub fn slot(self) -> usize
         ensures { result ≡ self.slot }
     {

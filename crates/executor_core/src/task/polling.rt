@@ -26,14 +26,14 @@ pub trait Poller<P, T> {
 
     ghost disposed: { Self → TaskId → P → Self → Type 0 };
 
-    /// Polls the future of the task once.
+    /// Polls the future of the task once, for `run_taken`.
     fn poll(&mut self, id: TaskId, future: P) -> Polled<P, T>
         requires room { polls self.old + 1 < 2 ^ 64 }
         ensures polls { polls self.new ≡ polls self.old + 1 }
         ensures disposals { disposals self.new ≡ disposals self.old }
         ensures answer { answers self.old id future result };
 
-    /// Drops the future of the task.
+    /// Drops the future of the task, for `run_taken`.
     fn dispose(&mut self, id: TaskId, future: P)
         requires room { disposals self.old + 1 < 2 ^ 64 }
         ensures polls { polls self.new ≡ polls self.old }

@@ -60,7 +60,7 @@ impl<P, T, W> Model for Slots<P, T, W> {
 impl<P, T, W> Slots<P, T, W> {
     ghost use Rattle.executor_core.specs.Slots.Lends.{lends_cell};
 
-    // No cell.
+    // No slot, and so no cell.
     pub(crate) fn new(alloc: Global) -> Self
         ensures { result ≡ record { slots = []; queue = [] } }
     {
@@ -89,7 +89,7 @@ impl<P, T, W> Slots<P, T, W> {
         }
     }
 
-    // The cell of the task.
+    // The cell in the task's slot.
     pub(crate) fn cell(&self, id: TaskId) -> &Cell<P, T, W>
         requires { HasCell self.now.slots id }
         ensures { slice_index_or self.now.slots id.slot None ≡ Some (numbered id result.now) }
@@ -97,7 +97,7 @@ impl<P, T, W> Slots<P, T, W> {
         &self.slots[id.slot].entry.cell
     }
 
-    // The cell of the task, for a change of it.
+    // The cell in the task's slot, for a change of it.
     pub(crate) fn cell_mut(&mut self, id: TaskId) -> &mut Cell<P, T, W>
         requires { HasCell self.old.slots id }
         ensures* writes_back { sem 𝓛 (lends_cell P.row T.row W.row self.entry id result) }
@@ -109,15 +109,15 @@ impl<P, T, W> Slots<P, T, W> {
         &mut entry.cell
     }
 
-    // Room for this many cells more.
+    // Room for the slots of this many cells more.
     pub(crate) fn reserve(&mut self, cells: usize) -> Result<(), AllocError>
         ensures { self.new ≡ self.old }
     {
         self.slots.reserve(cells)
     }
 
-    // Makes the cell of a new task of this future, and queues it. If a growth was refused, the
-    // future comes back.
+    // Makes the cell of a new task of this future in a free slot, and queues the task. If a growth was
+    // refused, the future comes back.
     #[inline(always)]
     pub(crate) fn insert(&mut self, number: u64, future: P) -> Result<TaskId, P>
         requires { length self.old.queue + 1 < 2 ^ 64 }
@@ -140,7 +140,7 @@ impl<P, T, W> Slots<P, T, W> {
         Ok(id)
     }
 
-    // Takes the cell of the task away, which is not queued.
+    // Takes the cell of the task, which is not queued, out of its slot.
     pub(crate) fn remove(&mut self, id: TaskId) -> Cell<P, T, W>
         requires there { HasCell self.old.slots id }
         requires unqueued { IsQueue (slice_set self.old.slots id.slot None) self.old.queue }
@@ -155,7 +155,7 @@ impl<P, T, W> Slots<P, T, W> {
 
 // The queue.
 impl<P, T, W> Slots<P, T, W> {
-    // Queues the task behind the last one.
+    // Queues the task: links its slot behind that of the last one.
     pub(crate) fn push(&mut self, id: TaskId)
         requires queue { IsQueue self.old.slots (self.old.queue ++ id ∷ []) }
         requires counted { length self.old.queue + 1 < 2 ^ 64 }
@@ -170,7 +170,7 @@ impl<P, T, W> Slots<P, T, W> {
         self.len += 1;
     }
 
-    // Takes the first task, or none if none is queued.
+    // Takes the first task of the linked queue, or none if none is queued.
     pub(crate) fn pop(&mut self) -> Option<TaskId>
         ensures front { result ≡ slice_get self.old.queue 0 }
         ensures rest { self.new ≡ with_queue (drop 1 self.old.queue) self.old }
@@ -188,14 +188,14 @@ impl<P, T, W> Slots<P, T, W> {
         Some(id)
     }
 
-    // How many tasks are queued.
+    // How many tasks stand in the linked queue.
     pub(crate) fn len(&self) -> usize
         ensures { result ≡ length self.now.queue }
     {
         self.len
     }
 
-    // The number of the task at this place of the queue, the front being 0.
+    // The number of the task at this place of the linked queue, the front being 0.
     pub(crate) fn number_at(&self, place: usize) -> Option<u64>
         ensures { result ≡ option_map (λ id. id.number) (slice_get self.now.queue place) }
     {
@@ -209,7 +209,7 @@ impl<P, T, W> Slots<P, T, W> {
         Some(self.slots[slot].entry.number)
     }
 
-    // The numbers of the queued tasks, from the front on.
+    // The numbers of the tasks in the linked queue, from the front on.
     pub(crate) fn numbers(&self) -> QueuedNumbers<'_, P, T, W>
         ensures { result ≡ map (λ id. id.number) self.now.queue }
     {
@@ -220,8 +220,8 @@ impl<P, T, W> Slots<P, T, W> {
         }
     }
 
-    // Moves the first half, rounded up, to the end of the ring, in order, as far as there is room, and
-    // says how many tasks that are.
+    // Moves the first half of the linked queue, rounded up, to the end of the ring, in order, as far as
+    // there is room, and says how many tasks that are.
     pub(crate) fn steal(&mut self, ring: &mut Ring) -> usize
         ensures count { result ≡ stolen self.old.queue ring.old.ids ring.old.capacity }
         ensures queue { self.new ≡ with_queue (drop result self.old.queue) self.old }
@@ -236,7 +236,7 @@ impl<P, T, W> Slots<P, T, W> {
         count
     }
 
-    // Moves so many tasks from the front to the end of the ring, in order.
+    // Moves so many tasks from the front of the linked queue to the end of the ring, in order.
     fn move_first(&mut self, ring: &mut Ring, count: usize)
         requires there { count ≤ length self.old.queue }
         requires room { length ring.old.ids + count ≤ ring.old.capacity }
@@ -252,7 +252,7 @@ impl<P, T, W> Slots<P, T, W> {
         }
     }
 
-    // Moves all that stands in the ring behind the last task, in order.
+    // Moves all that stands in the ring behind the last task of the linked queue, in order.
     pub(crate) fn append(&mut self, ring: &mut Ring)
         requires queue { IsQueue self.old.slots (self.old.queue ++ ring.old.ids) }
         requires counted { length self.old.queue + length ring.old.ids < 2 ^ 64 }

@@ -64,7 +64,7 @@ impl<P, T, W> Model for Cells<P, T, W> {
 }
 
 impl<P, T, W> Cells<P, T, W> {
-    /// No task, and none was there before.
+    /// A table without tasks, in which there was none before.
     ///
     /// # Errors
     ///
@@ -76,7 +76,7 @@ impl<P, T, W> Cells<P, T, W> {
         Self::first_number(alloc, 0)
     }
 
-    /// The same, with this number for the first task.
+    /// As `Cells::new`, with this number for the first task.
     pub fn first_number(alloc: Global, first: u64) -> Result<Self, OutOfMemory>
         ensures { IfOk result (λ cells. cells ≡ empty_table first) }
     {
@@ -88,8 +88,8 @@ impl<P, T, W> Cells<P, T, W> {
         })
     }
 
-    /// Makes room for this many tasks more, so that their spawns need not ask for it. The table stays as
-    /// it is.
+    /// Makes room in the table for this many tasks more, so that their spawns need not ask for it. The
+    /// table stays as it is.
     ///
     /// # Errors
     ///
@@ -144,7 +144,7 @@ impl<P, T, W> Cells<P, T, W> {
         Some(self.queues.push(id))
     }
 
-    /// The end of a poll that was pending: the future goes back, or is to be dropped.
+    /// The end of a poll that was pending, for the table: the future goes back, or is to be dropped.
     ///
     /// It takes no memory.
     pub fn end_pending(&mut self, held: Held, future: P) -> EndPending<P>
@@ -162,7 +162,7 @@ impl<P, T, W> Cells<P, T, W> {
         EndPending::Back(Some(self.queues.push(id)))
     }
 
-    /// The end of a poll that gave an output, for the cell of its task, whose future was dropped.
+    /// The end of a poll that gave an output, for the table: the task's future was dropped.
     ///
     /// The output waits for the handle, or comes back if no handle will give it. It takes no
     /// memory.
@@ -191,7 +191,7 @@ impl<P, T, W> Cells<P, T, W> {
         }
     }
 
-    /// The end of a task that was cancelled, whose future was dropped unfinished.
+    /// The end, for the table, of a task that was cancelled, whose future was dropped unfinished.
     ///
     /// It asks for the `Held` of a disposal, or the one that `end_pending` gave back with the
     /// future. Whoever polled the handle in vain comes out, to be woken. A `Held` of other cells
@@ -213,70 +213,70 @@ impl<P, T, W> Cells<P, T, W> {
         awaiter_of_held(cell)
     }
 
-    /// Whether every future that was spawned was dropped. It stands for `Executor::is_empty`.
+    /// Whether every future that was spawned in the table was dropped. It stands for `Executor::is_empty`.
     pub fn is_empty(&self) -> bool
         ensures { IsTrue result ↔ AllDropped self.now }
     {
         self.undropped == 0
     }
 
-    /// How many of the futures that were spawned are not dropped.
+    /// How many of the futures that were spawned in the table are not dropped.
     pub fn undropped(&self) -> usize
         ensures { result ≡ undropped_count self.now }
     {
         self.undropped
     }
 
-    /// Whether the task's future is in its cell: neither out nor dropped.
+    /// Whether the table has the task's future in its cell: neither out nor dropped.
     pub fn keeps(&self, id: TaskId) -> bool
         ensures { result ≡ future_in (cell_at self.now id) }
     {
         self.cell_at(id).is_some_and(keeps_future)
     }
 
-    // Whether the task's future is not dropped.
+    // Whether the table has the task's cell, and its future is not dropped.
     pub(crate) fn is_undropped(&self, id: TaskId) -> bool
         ensures { result ≡ undropped_in (cell_at self.now id) }
     {
         self.cell_at(id).is_some_and(has_future)
     }
 
-    // Whether the task is cancelled.
+    // Whether the table has the task's cell, and the task is cancelled.
     pub(crate) fn is_cancelled(&self, id: TaskId) -> bool
         ensures { result ≡ cancelled_in (cell_at self.now id) }
     {
         self.cell_at(id).is_some_and(|cell| cell.cancelled)
     }
 
-    // Whether the task's handle is there.
+    // Whether the table has the task's cell, and its handle is there.
     pub(crate) fn has_handle(&self, id: TaskId) -> bool
         ensures { result ≡ handle_in (cell_at self.now id) }
     {
         self.cell_at(id).is_some_and(|cell| cell.has_handle)
     }
 
-    // Whether the task has a cell.
+    // Whether the table has the task's cell.
     fn has_cell(&self, id: TaskId) -> bool
         ensures { result ≡ is_some (cell_at self.now id) }
     {
         self.cell_at(id).is_some()
     }
 
-    // Whether the task's future is out.
+    // Whether the table has the task's cell, and its future is out.
     fn is_held(&self, id: TaskId) -> bool
         ensures { result ≡ held_in (cell_at self.now id) }
     {
         self.cell_at(id).is_some_and(is_held)
     }
 
-    // Whether the task's future is out, and the task was not cancelled.
+    // Whether the table has the task's cell, its future is out, and the task was not cancelled.
     fn takes_back(&self, id: TaskId) -> bool
         ensures { result ≡ takes_back_in (cell_at self.now id) }
     {
         self.cell_at(id).is_some_and(takes_back)
     }
 
-    // The cell of the task's number, if it is in the task's slot.
+    // The table's cell of the task's number, if it is in the task's slot.
     pub(crate) fn cell_at(&self, id: TaskId) -> Option<&Cell<P, T, W>>
         ensures { option_copied result ≡ cell_at self.now id }
     {
@@ -286,8 +286,8 @@ impl<P, T, W> Cells<P, T, W> {
         }
     }
 
-    /// The law of the queues, which every call keeps: a number stands once in all of them together
-    /// if its cell is scheduled, and otherwise in none. It does nothing.
+    /// The law of the table's queues, which every call keeps: a number stands once in all of them
+    /// together if its cell is scheduled, and otherwise in none. It does nothing.
     pub fn law_holds(&self)
         ensures { LockLaw self.now }
     {

@@ -10,13 +10,13 @@ pub struct Notice {
 }
 
 impl Notice {
-    /// Two notices become one.
+    /// Two notices become one, which must be spent.
     pub fn join(self, other: Notice) -> Notice {
         let Notice { unspent: () } = other;
         self
     }
 
-    // One notice of all that was queued in a call, if something was.
+    // One notice, which must be spent, of all that was queued in a call, if something was.
     pub(crate) fn of(queued: bool) -> Option<Notice>
         ensures { is_some result ≡ queued }
     {
@@ -27,8 +27,8 @@ impl Notice {
         }
     }
 
-    // A world keeps its notices as a count. A call that queues many tasks gives one notice, and a drain
-    // gives none.
+    // Spends a notice without an exchange. A world keeps its notices as a count; a call that queues many
+    // tasks gives one notice, and a drain gives none.
     pub(crate) fn keep(self) {
         let Notice { unspent: () } = self;
     }
@@ -45,7 +45,7 @@ pub struct Again {
 }
 
 impl Again {
-    // The search is being made.
+    // Spends an `Again`: the search is being made.
     pub(crate) fn spend(self) {
         let Again { unspent: () } = self;
     }
@@ -58,14 +58,14 @@ pub struct Change<X> {
 }
 
 impl<X> Change<X> {
-    /// Whether nobody sleeps or somebody was notified, as of the change: the value to be stored.
+    /// What a `Change` is to store: whether nobody sleeps or somebody was notified, as of the change.
     pub fn is_notified(&self) -> bool
         ensures { result ≡ self.now.notified }
     {
         self.notified
     }
 
-    // A world has the open list of the sleepers in place of the change.
+    // Spends a `Change` for a world, which has the open list of the sleepers in its place.
     pub(crate) fn into_carried(self) -> X
         ensures { result ≡ self.carried }
     {
@@ -83,7 +83,7 @@ pub struct Wakeup<W> {
 }
 
 impl<W: Wake> Wakeup<W> {
-    /// Wakes the waker, once.
+    /// Spends the `Wakeup`: wakes the waker, once.
     pub fn wake(self) {
         let Wakeup { waker } = self;
         waker.wake();
@@ -91,7 +91,7 @@ impl<W: Wake> Wakeup<W> {
 }
 
 impl Wakeup<()> {
-    // A world's wakers are units, and its replies say that one came out.
+    // Spends a `Wakeup` for a world, whose wakers are units, and whose replies say that one came out.
     pub(crate) fn keep(self) {
         let Wakeup { waker: () } = self;
     }
@@ -111,14 +111,14 @@ pub struct Taken<P> {
 }
 
 impl<P> Taken<P> {
-    /// Which task was taken.
+    /// The id in a `Taken`: which task was taken.
     pub fn id(&self) -> TaskId
         ensures { result ≡ self.now.id }
     {
         self.id
     }
 
-    /// Whether the task is cancelled, so that its future is to be dropped and not polled.
+    /// Whether the task of a `Taken` is cancelled, so that its future is to be dropped and not polled.
     pub fn cancelled(&self) -> bool
         ensures { result ≡ self.now.cancelled }
     {

@@ -3,7 +3,7 @@
 //!
 //! It takes the steps of a run, but that it polls no own future and never stands among the sleepers:
 //! where a run would go to sleep or yield, it tells its caller which of both.
-ghost use Rattle.std.specs.Prelude.{◌≡◌, true, false, []};
+ghost use Rattle.std.specs.Prelude.{◌≡◌, true, false, [], IfOk};
 ghost use Rattle.executor_core.specs.Limits.{is_lawful};
 ghost use Rattle.async_executor.specs.Runs.{has_ended, new_rest};
 ghost use Rattle.async_executor.specs.Runs.Fixed.{fixed};
@@ -18,7 +18,7 @@ use crate::scheduler::ExecutorIn;
 use crate::sleeping::{announce_found, leave};
 use crate::state::announce;
 use executor_core::limits::Limits;
-use executor_core::queue::{Ring, RunnerKey};
+use executor_core::queue::{Ring, RunnerError, RunnerKey};
 
 /// A worker of an executor, which it borrows. Between its turns it keeps its rest and what is its own.
 pub struct WorkerIn<'a, S: Storage> {
@@ -27,10 +27,27 @@ pub struct WorkerIn<'a, S: Storage> {
     own: Own<()>,
 }
 
+impl<S: Storage> ExecutorIn<S> {
+    /// `Executor::worker`, for both kinds of storage: makes its queue, and reserves a runner's place.
+    pub(crate) fn worker(&self) -> Result<WorkerIn<'_, S>, RunnerError>
+        ensures { IfOk result (λ worker. has_ended worker.rest ≡ false) }
+    {
+        let state = self.state();
+        let Ok(ring) = Ring::new(state.alloc(), self.limits.local) else {
+            return Err(RunnerError::OutOfMemory);
+        };
+        let reserved = state.cells().reserve_runner();
+        match reserved {
+            Ok(key) => Ok(WorkerIn::new(self, key, self.limits, ring)),
+            Err(error) => Err(error),
+        }
+    }
+}
+
 impl<'a, S: Storage> WorkerIn<'a, S> {
-    /// A worker that had no turn yet, with these limits. It has a reserved place among the runners, and
-    /// the empty queue of its runner.
-    pub(crate) fn new(
+    // A worker that had no turn yet, with these limits. It has a reserved place among the runners, and
+    // the empty queue of its runner.
+    fn new(
         executor: &'a ExecutorIn<S>,
         key: RunnerKey,
         limits: Limits,
@@ -53,7 +70,7 @@ impl<'a, S: Storage> WorkerIn<'a, S> {
     }
 }
 
-// Runs tasks until none is found or the turn is over, and says whether it is.
+// Runs tasks of a worker until none is found or the turn is over, and says whether it is.
 fn run_turn<S: Storage>(
     executor: &ExecutorIn<S>,
     search: Search,
@@ -81,7 +98,7 @@ fn run_turn<S: Storage>(
     }
 }
 
-// Ends the queue of a runner that never slept, and passes on what stood in it.
+// Ends the queue of a worker, which never slept, and passes on what stood in it.
 fn end<S: Storage>(executor: &ExecutorIn<S>, unregistering: Unregistering) {
     let state = executor.state();
     let mut cells = state.cells();
@@ -94,7 +111,8 @@ fn end<S: Storage>(executor: &ExecutorIn<S>, unregistering: Unregistering) {
 }
 
 impl<S: Storage> WorkerIn<'_, S> {
-    /// Runs tasks until none is found or a turn is over, and says whether it is.
+    /// `Worker::turn`, for both kinds of storage: runs tasks until none is found or a turn is over, and says
+    /// whether it is.
     pub(crate) fn turn(&mut self) -> bool
         requires { has_ended self.old.rest ≡ false }
         ensures fixed { fixed self.new.rest.runner ≡ fixed self.old.rest.runner }

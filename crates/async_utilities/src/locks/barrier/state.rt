@@ -23,7 +23,7 @@ pub(crate) struct State<W> {
 impl<W: Drop> State<W> {
     ghost use Rattle.async_utilities.specs.Barriers.{Arrives, Completes, Goes, WaitsStill};
 
-    /// Nobody has come.
+    /// The state of a barrier to which nobody has come.
     pub(crate) fn new(alloc: Global, size: usize) -> State<W>
         requires { 0 < size }
         ensures size { result.size ≡ size }
@@ -36,7 +36,7 @@ impl<W: Drop> State<W> {
         }
     }
 
-    /// Ends the round, if one more is its last, and says whether it was.
+    /// Under the barrier's lock: ends the round, if one more is its last, and says whether it was.
     pub(crate) fn complete(&mut self) -> bool
         ensures { Completes self.old result self.new }
     {
@@ -48,8 +48,8 @@ impl<W: Drop> State<W> {
         true
     }
 
-    /// One comes, which is not the last of its round, and waits with this waker. If it is the last, or
-    /// there is no memory for its place, the waker comes back, and is to be woken.
+    /// Under the barrier's lock: one comes, which is not the last of its round, and waits with this waker.
+    /// If it is the last, or there is no memory for its place, the waker comes back, and is to be woken.
     pub(crate) fn arrive(&mut self, waker: W) -> Result<Arrival, W>
         ensures { Arrives self.old waker result self.new }
     {
@@ -62,21 +62,23 @@ impl<W: Drop> State<W> {
         Ok(Arrival { place, round })
     }
 
-    /// Has one that came wait with this waker, if its round is under way. Gives what is not kept.
+    /// Under the barrier's lock: has one that came wait with this waker, if its round is under way. Gives
+    /// what is not kept.
     pub(crate) fn wait(&mut self, place: usize, waker: W) -> Option<W>
         ensures { WaitsStill self.old place waker result self.new }
     {
         self.waiters.wait(place, waker)
     }
 
-    /// Whether the round in which one came is over.
+    /// Under the barrier's lock: whether the round in which one came is over.
     pub(crate) fn is_over(&self, arrival: Arrival) -> bool
         ensures { result ≡ not (self.now.waiters.round == arrival.round) }
     {
         self.waiters.round != arrival.round
     }
 
-    /// Gives a place back, with its waker. If its round is under way, one fewer has come.
+    /// Under the barrier's lock: gives a place back, with its waker. If its round is under way, one fewer
+    /// has come.
     pub(crate) fn leave(&mut self, arrival: Arrival) -> Option<W>
         ensures { Goes self.old arrival result self.new }
     {

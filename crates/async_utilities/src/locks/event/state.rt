@@ -15,7 +15,7 @@ pub(crate) struct State<W> {
 impl<W: Drop> State<W> {
     ghost use Rattle.async_utilities.specs.Events.{Begins, Goes, Hears};
 
-    /// Nobody listens.
+    /// The state of an event for which nobody listens.
     pub(crate) fn new(alloc: Global) -> State<W>
         ensures { result.listeners.waiters.waiting ≡ [] }
     {
@@ -24,7 +24,7 @@ impl<W: Drop> State<W> {
         }
     }
 
-    /// One listens from now on. Gives its place.
+    /// Under the event's lock: one listens from now on. Gives its place.
     pub(crate) fn listen(&mut self) -> Result<usize, AllocError>
         ensures came { IfOk result (λ p. Comes self.old.listeners None p self.new.listeners) }
         ensures stays { OnErr result (Stays self.old.listeners.waiters self.new.listeners.waiters) }
@@ -33,7 +33,7 @@ impl<W: Drop> State<W> {
         self.listeners.listen()
     }
 
-    /// Whether the one at this place was told. If so, it gives its place back.
+    /// Under the event's lock: whether the one at this place was told. If so, it gives its place back.
     pub(crate) fn hear(&mut self, place: usize) -> bool
         ensures { Hears self.old place result self.new }
     {
@@ -45,8 +45,8 @@ impl<W: Drop> State<W> {
         was_told
     }
 
-    /// Begins to tell: so many that listen now, or so many that those who were told before and did not
-    /// come are counted too. Gives how many are to be told at most.
+    /// Under the event's lock: begins to tell: so many that listen now, or so many that those who were told
+    /// before and did not come are counted too. Gives how many are to be told at most.
     pub(crate) fn begin(&mut self, count: usize, counts_told: bool) -> usize
         ensures { Begins self.old count counts_told result self.new }
     {
@@ -58,7 +58,8 @@ impl<W: Drop> State<W> {
         }
     }
 
-    /// Has one listen no longer. If it was told and did not hear of it, the next one is told.
+    /// Under the event's lock: has one listen no longer. If it was told and did not hear of it, the next
+    /// one is told.
     pub(crate) fn leave(&mut self, place: usize) -> Left<W>
         ensures { Goes self.old place result self.new }
     {

@@ -30,7 +30,7 @@ pub(crate) struct GaveBack<T, W> {
 impl<T: Drop, W: Drop> State<T, W> {
     ghost use Rattle.async_utilities.specs.Mutexes.{Gives, Goes, Takes, Waits, is_due};
 
-    /// The value is there, and nobody waits.
+    /// The state of a mutex whose value is there, and nobody waits.
     pub(crate) fn new(alloc: Global, value: T) -> State<T, W>
         ensures value { result.value ≡ Some value }
         ensures nobody { result.waiters.waiting ≡ [] }
@@ -41,14 +41,14 @@ impl<T: Drop, W: Drop> State<T, W> {
         }
     }
 
-    // How many may have the value now.
+    // Under the mutex's lock: how many may have the value now.
     fn there(&self) -> usize
         ensures { result ≡ there_of self.now.value }
     {
         if self.value.is_some() { 1 } else { 0 }
     }
 
-    // Whether one has its turn at this place, or can have one without.
+    // Under the mutex's lock: whether one has its turn at this place, or can have one without.
     fn is_due(&self, place: Option<usize>) -> bool
         ensures { result ≡ is_due self.now place }
     {
@@ -58,8 +58,8 @@ impl<T: Drop, W: Drop> State<T, W> {
         }
     }
 
-    /// Takes the value: for one that was notified at this place, or without a place if it is kept for
-    /// nobody.
+    /// Under the mutex's lock: takes the value for one that was notified at this place, or without a place
+    /// if it is kept for nobody.
     pub(crate) fn take(&mut self, place: Option<usize>) -> Option<T>
         ensures { Takes self.old place result self.new }
     {
@@ -72,8 +72,8 @@ impl<T: Drop, W: Drop> State<T, W> {
         self.value.take()
     }
 
-    /// Has one wait for the value: behind all others, or where it waits already. If it could have it, or
-    /// there is no memory for its place, the waker comes back, and is to be woken.
+    /// Under the mutex's lock: has one wait for the value: behind all others, or where it waits already. If
+    /// it could have it, or there is no memory for its place, the waker comes back, and is to be woken.
     pub(crate) fn wait(&mut self, place: Option<usize>, waker: W) -> Result<(usize, Option<W>), W>
         ensures { Waits self.old place waker result self.new }
     {
@@ -87,7 +87,7 @@ impl<T: Drop, W: Drop> State<T, W> {
         self.waiters.enter(place, waker)
     }
 
-    /// Puts the value back, for the first one that waits.
+    /// Under the mutex's lock: puts the value back, for the first one that waits.
     pub(crate) fn give(&mut self, value: T) -> GaveBack<T, W>
         ensures { Gives self.old value result self.new }
     {
@@ -96,7 +96,8 @@ impl<T: Drop, W: Drop> State<T, W> {
         GaveBack { earlier, due }
     }
 
-    /// Has one wait no longer. If the value was kept for it, the next one has its turn.
+    /// Under the mutex's lock: has one wait no longer. If the value was kept for it, the next one has its
+    /// turn.
     pub(crate) fn leave(&mut self, place: Option<usize>) -> Left<W>
         ensures { Goes self.old place result self.new }
     {

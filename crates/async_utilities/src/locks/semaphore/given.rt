@@ -31,7 +31,8 @@ pub(crate) fn waker_in<W>(wish: Option<Wish<W>>) -> Option<W>
 }
 
 impl<W: Drop> Given<W> {
-    /// Has the first one that waits have its permits, if these and so many more are enough for it.
+    /// What is given of these permits and so many more: the first one that waits has its own, if they are
+    /// enough.
     pub(crate) fn to_first(
         permits: &mut usize,
         waiters: &mut WaitQueue<Wish<W>>,

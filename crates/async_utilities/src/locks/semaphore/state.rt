@@ -24,7 +24,7 @@ pub(crate) struct State<W> {
 impl<W: Drop> State<W> {
     ghost use Rattle.async_utilities.specs.Semaphores.{GivesMore, Goes, Same, Takes, Waits, had_at, is_due};
 
-    /// So many permits, and nobody waits.
+    /// The state of a semaphore with so many permits, and nobody waits.
     pub(crate) fn new(alloc: Global, permits: usize) -> State<W>
         ensures permits { (result.permits ≡ permits) × (result.total ≡ permits) }
         ensures nobody { result.waiters.waiting ≡ [] }
@@ -36,7 +36,8 @@ impl<W: Drop> State<W> {
         }
     }
 
-    // Whether one has its permits at this place, or can have so many without one.
+    // Under the semaphore's lock: whether one has its permits at this place, or can have so many without
+    // one.
     fn is_due(&self, place: Option<usize>, wanted: usize) -> bool
         ensures { result ≡ is_due self.now place wanted }
     {
@@ -46,7 +47,7 @@ impl<W: Drop> State<W> {
         }
     }
 
-    // How many permits one that waits for so many has at this place.
+    // Under the semaphore's lock: how many permits one that waits for so many has at this place.
     fn had_at(&self, place: usize, wanted: usize) -> usize
         ensures { result ≡ had_at self.now place wanted }
     {
@@ -57,8 +58,8 @@ impl<W: Drop> State<W> {
         }
     }
 
-    /// Takes so many permits, those of one that was notified at this place, or without a place those
-    /// that nobody waits for. Says whether it did.
+    /// Under the semaphore's lock: takes so many permits, those of one that was notified at this place, or
+    /// without a place those that nobody waits for. Says whether it did.
     pub(crate) fn take(&mut self, place: Option<usize>, wanted: usize) -> bool
         ensures { Takes self.old place wanted result self.new }
     {
@@ -73,7 +74,7 @@ impl<W: Drop> State<W> {
         true
     }
 
-    // Has one wait on where it waits, for what it waits for there.
+    // Under the semaphore's lock: has one wait on where it waits, for what it waits for there.
     fn wait_on(&mut self, place: usize, waker: W) -> Result<(usize, Option<W>), W>
         ensures { Waits self.old (Some place) 0 waker result self.new }
     {
@@ -85,7 +86,7 @@ impl<W: Drop> State<W> {
         Ok((place, waker_in(unused)))
     }
 
-    // Has one begin to wait for so many permits.
+    // Under the semaphore's lock: has one begin to wait for so many permits.
     fn wait_anew(&mut self, wanted: usize, waker: W) -> Result<(usize, Option<W>), W>
         ensures { Waits self.old None wanted waker result self.new }
     {
@@ -102,9 +103,9 @@ impl<W: Drop> State<W> {
         }
     }
 
-    /// Has one wait for so many permits: behind all others, or where it waits already, with what it
-    /// waits for there. If they are there, or there is no memory for its place, the waker comes back, and
-    /// is to be woken.
+    /// Under the semaphore's lock: has one wait for so many permits: behind all others, or where it waits
+    /// already, with what it waits for there. If they are there, or there is no memory for its place, the
+    /// waker comes back, and is to be woken.
     pub(crate) fn wait(
         &mut self,
         place: Option<usize>,
@@ -119,7 +120,7 @@ impl<W: Drop> State<W> {
         }
     }
 
-    /// Gives so many permits, of which the first one that waits has its share.
+    /// Under the semaphore's lock: gives so many permits, of which the first one that waits has its share.
     pub(crate) fn give(&mut self, more: usize) -> Given<W>
         ensures gives { GivesMore self.old more result self.new }
         ensures total { self.new.total ≡ self.old.total }
@@ -128,7 +129,7 @@ impl<W: Drop> State<W> {
         Given::to_first(&mut self.permits, &mut self.waiters, more)
     }
 
-    /// Counts so many permits more in all, if that many can be counted.
+    /// Under the semaphore's lock: counts so many permits more in all, if that many can be counted.
     pub(crate) fn count(&mut self, more: usize) -> bool
         ensures counted { result ≡ true → self.new.total ≡ self.old.total + more }
         ensures many { result ≡ false → usize.MAX < self.old.total + more }
@@ -145,7 +146,8 @@ impl<W: Drop> State<W> {
         }
     }
 
-    /// Has one wait for so many permits no longer. If it has them, they are given back.
+    /// Under the semaphore's lock: has one wait for so many permits no longer. If it has them, they are
+    /// given back.
     pub(crate) fn leave(&mut self, place: Option<usize>, wanted: usize) -> Gone<W>
         ensures { Goes self.old place wanted result self.new }
     {

@@ -58,7 +58,8 @@ impl<P: Drop, T: Copy> World<P, T> {
 }
 
 impl<P, T: Copy> Cells<P, T, ()> {
-    // Logs for each task whose future is not dropped that it is cancelled, or woken, by rising slot.
+    // Logs for a close, or a leak, that each task whose future is not dropped is cancelled, or woken, by
+    // rising slot.
     fn log_undropped(&self, cancels: bool, log: &mut Vec<Event<T>>)
         requires room { length log.old.items + self.now.next ≤ vec_capacity log.old }
         ensures log { log.new.items ≡ log.old.items ++ map (mark_event cancels) (rising (λ c. is_undropped c.state) self.now.cells) }
@@ -69,7 +70,7 @@ impl<P, T: Copy> Cells<P, T, ()> {
     }
 }
 
-// Logs the same, slot by slot.
+// Logs the same for a close, or a leak, slot by slot.
 fn log_each<P, T: Copy, W>(queues: &Queues<P, T, W>, cancels: bool, log: &mut Vec<Event<T>>)
     requires { length log.old.items + length (filter_map undropped_number queues.now.slots) ≤ vec_capacity log.old }
     ensures log { log.new.items ≡ log.old.items ++ map (mark_event cancels) (filter_map undropped_number queues.now.slots) }
@@ -82,7 +83,7 @@ fn log_each<P, T: Copy, W>(queues: &Queues<P, T, W>, cancels: bool, log: &mut Ve
     }
 }
 
-// The event of a task that is cancelled, or woken.
+// The event of a task that a close cancels, or a leak wakes.
 fn mark_event<T>(cancels: bool, number: u64) -> Event<T>
     ensures { result ≡ mark_event cancels number }
 {
@@ -93,7 +94,7 @@ fn mark_event<T>(cancels: bool, number: u64) -> Event<T>
     }
 }
 
-// The number of the task in this slot, if its future is not dropped.
+// What a close or a leak logs of this slot: the number of its task, if the future is not dropped.
 fn undropped_in<P, T, W>(queues: &Queues<P, T, W>, slot: usize) -> Option<u64>
     ensures { result ≡ undropped_number (slice_index_or queues.now.slots slot None) }
 {

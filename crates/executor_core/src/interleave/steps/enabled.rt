@@ -33,7 +33,7 @@ impl<P: Drop, T: Copy> World<P, T> {
         }
     }
 
-    // Whether the task's handle is there.
+    // Whether the steps of the task's handle are enabled: it is there.
     fn has_handle(&self, n: u64) -> bool
         ensures { result ≡ (info n self.now).has_handle }
     {
@@ -43,7 +43,7 @@ impl<P: Drop, T: Copy> World<P, T> {
         }
     }
 
-    // What is kept of the ticker.
+    // What is kept of the ticker, by which its steps are enabled.
     fn ticker(&self, k: usize) -> Ticker
         ensures { result ≡ ticker k self.now }
     {
@@ -51,21 +51,21 @@ impl<P: Drop, T: Copy> World<P, T> {
         ticker_at(&self.tickers, k)
     }
 
-    // Whether nobody holds the sleepers' lock.
+    // Whether a step may take the sleepers' lock: nobody holds it.
     fn is_free(&self) -> bool
         ensures { result ≡ not (is_some self.now.holder) }
     {
         self.holder.is_none()
     }
 
-    // Whether a sleeper may be notified.
+    // Whether the step that notifies a sleeper is enabled.
     fn may_notify(&self) -> bool
         ensures { result ≡ (nat_lt 0 self.now.picks && not (is_some self.now.holder)) }
     {
         self.picks > 0 && self.is_free()
     }
 
-    // Whether the ticker holds the sleepers' lock.
+    // Whether the step that stores the flag is enabled: the ticker holds the sleepers' lock.
     fn is_held_by(&self, k: usize) -> bool
         ensures { result ≡ holds k self.now.holder }
     {
@@ -75,7 +75,7 @@ impl<P: Drop, T: Copy> World<P, T> {
         }
     }
 
-    // Whether the ticker's runner is registered.
+    // Whether the ticker's runner is registered, on which its enabled steps depend.
     fn has_queue(&self, ticker: Ticker) -> bool
         ensures { result ≡ has_queue self.now.locals ticker }
     {
@@ -85,7 +85,7 @@ impl<P: Drop, T: Copy> World<P, T> {
         }
     }
 
-    // Whether the ticker is a run whose runner was not registered yet, at rest or forgotten.
+    // Whether the ticker is a run that may register its runner, or might have before it was forgotten.
     pub(crate) fn is_new_run(&self, ticker: Ticker) -> bool
         ensures { result ≡ is_new_run self.now.locals ticker }
     {
@@ -109,7 +109,7 @@ impl<P: Drop, T: Copy> World<P, T> {
         matches!(ticker.phase, Phase::Rest) && (!ticker.is_run() || self.has_queue(ticker))
     }
 
-    // Whether the ticker is at rest, and its runner is registered.
+    // Whether the run may take a fair part or unregister: it is at rest, and its runner is registered.
     fn rests_registered(&self, k: usize) -> bool
         ensures { result ≡ (at_rest (ticker k self.now).phase && has_queue self.now.locals (ticker k self.now)) }
     {
@@ -130,14 +130,14 @@ impl<P: Drop, T: Copy> World<P, T> {
         may_go && (ticker.is_awake() || self.is_free())
     }
 
-    // Whether the executor is closed.
+    // Whether the executor is closed: then a drain is enabled, and a spawn is not.
     fn is_closed(&self) -> bool
         ensures { result ≡ self.now.closed }
     {
         self.core.cells.is_closed()
     }
 
-    // Whether a task is held.
+    // Whether a task is held, so that no close or leak is enabled.
     fn some_held(&self) -> bool
         ensures { result ≡ some_held self.now }
     {

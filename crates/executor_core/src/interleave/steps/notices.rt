@@ -11,7 +11,7 @@ use crate::interleave::reply::{Reply, has_awaiter, reply_of_pick, reply_of_sleep
 use crate::sleepers::Sleepers;
 use crate::task::{Notice, Pick};
 
-// Counts one more if this holds.
+// Counts one more notice of the world if this holds.
 pub(crate) fn count_if(count: &mut u32, holds: bool)
     requires { count.old < u32.MAX }
     ensures { count.new ≡ cond holds (count.old + 1) count.old }
@@ -21,7 +21,7 @@ pub(crate) fn count_if(count: &mut u32, holds: bool)
     }
 }
 
-// Counts the notice, if there is one, and says whether there was.
+// Counts the notice among those of the world, if there is one, and says whether there was.
 pub(crate) fn keep_notice(notices: &mut u32, notice: Option<Notice>) -> bool
     requires { notices.old < u32.MAX }
     ensures counted { notices.new ≡ cond (is_some notice) (notices.old + 1) notices.old }
@@ -37,7 +37,7 @@ pub(crate) fn keep_notice(notices: &mut u32, notice: Option<Notice>) -> bool
     }
 }
 
-// Counts the pick, if there is one, and says whether there was.
+// Counts the pick among those of the world, if there is one, and says whether there was.
 fn keep_pick(picks: &mut u32, pick: Option<Pick>) -> bool
     requires { picks.old < u32.MAX }
     ensures counted { picks.new ≡ cond (is_some pick) (picks.old + 1) picks.old }
@@ -53,7 +53,7 @@ fn keep_pick(picks: &mut u32, pick: Option<Pick>) -> bool
     }
 }
 
-// The number of the one who went to sleep last.
+// For the step that notifies: the number of the one who went to sleep last.
 fn last_number<W>(sleepers: &Sleepers<W>) -> Option<usize>
     ensures number { result ≡ last_of (keys_of sleepers.now.unnotified) }
     ensures law { SleeperLaw sleepers.now }

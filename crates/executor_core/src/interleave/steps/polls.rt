@@ -16,7 +16,7 @@ use crate::interleave::steps::begin;
 use crate::interleave::steps::notices::keep_notice;
 use crate::task::{EndPending, Held, Taken};
 
-// Logs that the task was taken, and keeps its future as one that is out.
+// For a step that takes a task: logs the take, and keeps the task's future as one that is out.
 pub(crate) fn put_out<P: Drop, T: Copy>(
     entries: &mut Vec<TaskEntry<P>>,
     log: &mut Vec<Event<T>>,

@@ -92,7 +92,7 @@ impl<P: Drop, T: Copy> World<P, T> {
     }
 }
 
-// Takes the ring of this runner, if it is there.
+// Takes the ring of a run that has still to register this runner, if it is there.
 fn take_ring(rings: &mut Vec<Option<Ring>>, runner: u64) -> Option<Ring>
     ensures ring { result ≡ slice_index_or rings.old.items runner None }
     ensures rest { rings.new.items ≡ slice_set rings.old.items runner None }

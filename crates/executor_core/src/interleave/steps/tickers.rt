@@ -24,7 +24,7 @@ use crate::queue::RunnerKey;
 use crate::sleepers::{Removed, Update};
 use crate::task::{Change, Notice, Taken};
 
-// Takes a sleeper out, and says whether it was notified.
+// For a ticker's step: takes its number out of the sleepers, and says whether it was notified.
 fn remove_number<P, T>(core: &mut Core<P, T, ()>, number: usize) -> bool
     requires { core.old.sleepers.is_open ≡ false }
     ensures state { core.new ≡ record core.old { sleepers = after_remove core.old.sleepers number } }
@@ -42,7 +42,7 @@ fn remove_number<P, T>(core: &mut Core<P, T, ()>, number: usize) -> bool
     }
 }
 
-// The search of this ticker: a tick looks at the global queue, a run also at those of the runners.
+// The search in this ticker's step: a tick looks at the global queue, a run also at those of the runners.
 fn search_of<P, T>(
     core: &mut Core<P, T, ()>,
     ticker: Ticker,
@@ -58,7 +58,7 @@ fn search_of<P, T>(
     }
 }
 
-// Gives the runner's place back if the ticker is a new run.
+// For the step that drops a ticker: gives the runner's place back if it is a new run.
 fn release_place<P, T>(core: &mut Core<P, T, ()>, ticker: Ticker, is_new: bool)
     requires { is_new ≡ is_new_run core.old.cells.locals ticker }
     ensures { core.new ≡ record core.old { cells = record core.old.cells { free_places = cond is_new (core.old.cells.free_places - 1) core.old.cells.free_places } } }
