@@ -3,8 +3,8 @@ use crate::tests::support::running::record::{Moment, Record};
 use crate::tests::support::running::waker::TestWaker;
 use async_executor::executor::{Cancelled, Executor, Task};
 use async_utilities::{
-    Change, Either, JoinAll, Map, Never, Or, Ready, Signal, Waiting, YieldNow, Zip, block_on,
-    run_until,
+    Change, Either, JoinAll, Map, Never, Or, Ready, Signal, ThreadWaker, Waiting, YieldNow, Zip,
+    block_on, run_until,
 };
 use executor_core::task::{Future, Poll, Wake};
 use std::alloc::Global;
@@ -157,10 +157,16 @@ fn joined<R: AllocGlobal + Wait + Clone + Drop + Send + Sync>(
     let Ok(all) = JoinAll::new(rt.alloc(), tasks) else {
         return Err("no memory for the outputs".into());
     };
-    match executor.run(all) {
-        Ok(run) => Ok(block_on(rt, rt.alloc(), run)?),
-        Err(_) => Err("no memory for a run".into()),
+    let Ok(mut run) = executor.run(all) else {
+        return Err("no memory for a run".into());
+    };
+    let waker = ThreadWaker::new(rt.alloc())?;
+    for _ in 0..10 {
+        if let Poll::Ready(outputs) = run.poll(&waker) {
+            return Ok(outputs);
+        }
     }
+    Err("it is not ready".into())
 }
 
 #[test]
