@@ -126,8 +126,8 @@ impl<T: Drop, S: Wake, V: Wake, R: Wait + Drop> Channel<T, S, V, R> {
         Poll::Ready(message)
     }
 
-    // The drop of a `Receive`: has the receiver wait no longer, and the next one be told of a message that
-    // it does not take.
+    // The receiving half of a `Channel`: a `Receive` that is dropped waits no longer, and the next one is told
+    // of a message that it does not take.
     fn leave_receivers(&self, place: Option<usize>) {
         if place.is_some() {
             let left = self.state().leave_receivers(place);

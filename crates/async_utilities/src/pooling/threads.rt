@@ -88,7 +88,7 @@ struct Started {
 }
 
 impl Started {
-    // The threads of a `PoolOf` before the first one starts: none.
+    // The threads of a `PoolOf`, of which there is none yet.
     fn new(alloc: Global) -> Started
         ensures { vec_len result.threads ≡ 0 }
     {
