@@ -42,6 +42,33 @@ runs() {
         cat "$copy/log"
 }
 
+# Makes a command rt whose `lib` proves nothing, and ends with this status. It keeps where that was called.
+make_rt() {
+    cat > "$copy/rt" <<END
+#!/bin/sh
+[ "\$1" = lib ] || exec "$(command -v "$rt")" "\$@"
+pwd > "$copy/place"
+echo 'no proof'
+exit $1
+END
+    chmod +x "$copy/rt"
+}
+
+# Whether it has the crates proved where they stand, and lays out a program over them.
+proves() {
+    make_rt 0
+    RT=$copy/rt "$top/new_program" proved && is_copy starter proved/crates/proved &&
+        [ "$(cat "$copy/place")" = "$top/crates/async_utilities" ]
+}
+
+# Whether it lays out nothing if they are not proved.
+leaves_unproved() {
+    make_rt 1
+    RT=$copy/rt "$top/new_program" unproved 2> "$copy/why"
+    [ $? = 1 ] && [ ! -e unproved ] &&
+        grep -qxF 'new_program: the crates are not proved: no proof' "$copy/why"
+}
+
 mkdir bare empty-one full
 touch full/file
 ln -s nowhere link
@@ -59,6 +86,8 @@ compare 'what is not committed' cmp "$top/.gitignore" app/.gitignore
 compare 'an empty folder, whose name the program has' lays_out empty-one
 compare 'the program of that name' is_copy starter empty-one/crates/empty_one
 compare 'the program runs' runs
+compare 'the crates are proved first' proves
+compare 'crates that are not proved' leaves_unproved
 
 compare 'no folder' refuses 'name a folder'
 compare 'a folder without a name' refuses 'has no name' ''
