@@ -48,7 +48,6 @@ make_rt() {
 #!/bin/sh
 [ "\$1" = lib ] || exec "$(command -v "$rt")" "\$@"
 pwd > "$copy/place"
-echo 'no proof'
 exit $1
 END
     chmod +x "$copy/rt"
@@ -66,7 +65,8 @@ leaves_unproved() {
     make_rt 1
     RT=$copy/rt "$top/new_program" unproved 2> "$copy/why"
     [ $? = 1 ] && [ ! -e unproved ] &&
-        grep -qxF 'new_program: the crates are not proved: no proof' "$copy/why"
+        grep -qxF "new_program: the crates are not proved: 'rt lib' in $top/crates/async_utilities says why" \
+            "$copy/why"
 }
 
 mkdir bare empty-one full

@@ -85,7 +85,7 @@ impl<P: Drop, T: Copy> World<P, T> {
         }
     }
 
-    // Whether the ticker is a run that may register its runner, or might have before it was forgotten.
+    // Whether the ticker is a run whose runner was not registered yet, at rest or forgotten.
     pub(crate) fn is_new_run(&self, ticker: Ticker) -> bool
         ensures { result ≡ is_new_run self.now.locals ticker }
     {
