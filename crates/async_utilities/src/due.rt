@@ -28,6 +28,7 @@ pub(crate) struct Left<W> {
 
 impl<W: Wake> Left<W> {
     /// Drops the waker that is left, and wakes the one that is due.
+    #[inline(always)]
     pub(crate) fn end(self) {
         let Left { waker, due } = self;
         drop(waker);

@@ -152,6 +152,7 @@ impl<W: Drop> WaitQueue<W> {
     /// Has one wait in the wait queue at its place with this waker, and gives what is not kept. If it
     /// waited already, its turn stays, and the earlier waker comes out. Otherwise it stands behind all
     /// others. If the place is not taken, nothing changes, and the waker comes back.
+    #[inline(always)]
     pub(crate) fn wait(&mut self, place: usize, waker: W) -> Option<W>
         ensures { WaitsAt self.old place waker result self.new }
     {
@@ -173,6 +174,7 @@ impl<W: Drop> WaitQueue<W> {
     }
 
     /// Takes the waker of the first one that waits, which is notified from then on.
+    #[inline(always)]
     pub(crate) fn first(&mut self) -> Due<W>
         ensures first { result ≡ first_due self.old }
         ensures steps { Steps self.old self.new self.old.waiting }
@@ -203,6 +205,7 @@ impl<W: Drop> WaitQueue<W> {
     }
 
     /// Gives a place of the wait queue back, with the waker of one that waited there.
+    #[inline(always)]
     pub(crate) fn leave(&mut self, place: usize) -> Option<W>
         ensures waker { result ≡ waker_of (place_at self.old place) }
         ensures leaves { Moves self.old self.new place None (without place self.old.waiting) }
@@ -248,6 +251,7 @@ impl<W: Drop> WaitQueue<W> {
 
     /// Has one wait in the wait queue with this waker, at its place if it has one, else at a new one. Gives
     /// the place, and an earlier waker. If there is no memory for a place, the waker comes back.
+    #[inline(always)]
     pub(crate) fn enter(&mut self, place: Option<usize>, waker: W) -> Result<(usize, Option<W>), W>
         ensures waits { IfOk result (λ kept. Enters self.old place waker kept self.new) }
         ensures refused { IfErr result (λ back. (place ≡ None) × (back ≡ waker)) }
@@ -266,6 +270,7 @@ impl<W: Drop> WaitQueue<W> {
 
     /// Gives a place of the wait queue back, if there is one. If it was notified of what it did not take,
     /// of which so much is there, the next one is due.
+    #[inline(always)]
     pub(crate) fn pass(&mut self, place: Option<usize>, there: usize) -> Left<W>
         ensures leaves { Leaves self.old place there (result.waker, result.due) self.new }
         ensures served { IsServed there self.old → IsServed there self.new }
@@ -285,6 +290,7 @@ impl<W: Drop> WaitQueue<W> {
 
 /// Notes where one waits from now on, and drops the waker that it left there before. If it could not
 /// wait, its waker is woken.
+#[inline(always)]
 pub(crate) fn keep<W: Wake>(place: &mut Option<usize>, kept: Result<(usize, Option<W>), W>)
     ensures kept { IfOk kept (λ at. place.new ≡ Some at.0) }
     ensures refused { OnErr kept (place.new ≡ place.old) }

@@ -98,6 +98,7 @@ impl<T: Drop, S: Drop, V: Drop> State<T, S, V> {
 
     /// Under the channel's lock: puts a message at the end, and has the first receiver that waits be woken.
     /// Else the message comes back, and nothing changes.
+    #[inline(always)]
     pub(crate) fn send(&mut self, message: T) -> Sent<T, V>
         ensures { Sends self.old message result self.new }
     {
@@ -115,6 +116,7 @@ impl<T: Drop, S: Drop, V: Drop> State<T, S, V> {
 
     /// Under the channel's lock: takes the first message, if there is one, and has the first sender that
     /// waits be woken.
+    #[inline(always)]
     pub(crate) fn receive(&mut self) -> Received<T, S>
         ensures { Receives self.old result self.new }
     {
@@ -175,6 +177,7 @@ impl<T: Drop, S: Drop, V: Drop> State<T, S, V> {
 
     /// Under the channel's lock: has a sender wait for room. If there is some, or the channel is closed, or
     /// there is no memory for its place, the waker comes back, and is to be woken.
+    #[inline(always)]
     pub(crate) fn wait_to_send(
         &mut self,
         place: Option<usize>,
@@ -190,6 +193,7 @@ impl<T: Drop, S: Drop, V: Drop> State<T, S, V> {
 
     /// Under the channel's lock: has a receiver wait for a message. If there is one, or the channel is
     /// closed, or there is no memory for its place, the waker comes back, and is to be woken.
+    #[inline(always)]
     pub(crate) fn wait_to_receive(
         &mut self,
         place: Option<usize>,
@@ -205,6 +209,7 @@ impl<T: Drop, S: Drop, V: Drop> State<T, S, V> {
 
     /// Under the channel's lock: has a sender wait no longer. If it was told of room that it did not use,
     /// the next one is.
+    #[inline(always)]
     pub(crate) fn leave_senders(&mut self, place: Option<usize>) -> Left<S>
         ensures { LeavesSenders self.old place result self.new }
     {
@@ -214,6 +219,7 @@ impl<T: Drop, S: Drop, V: Drop> State<T, S, V> {
 
     /// Under the channel's lock: has a receiver wait no longer. If it was told of a message that it did not
     /// take, the next one is.
+    #[inline(always)]
     pub(crate) fn leave_receivers(&mut self, place: Option<usize>) -> Left<V>
         ensures { LeavesReceivers self.old place result self.new }
     {

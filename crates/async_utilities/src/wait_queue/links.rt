@@ -24,7 +24,9 @@ struct Chain {
 }
 
 impl Chain {
-    // Makes room for the links of this key and each below it.
+    // Makes room for the links of this key and each below it. The room doubles at least, so that few keys
+    // take memory.
+    #[inline(always)]
     fn grow(&mut self, key: usize) -> Result<(), AllocError>
         ensures room { OnOk result (key < vec_len self.new.links) }
         ensures succeeds { key < vec_len self.old.links → IsOk result }
@@ -42,9 +44,11 @@ impl Chain {
             previous: END,
             next: END,
         };
-        self.links.resize(key + 1, link)
+        let twice = self.links.len().saturating_mul(2);
+        self.links.resize(twice.max(key + 1), link)
     }
 
+    #[inline(always)]
     fn set_next(&mut self, at: usize, to: usize)
         requires { IsLink self.old at }
         ensures here { next_of self.new at ≡ to }
@@ -59,6 +63,7 @@ impl Chain {
         }
     }
 
+    #[inline(always)]
     fn set_previous(&mut self, at: usize, to: usize)
         requires { IsLink self.old at }
         ensures here { previous_of self.new at ≡ to }
@@ -74,6 +79,7 @@ impl Chain {
     }
 
     // Links the key behind the last one.
+    #[inline(always)]
     fn insert(&mut self, key: usize)
         requires key_in { key < vec_len self.old.links }
         requires last_in { IsLink self.old self.old.last }
@@ -89,6 +95,7 @@ impl Chain {
     }
 
     // Joins the two neighbours of the key.
+    #[inline(always)]
     fn skip(&mut self, key: usize)
         requires key_in { key < vec_len self.old.links }
         requires previous_in { IsLink self.old (previous_of self.old key) }
@@ -137,6 +144,7 @@ impl Links {
     }
 
     /// Makes room for the links of this key and each below it.
+    #[inline(always)]
     pub(crate) fn reserve(&mut self, key: usize) -> Result<(), AllocError>
         ensures room { OnOk result (key < self.new.limit) }
         ensures succeeds { key < self.old.limit → IsOk result }
@@ -165,6 +173,7 @@ impl Links {
     }
 
     /// Links a key behind the last one.
+    #[inline(always)]
     pub(crate) fn push(&mut self, key: usize)
         requires room { key < self.old.limit }
         requires absent { ¬ IsIn key self.old.keys }
@@ -175,6 +184,7 @@ impl Links {
     }
 
     /// Takes a key out, wherever it stands.
+    #[inline(always)]
     pub(crate) fn remove(&mut self, key: usize)
         requires { IsIn key self.old.keys }
         ensures { self.new ≡ record self.old { keys = without key self.old.keys } }
