@@ -4,7 +4,7 @@ use crate::tests::support::running::future::Until;
 use crate::tests::support::running::record::{Moment, Record};
 use crate::tests::support::running::refusal::{MOST, ShortText, is_next_refused, is_order_left, refuse, text_of};
 use crate::tests::support::running::waker::TestWaker;
-use async_executor::runner::Words;
+use async_executor::runner::RandomGenerator;
 use async_executor::{
     Executor, LocalExecutor, RunError, RunnerError, SpawnError, StaticExecutor, StaticLocalExecutor,
 };
@@ -639,7 +639,7 @@ const COUNTS: &str = "global_tasks: 0, local_runners: [82, 82, 82], sleepers: 0 
 // number 103 it would steal from the third.
 #[test]
 fn a_hundred_refused_runs_leave_no_place_and_no_number_behind(rt: HostRuntime) -> Result<(), Fail> {
-    let walks = (Words::new(3).next() % 4, Words::new(103).next() % 4);
+    let walks = (RandomGenerator::new(3).next() % 4, RandomGenerator::new(103).next() % 4);
     assert_eq!(rt; walks, (1, 2));
     for (refused, is_same, text, victim) in after_refused_runs(&rt)? {
         assert_eq!(rt; (refused, is_same, victim), (100, true, 2));

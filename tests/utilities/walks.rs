@@ -16,7 +16,7 @@ mod semaphores;
 mod signals;
 mod timers;
 
-use async_executor::runner::Words;
+use async_executor::runner::RandomGenerator;
 use async_utilities::bounded;
 use barriers::BarrierWalk;
 use cells::CellWalk;
@@ -58,7 +58,7 @@ const INTERVALS: u64 = 88;
 /// What a walk goes by.
 #[derive(Drop)]
 pub struct Dice {
-    words: Words,
+    words: RandomGenerator,
 }
 
 impl Dice {
@@ -192,7 +192,7 @@ fn walk<R: AllocGlobal + Wait + Clone + Drop>(
     rt: &R,
     seed: u64,
 ) -> Result<Option<(u64, &'static str)>, Fail> {
-    let words = Words::new(seed);
+    let words = RandomGenerator::new(seed);
     let mut dice = Dice { words };
     let wakers = Wakers::new(rt.alloc())?;
     let capacity = 1 + dice.below(3) as usize;

@@ -148,15 +148,12 @@ where
 fn shard_of(number: u64, shards: usize) -> usize
     requires { 0 < shards }
     ensures inside { result < shards }
-    ensures first { number / shards < 16 → result ≡ number % shards }
-    ensures later { 16 ≤ number / shards → result ≡ number / 16 % shards }
+    ensures first { number / 16 < shards → result ≡ number % shards }
+    ensures later { shards ≤ number / 16 → result ≡ number / 16 % shards }
 {
     let shards = shards as u64;
-    let turn = if number / shards < IN_A_ROW {
-        number
-    } else {
-        number / IN_A_ROW
-    };
+    let row = number / IN_A_ROW;
+    let turn = if row < shards { number } else { row };
     (turn % shards) as usize
 }
 

@@ -6,7 +6,7 @@ ghost use Rattle.sharded_executor.specs.Order.{IsServed};
 
 use crate::members::Members;
 use crate::progress::Count;
-use async_executor::runner::Words;
+use async_executor::runner::RandomGenerator;
 use async_executor::{Executor, Future, Poll, RunError, RunnerError, TaskWaker, Wake};
 use std::alloc::Global;
 use std::sync::Wait;
@@ -59,7 +59,7 @@ where
 {
     own: G,
     members: Members<'a, F, W, R>,
-    words: Words,
+    random: RandomGenerator,
     turns: u32,
     // The place of a shard that it looks at next, and how many turns the runs there had had.
     watched: usize,
@@ -94,7 +94,7 @@ where
                 going: Some(Going {
                     own,
                     members,
-                    words: Words::new(number as u64),
+                    random: RandomGenerator::new(number as u64),
                     turns: 0,
                     watched: 0,
                     had: 0,
@@ -133,14 +133,19 @@ where
         }
     }
 
-    // Serves the shards, and wakes the waker if it does not sleep.
-    fn serve_or_wake(&mut self, w: &W)
-        ensures { IsServed (λ s. s.inner.number) self.new.is_asleep self.new.members.sleepers.items self.new.members.answers.items }
+    // Polls the own future, and unless that is ready serves the shards, and wakes the waker if it does not
+    // sleep.
+    fn poll(&mut self, w: &W) -> Poll<G::Output>
+        ensures { is_ready result ≡ false → IsServed (λ s. s.inner.number) self.new.is_asleep self.new.members.sleepers.items self.new.members.answers.items }
     {
+        if let Poll::Ready(output) = self.own.poll(w) {
+            return Poll::Ready(output);
+        }
         self.serve(w);
         if !self.is_asleep {
             w.wake();
         }
+        Poll::Pending
     }
 
     // The place of a shard at random, other than the own one if there is another.
@@ -153,7 +158,7 @@ where
         if others == 0 {
             return 1;
         }
-        1 + (self.words.next() % others as u64) as usize
+        1 + (self.random.next() % others as u64) as usize
     }
 
     // Looks at another shard after so many turns of the own one, and takes a task there if nobody had a turn
@@ -201,15 +206,16 @@ where
         ensures again { self.old.going ≡ None → (self.new.going ≡ None) × (is_ready result ≡ false) }
         ensures served { is_ready result ≡ false → IfSome self.new.going (λ g. IsServed (λ s. s.inner.number) g.is_asleep g.members.sleepers.items g.members.answers.items) }
     {
-        let Some(mut going) = self.going.take() else {
-            w.wake();
-            return Poll::Pending;
+        let polled = match &mut self.going {
+            Some(going) => going.poll(w),
+            None => {
+                w.wake();
+                return Poll::Pending;
+            }
         };
-        if let Poll::Ready(output) = going.own.poll(w) {
-            return Poll::Ready(output);
+        if matches!(&polled, Poll::Ready(_)) {
+            self.going = None;
         }
-        going.serve_or_wake(w);
-        self.going = Some(going);
-        Poll::Pending
+        polled
     }
 }

@@ -1,5 +1,5 @@
 //! Lists of steps of a world, each from a seed.
-use async_executor::runner::Words;
+use async_executor::runner::RandomGenerator;
 use executor_core::interleave::Step;
 use std::alloc::{AllocError, Global};
 
@@ -50,7 +50,7 @@ pub fn kind_of(step: &ListStep) -> usize {
 // tick, whether it has wound up, and whether it is closed.
 #[derive(Drop)]
 struct Choice {
-    words: Words,
+    words: RandomGenerator,
     tasks: u64,
     tickers: u64,
     has_ticks: bool,
@@ -63,7 +63,7 @@ struct Choice {
 /// winds up and is leaked.
 pub fn list(seed: u64, alloc: Global) -> Result<Vec<ListStep>, AllocError> {
     let mut choice = Choice {
-        words: Words::new(seed),
+        words: RandomGenerator::new(seed),
         tasks: 0,
         tickers: 0,
         has_ticks: seed % 2 == 0,

@@ -1,7 +1,7 @@
 //! Futures of random programs, and what becomes of each.
 use super::waker::TestWaker;
 use async_executor::TaskWaker;
-use async_executor::runner::Words;
+use async_executor::runner::RandomGenerator;
 use executor_core::task::{Future, Poll, Wake};
 use std::alloc::{AllocError, Global};
 use std::sync::atomic::{AtomicBool, AtomicU64, Ordering};
@@ -89,7 +89,7 @@ pub struct Living<R: Wait + Clone + Drop + Send + Sync> {
     life: Arc<Life<R>>,
     other: Arc<Life<R>>,
     output: Option<Given<R>>,
-    words: Words,
+    words: RandomGenerator,
 }
 
 impl<R: Wait + Clone + Drop + Send + Sync> Living<R> {
@@ -108,7 +108,7 @@ impl<R: Wait + Clone + Drop + Send + Sync> Living<R> {
                 task,
                 life: Arc::try_clone(life)?,
             }),
-            words: Words::new(word),
+            words: RandomGenerator::new(word),
         })
     }
 

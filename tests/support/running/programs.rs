@@ -1,5 +1,5 @@
 //! Random programs: what each thread asks of one executor.
-use async_executor::runner::Words;
+use async_executor::runner::RandomGenerator;
 use std::alloc::{AllocError, Global};
 
 /// So many handles are kept where all threads find them.
@@ -55,7 +55,7 @@ pub struct Program {
 impl Program {
     /// That of this seed, for four threads.
     pub fn new(seed: u64, alloc: Global) -> Result<Program, AllocError> {
-        let mut words = Words::new(seed);
+        let mut words = RandomGenerator::new(seed);
         let leaks = words.next() % 4 == 0;
         let mut tasks = 0;
         let first = half(&mut words, &mut tasks, alloc)?;
@@ -96,7 +96,7 @@ impl Program {
     }
 }
 
-fn half(words: &mut Words, tasks: &mut usize, alloc: Global) -> Result<Vec<Vec<Call>>, AllocError> {
+fn half(words: &mut RandomGenerator, tasks: &mut usize, alloc: Global) -> Result<Vec<Vec<Call>>, AllocError> {
     let mut threads = Vec::new(alloc);
     for _ in 0..THREADS {
         let mut calls = Vec::with_capacity(alloc, CALLS)?;
@@ -108,7 +108,7 @@ fn half(words: &mut Words, tasks: &mut usize, alloc: Global) -> Result<Vec<Vec<C
     Ok(threads)
 }
 
-fn call(words: &mut Words, tasks: &mut usize) -> Call {
+fn call(words: &mut RandomGenerator, tasks: &mut usize) -> Call {
     let (kind, word) = (words.next() % 32, words.next());
     let place = words.next() as usize % PLACES;
     let task = words.next() as usize % tasks.saturating_add(1);

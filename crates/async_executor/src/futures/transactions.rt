@@ -11,7 +11,7 @@ use crate::deferred::{Deferred, EndThenSearch, finished};
 use crate::futures::storage::{OutIn, OutputIn, Shareable, Storage, futures};
 use crate::futures::{FutureTable, Out};
 use crate::machine::Search;
-use crate::runner::words::Words;
+use crate::runner::random_generator::RandomGenerator;
 use crate::state::{ExecutorState, cells};
 use crate::waker::{LentWake, TaskWaker};
 use executor_core::task::{
@@ -88,7 +88,7 @@ pub(crate) fn end_then_search<'a, S: Storage>(
     ran: Ran<(), OutputIn<S>>,
     out: &mut OutIn<S>,
     search: &Search,
-    words: &mut Words,
+    random: &mut RandomGenerator,
 ) -> EndThenSearch<S::Waker, OutputIn<S>>
     requires { IsHeldRight ran }
     ensures { IsEndRight result }
@@ -97,7 +97,7 @@ pub(crate) fn end_then_search<'a, S: Storage>(
     let cells = cells!(state);
     futures
         .get()
-        .end_then_search(cells, id, ran, out, search, words)
+        .end_then_search(cells, id, ran, out, search, random)
 }
 
 // Whether no queue has a task, so that the search of `end_then_search` is in vain.
@@ -224,7 +224,7 @@ impl<F: Drop, W: Drop, R: Drop, T: Drop> FutureTable<F, Arc<ExecutorState<W, R>>
         ran: Ran<(), T>,
         out: &mut Out<F, W, R>,
         search: &Search,
-        words: &mut Words,
+        random: &mut RandomGenerator,
     ) -> EndThenSearch<W, T>
         requires { IsHeldRight ran }
         ensures { IsEndRight result }
@@ -248,7 +248,7 @@ impl<F: Drop, W: Drop, R: Drop, T: Drop> FutureTable<F, Arc<ExecutorState<W, R>>
             Err(deferred) => return EndThenSearch::Unfinished(deferred),
         };
         // After the end, which may have queued this very task: no search before it would find that.
-        let found = search.make(&mut cells, words.next(), None);
+        let found = search.make(&mut cells, random.next(), None);
         if let Some(next) = &found {
             // The last one is not out any more. Before the table is given up, which waits for what was
             // asked of memory: its cell and its place come from there together.

@@ -22,7 +22,7 @@ use crate::machine::{
     Begun, Dropped, GoingToSleep, NextTask, NotRegistered, OwnPolled, PollingOwn, Registering,
     RunMachine, RunRest, Runner, Running, Search, Searching, Started, TurnOver, Unregistering,
 };
-use crate::runner::words::Words;
+use crate::runner::random_generator::RandomGenerator;
 use crate::scheduler::{ExecutorIn, poll_taken};
 use crate::sleeping::{Slept, announce_found, leave, sleep};
 use crate::state::{ExecutorState, announce, cells};
@@ -88,12 +88,12 @@ pub struct RunIn<'a, S: Storage, G: Future<S::Waker>> {
 }
 
 // The future beside which a run runs tasks, until it has ended; the queue of its runner, until that
-// is registered; and the words of its searches.
+// is registered; and the random numbers of its searches.
 #[derive(Drop)]
 struct Own<G> {
     future: Option<G>,
     ring: Option<Ring>,
-    words: Words,
+    random: RandomGenerator,
     ghost empty: { ids_in ring ≡ [] },
 }
 
@@ -143,7 +143,7 @@ impl<'a, S: Storage, G: Future<S::Waker>> RunIn<'a, S, G> {
         let own = Own {
             future: Some(future),
             ring: Some(ring),
-            words: Words::new(key.number()),
+            random: RandomGenerator::new(key.number()),
         };
         RunIn {
             executor,
@@ -171,7 +171,7 @@ impl<'x, 'y, S: Storage, G: Drop> Driver<'x, 'y, S, G> {
     fn search(&mut self, again: Option<Again>) -> Option<NextTask> {
         let own = &mut *self.own;
         // The table's lock alone: that of the futures is taken once there is a task.
-        let word = own.words.next();
+        let word = own.random.next();
         let found = self.search.make(&mut *cells!(self.state), word, again);
         if let Some(next) = &found {
             // Nobody else takes the future of a task that was taken, and no other one is out.
@@ -221,7 +221,7 @@ impl<'x, 'y, S: Storage, G: Drop> Driver<'x, 'y, S, G> {
         requires { IsHeldRight ran }
     {
         let own = &mut *self.own;
-        let (storage, out, words) = (self.executor.storage(), &mut self.out, &mut own.words);
+        let (storage, out, random) = (self.executor.storage(), &mut self.out, &mut own.random);
         match transactions::end_then_search(
             storage,
             self.state,
@@ -229,7 +229,7 @@ impl<'x, 'y, S: Storage, G: Drop> Driver<'x, 'y, S, G> {
             ran,
             out,
             &self.search,
-            words,
+            random,
         ) {
             EndThenSearch::Searched(None, found) => found,
             EndThenSearch::Searched(Some(notice), found) => {

@@ -12,8 +12,8 @@ use crate::futures::storage::Storage;
 use crate::machine::{
     Begun, Dropped, RunMachine, RunRest, Runner, Search, Searching, Unregistering,
 };
+use crate::runner::random_generator::RandomGenerator;
 use crate::runner::run::{Driver, Own, register};
-use crate::runner::words::Words;
 use crate::scheduler::ExecutorIn;
 use crate::sleeping::{announce_found, leave};
 use crate::state::announce;
@@ -60,7 +60,7 @@ impl<'a, S: Storage> WorkerIn<'a, S> {
         let own = Own {
             future: None,
             ring: Some(ring),
-            words: Words::new(key.number()),
+            random: RandomGenerator::new(key.number()),
         };
         WorkerIn {
             executor,

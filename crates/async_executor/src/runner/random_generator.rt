@@ -7,24 +7,23 @@ use rand_xoshiro::Xoshiro256PlusPlus;
 use rand_xoshiro::rand_core::SeedableRng;
 use rand_xoshiro::rand_core::utils::NextWord;
 
-/// The words of `Xoshiro256PlusPlus`, started from a number. They serve to spread the runners, and
-/// are not secret.
+/// A generator of random words, a `Xoshiro256PlusPlus`. They spread the runners, and are not secret.
 #[derive(Drop)]
-pub struct Words {
+pub struct RandomGenerator {
     generator: Xoshiro256PlusPlus,
 }
 
-impl Words {
-    /// The words from `seed_from_u64` of this number on.
-    pub fn new(number: u64) -> Words
+impl RandomGenerator {
+    /// The `RandomGenerator` that `seed_from_u64` gives for this number.
+    pub fn new(number: u64) -> RandomGenerator
         ensures { result.generator ≡ of_seed (splitmix_seed 32 number) }
     {
-        Words {
+        RandomGenerator {
             generator: Xoshiro256PlusPlus::seed_from_u64(number),
         }
     }
 
-    /// The next word.
+    /// The next word of this `RandomGenerator`.
     #[inline(always)]
     pub fn next(&mut self) -> u64
         ensures { (result, self.new.generator) ≡ plus_plus self.old.generator }
