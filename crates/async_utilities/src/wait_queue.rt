@@ -7,6 +7,8 @@
 //!
 //! Each call is of constant time, whatever waits beside it. The places of those who wait are linked
 //! (`links`), so one in the middle goes as easily as the first. `join` and `reserve` alone take memory.
+//! The steps are inlined: as calls, whose answers go through memory, they cost a message to another task and
+//! back a third more.
 //!
 //! A thing that is waited for has the queue under its lock, beside what it counts. After each change it
 //! calls `notify` with how much there is to come for, and so keeps this law (`IsServed`): if somebody
