@@ -7,7 +7,7 @@ use rand_xoshiro::Xoshiro256PlusPlus;
 use rand_xoshiro::rand_core::SeedableRng;
 use rand_xoshiro::rand_core::utils::NextWord;
 
-/// A generator of random words, a `Xoshiro256PlusPlus`. They spread the runners, and are not secret.
+/// A generator of random words, a `Xoshiro256PlusPlus`. Its words spread the runners, and are not secret.
 #[derive(Drop)]
 pub struct RandomGenerator {
     generator: Xoshiro256PlusPlus,
