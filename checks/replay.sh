@@ -25,7 +25,7 @@ set -eu
 . "$(dirname "$0")/lib/edits"
 . "$top/checks/lib/builds"
 recorder=$top/checks/recorder
-fixed=11
+fixed=12
 alone=10
 at_once=4
 storms=${1:-60}

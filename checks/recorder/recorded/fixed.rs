@@ -36,11 +36,14 @@ pub enum Fixed {
     /// A task is spawned while a tick sleeps, and the first thread halts before its exchange. Another one
     /// takes the task, and so wins the exchange.
     TakeBesideSpawn,
+    /// A task is spawned while a tick sleeps, and the first thread halts behind its exchange. Another one
+    /// drops the tick, so nobody is left to be notified.
+    DropBesideSpawn,
 }
 
 impl Fixed {
     /// All of them.
-    pub const ALL: [Fixed; 11] = [
+    pub const ALL: [Fixed; 12] = [
         Fixed::WakeBesideSpawn,
         Fixed::CancelBesideSpawn,
         Fixed::TwoExchanges,
@@ -52,6 +55,7 @@ impl Fixed {
         Fixed::Refused,
         Fixed::LeakOfNone,
         Fixed::TakeBesideSpawn,
+        Fixed::DropBesideSpawn,
     ];
 
     /// Whether it has as many steps as all others together.
@@ -85,5 +89,6 @@ pub fn take<R: AllocGlobal + Wait + Threads + Clone + Drop + Send + Sync>(
         Fixed::Refused => alone::refused(rt),
         Fixed::LeakOfNone => alone::leak_of_none(rt),
         Fixed::TakeBesideSpawn => beside::take_beside_spawn(rt),
+        Fixed::DropBesideSpawn => beside::drop_beside_spawn(rt),
     }
 }

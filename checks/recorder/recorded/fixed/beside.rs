@@ -164,6 +164,23 @@ pub fn take_beside_spawn<R: AllocGlobal + Wait + Threads + Clone + Drop + Send +
     Ok(())
 }
 
+/// `Fixed::DropBesideSpawn`.
+pub fn drop_beside_spawn<R: AllocGlobal + Wait + Threads + Clone + Drop + Send + Sync>(
+    rt: &R,
+) -> Result<(), Fail> {
+    let (ex, place, waker) = parts!(rt);
+    let mut tick = ex.tick()?;
+    drop(tick.poll(&waker));
+    beside(
+        rt,
+        Word::Exchange,
+        || spawn!(ex, 7, &place),
+        || drop(tick),
+    );
+    while ex.try_tick() {}
+    Ok(())
+}
+
 /// `Fixed::Steal`.
 pub fn steal<R: AllocGlobal + Wait + Threads + Clone + Drop + Send + Sync>(rt: &R) -> Result<(), Fail> {
     let (ex, place, waker) = parts!(rt);
