@@ -65,16 +65,20 @@ where
     R: Wait + Clone + Drop,
     G: Future<W>,
 {
-    // Runs the tasks of a turn, of any level, and goes to sleep if there are fewer. If it does not sleep, it
-    // wakes the waker.
-    fn serve(&mut self, w: &W)
-        ensures asleep { self.new.is_asleep ≡ true → All (λ s. is_some s.inner.number ≡ true) self.new.sleepers.levels.items }
-        ensures awake { self.new.is_asleep ≡ false → All (λ s. s.inner.number ≡ None) self.new.sleepers.levels.items }
+    // Polls the own future, and unless that is ready runs the tasks of a turn, of any level, and goes to sleep if
+    // there are fewer. If it does not sleep, it wakes the waker.
+    fn poll(&mut self, w: &W) -> Poll<G::Output>
+        ensures asleep { is_ready result ≡ false → self.new.is_asleep ≡ true → All (λ s. is_some s.inner.number ≡ true) self.new.sleepers.levels.items }
+        ensures awake { is_ready result ≡ false → self.new.is_asleep ≡ false → All (λ s. s.inner.number ≡ None) self.new.sleepers.levels.items }
     {
+        if let Poll::Ready(output) = self.own.poll(w) {
+            return Poll::Ready(output);
+        }
         self.is_asleep = !self.ran_a_turn() && self.sleepers.sleep(w);
         if !self.is_asleep {
             w.wake();
         }
+        Poll::Pending
     }
 
     // Runs tasks, and says whether there were as many as a turn has. Then it is awake in each level.
@@ -114,15 +118,16 @@ where
         ensures asleep { IfSome self.new.going (λ g. g.is_asleep ≡ true → All (λ s. is_some s.inner.number ≡ true) g.sleepers.levels.items) }
         ensures awake { IfSome self.new.going (λ g. g.is_asleep ≡ false → All (λ s. s.inner.number ≡ None) g.sleepers.levels.items) }
     {
-        let Some(mut going) = self.going.take() else {
-            w.wake();
-            return Poll::Pending;
+        let polled = match &mut self.going {
+            Some(going) => going.poll(w),
+            None => {
+                w.wake();
+                return Poll::Pending;
+            }
         };
-        if let Poll::Ready(output) = going.own.poll(w) {
-            return Poll::Ready(output);
+        if matches!(&polled, Poll::Ready(_)) {
+            self.going = None;
         }
-        going.serve(w);
-        self.going = Some(going);
-        Poll::Pending
+        polled
     }
 }
