@@ -3,7 +3,8 @@
 The first guard of a function changes the function itself. Each further one changes a copy of it,
 which stands below it and has a copy of its proof. A function of a trait has no copies, so its further
 guards wait. All other functions have nothing to prove: a body that ends at once, and an empty file of
-a proof. Who calls them goes by their contracts, as ever.
+a proof. Who calls them goes by their contracts, as ever. A program is tried without its `main`, so that the
+check reads no code of its libraries.
 Usage: guards.py COPY CRATE GUARD.., where GUARD is a file. It prints a line 'FUNCTION GUARD' for each
 that is laid out or, with status 1, why some cannot be.
 """
@@ -99,6 +100,10 @@ def lay_out(crate, bodies):
             (guard, body), *others = bodies.get((source, number)) or [(None, None)]
             if guard:
                 print(guard.function, guard.path)
+            elif function.is_plain and crate.path_of(source, function) == ["main"]:
+                made += re.sub(r"(?:^(?:///|#\[).*\n)*\Z", "", text[end : function.first], flags=re.M)
+                end = function.end
+                continue
             elif function.is_plain:
                 body = crate.leave_out(crate.path_of(source, function))
             else:
