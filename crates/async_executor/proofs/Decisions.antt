@@ -9,10 +9,9 @@ use Rattle.async_executor.specs.Runs.Rows as rows
 use Rattle.async_executor.specs.Runs.Rows.{kept_at}
 use Rattle.async_executor.specs.Runs.Rows.{kept_in as run_kept_in}
 use Rattle.async_executor.specs.Runs.Table as run_table
-use Rattle.async_executor.specs.Ticks.{asked_in, asked_of, asked_by, is_return, IsAsked}
-use Rattle.async_executor.specs.Ticks.Decisions.{decision_to, state_for, waiting_for}
-use Rattle.async_executor.specs.Ticks.Replies.{actor_of}
-use Rattle.async_executor.specs.Ticks.Rows.{kept_after, kept_in, kept_of, next_of}
+use Rattle.async_executor.specs.Ticks.{asked_in, is_return, IsAsked}
+use Rattle.async_executor.specs.Ticks.Decisions.{decision_to, state_for}
+use Rattle.async_executor.specs.Ticks.Rows.{kept_after, kept_in, next_of}
 use Rattle.async_executor.specs.Ticks.Table.{Kept, Next}
 use Rattle.async_executor.specs.declared.machine.run.RunNext.{RunNext}
 use Rattle.async_executor.specs.declared.machine.run.RunNext.TheVariants as next
@@ -28,24 +27,7 @@ use Rattle.async_executor.specs.declared.machine.tick.TickState.{TickState}
 use Rattle.async_executor.specs.declared.machine.tick.TickState.TheVariants as state
 use Rattle.async_executor.specs.declared.machine.waiting.TickEnd.{TickEnd}
 use Rattle.async_executor.specs.declared.machine.waiting.Spending.TheVariants.{Exchanging, Notifying, Waking}
-use Rattle.async_executor.specs.declared.machine.waiting.Waiting.{Waiting}
 use Rattle.async_executor.specs.declared.machine.waiting.Waiting.TheVariants.{Searching, Inserting, Updating, Storing, Removing, StoringRemoved, Announcing, Leaving, StoringLeft, PassingOn}
-
-pub waiting_known : {A : Type 0} → (waiting : Waiting A) → waiting_for (actor_of waiting) (asked_of waiting) (kept_of waiting) ≡ waiting
-waiting_known (Searching s) = refl
-waiting_known (Inserting s) = refl
-waiting_known (Updating s) = refl
-waiting_known (Storing s) = refl
-waiting_known (Removing s) = refl
-waiting_known (StoringRemoved s) = refl
-waiting_known (Announcing Exchanging s) = refl
-waiting_known (Announcing Notifying s) = refl
-waiting_known (Announcing Waking s) = refl
-waiting_known (Leaving s) = refl
-waiting_known (StoringLeft s) = refl
-waiting_known (PassingOn Exchanging s) = refl
-waiting_known (PassingOn Notifying s) = refl
-waiting_known (PassingOn Waking s) = refl
 
 tick_known : (s : TickState) → state_for (asked_in s) (kept_in s) ≡ s
 tick_known (state.Resting number) = refl

@@ -1,6 +1,6 @@
 -- With which of the tasks that it finds a run takes a fair part.
-use Rattle.std.proofs.Common.{◌≡◌, ℕ, ◌+◌, ◌<◌, true, false, refl, sym, ap, ◌∙◌, arith}
-use Rattle.std.proofs.lemmas.Bool.{ltb-true, lt-ltb, eqb-true, eq-eqb, ne_eqb, false≢true}
+use Rattle.std.proofs.Common.{◌≡◌, ◌+◌, ◌<◌, true, false, refl, sym, ap, ◌∙◌, arith}
+use Rattle.std.proofs.lemmas.Bool.{ltb-true, lt-ltb, eq-eqb, ne_eqb, false≢true}
 use Rattle.std.proofs.Math.Nat.{suc-mod, mod-eq_of_lt, mod_self}
 use Rattle.std.specs.Prelude.{suc, ◌%◌}
 use Rattle.async_executor.specs.Runs.Counts.{Counted, goes_on, more, anew, CountsEach}

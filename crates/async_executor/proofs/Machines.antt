@@ -1,5 +1,5 @@
 -- What a machine makes of what comes of a reply to a step.
-use Rattle.std.proofs.Common.{◌≡◌, ℕ, Bool, true, false, cond, Option, refl, sym, ap, ◌∙◌}
+use Rattle.std.proofs.Common.{◌≡◌, ℕ, true, false, cond, Option, refl, sym, ap, ◌∙◌}
 use Rattle.async_executor.specs.Ticks.{IsAsked}
 use Rattle.async_executor.specs.Ticks.Courses.{course_in, KeepsCourse}
 use Rattle.async_executor.specs.Ticks.Courses as course

@@ -1,8 +1,7 @@
 -- What the machine of a run makes of what comes of a reply to a step.
-use Rattle.std.proofs.Common.{◌≡◌, ℕ, ◌+◌, ◌<◌, Bool, true, false, inl, inr, cond, Option, Some, None, refl, sym, ap, subst, ◌∙◌, arith}
+use Rattle.std.proofs.Common.{◌≡◌, ℕ, ◌+◌, ◌<◌, Bool, false, inl, inr, cond, Option, Some, None, refl, sym, ap, subst, ◌∙◌, arith}
 use Rattle.std.proofs.lemmas.Bool.{cases_Bool, eqb-true, eq-eqb, ne_eqb, cond-false, false≢true}
-use Rattle.std.specs.Prelude.{◌==◌, ◌≢◌, suc, ◌%◌}
-use Rattle.executor_core.specs.declared.interleave.ticker.Phase.TheVariants as phase
+use Rattle.std.specs.Prelude.{◌==◌}
 use Rattle.executor_core.specs.declared.interleave.ticker.Ticker.{Ticker}
 use Rattle.executor_core.specs.World.Tickers.{ended, left}
 use Rattle.async_executor.specs.Ticks.{Asked, asked_of, asked_of_spending}
@@ -14,13 +13,11 @@ use Rattle.async_executor.specs.Runs.{RunAsked, AskTick, runner_of, store_asked,
 use Rattle.async_executor.specs.Runs.Counts.{goes_on, more, anew}
 use Rattle.async_executor.specs.Runs.Decisions.{decided, decision_to}
 use Rattle.async_executor.specs.Runs.Fairs.{HasFound, FindsIn}
-use Rattle.async_executor.specs.Runs.Fixed.{IsWithin}
 use Rattle.async_executor.specs.Runs.Replies.{decision, leaves}
 use Rattle.async_executor.specs.Runs.Rows.{keeps, kept_in, kept_after, next_of, IsRow}
 use Rattle.async_executor.specs.Runs.Table.{Kept, Row, Ask, row, go_on, leave, of_row, table}
-use Rattle.async_executor.specs.Runs.Tickers.{runner_in, run_at, ticker_after}
+use Rattle.async_executor.specs.Runs.Tickers.{runner_in, ticker_after}
 use Rattle.async_executor.specs.Runs.Turns.{runs_in, TurnFrom}
-use Rattle.async_executor.specs.Steps.{departing}
 use Rattle.async_executor.specs.declared.machine.run.RunAction.TheVariants as asks
 use Rattle.async_executor.specs.declared.machine.run.RunMachine.{RunMachine}
 use Rattle.async_executor.specs.declared.machine.run.RunNext.{RunNext}
@@ -166,14 +163,6 @@ module _ {W : Type 0} where
       (subst (λ r. IsRowAt asked t (of_row (kept_in (state.Waiting waiting)) r) (decision came)) (same_row r (asked_of waiting) (next_to came) (kept_by came) its_row.0 its_row.1 its_row.2)
       (subst (λ runner. IsRowAt asked t (go_on asked (keeps runner (is_seeking waiting) None (kept_of waiting)) (next_to came) (kept_by came) r.step) (decision came)) actor
       (came_row asked (is_seeking waiting) (kept_of waiting) r.step t came is none course (ap (λ runner. replies.ticker_after (runner_in runner) came) actor ∙ seen))))
-
-  -- a run whose queue has ended leaves the sleepers
-  pub leave_row : (asked : RunAsked) (runner : Runner) (number : ℕ) (registered : Bool) (later : Option ℕ) (kept : tick.Kept) (step : Ticker → Ticker) (t : Ticker) → run_at runner phase.Leaving number ≡ step t → IsRowAt asked t (leave asked (keeps runner registered later kept) number step) (leaves (record { runner = runner; number = number }))
-  leave_row asked runner number registered later kept step t at =
-      elim (cases_Bool (number == 0)) [
-        | inl awake ↦ rw awake (refl, refl, refl, ap (run_at runner phase.Ended) (sym (eqb-true _ _ awake)) ∙ ap ended at)
-        | inr asleep ↦ rw asleep (refl, refl, refl, at)
-      ]
 
   -- how many tasks of its turn are begun
   pub run_turn : (came : Came Runner W) → RunsNone came → (actor_after came).count.counted < (actor_after came).count.limit → TurnFrom (actor_after came).count.limit ((actor_after came).count.counted + 0) (decision came)

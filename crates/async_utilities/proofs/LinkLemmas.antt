@@ -5,7 +5,7 @@ use Rattle.async_utilities.specs.Links.{IsIn, IsApart, without, Joins, Stands, w
 
 -- ---- lists of keys
 
-pub without_here : (key first : ℕ) (rest : List ℕ) → first ≡ key → without key (first ∷ rest) ≡ rest
+without_here : (key first : ℕ) (rest : List ℕ) → first ≡ key → without key (first ∷ rest) ≡ rest
 without_here key first rest same = cond-true _ _ _ (eq-eqb first key same)
 
 pub without_past : (key first : ℕ) (rest : List ℕ) → first ≢ key → without key (first ∷ rest) ≡ first ∷ without key rest

@@ -1,5 +1,5 @@
 -- Those who wait, when one place changes.
-use Rattle.std.proofs.Common.{◌≡◌, ◌≢◌, ◌==◌, ◌⊎◌, ℕ, zero, suc, ◌+◌, ◌<◌, ◌≤◌, List, [], ◌∷◌, ◌++◌, length, drop, Bool, true, false, Option, Some, None, cond, count_by, is_some, slice_get, get_or, get_or-set_same, get_or-set_other, refl, sym, ap, ◌∙◌, subst, inl, inr, arith, add-zero}
+use Rattle.std.proofs.Common.{◌≡◌, ◌≢◌, ◌==◌, ◌⊎◌, ℕ, zero, suc, ◌+◌, ◌<◌, ◌≤◌, List, [], ◌∷◌, ◌++◌, length, Bool, true, false, Option, Some, None, cond, count_by, is_some, slice_get, get_or, get_or-set_same, get_or-set_other, refl, sym, ap, ◌∙◌, subst, inl, inr, arith, add-zero}
 use Rattle.std.specs.List.{sum_by}
 use Rattle.std.proofs.lemmas.Bool.{cases_eq, cases_lt}
 use Rattle.std.proofs.lemmas.List.{get_or_past}
@@ -10,7 +10,7 @@ use Rattle.async_utilities.specs.Links.{IsApart, IsIn, Order, without}
 use Rattle.async_utilities.specs.WaitQueue.{Comes, IsQueue, Moves, Steps, Waiters, is_notified, is_waiting, waiters_of}
 use Rattle.async_utilities.specs.declared.wait_queue.Place.{Place}
 use Rattle.async_utilities.specs.declared.wait_queue.Place.TheVariants.{Idle, Waiting, Notified}
-use Rattle.async_utilities.proofs.LinkLemmas.{apart_push, apart_without, in_push, in_without, last_in, not_in_without, stays_push, stays_without, without_absent, without_here}
+use Rattle.async_utilities.proofs.LinkLemmas.{apart_push, apart_without, in_push, in_without, last_in, not_in_without, stays_push, stays_without, without_absent}
 
 -- ---- sums over places, of which one that is not taken adds nothing
 
@@ -217,10 +217,6 @@ module _ {W : Type 0} (places places' : Slab (Place W)) (order : Order) (notifie
 pub first_in : (keys : List ℕ) (key : ℕ) → Some key ≡ slice_get keys 0 → IsIn key keys
 first_in [] key is = absurd (cc)
 first_in (first ∷ rest) key is = inl (sym (same_Some key first is))
-
-pub first_gone : (keys : List ℕ) (key : ℕ) → Some key ≡ slice_get keys 0 → without key keys ≡ drop 1 keys
-first_gone [] key is = absurd (cc)
-first_gone (first ∷ rest) key is = without_here key first rest (sym (same_Some key first is))
 
 pub steps_shorter : {W : Type 0} (old new : Waiters W) (waiting : List ℕ) → Steps old new waiting → (length waiting == 0) ≡ false → length new.waiting < length waiting
 steps_shorter old new [] steps some = absurd (cc)

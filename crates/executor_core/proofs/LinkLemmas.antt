@@ -321,10 +321,6 @@ module _ {P T W : Type 0} where
       ends_rest [] ends = tt
       ends_rest (x ∷ ids) ends = ends
 
-  -- no slot, and no id
-  pub empty_linked : (last : ℕ) → IsChain {P = P} {T = T} {W = W} [] no_slot last []
-  empty_linked last = record { chain = refl; apart = tt; ends = tt; cleared = λ at s there beside. absurd (cc) }
-
   -- one step of the walk along the links
   pub record StepAt (slots : List (Option (Slot P T W))) (ids : List TaskId) (k at : ℕ) : Type 0 where
     pub slot : Slot P T W

@@ -74,10 +74,6 @@ module _ {X : Type 0} where
   set-here (y ∷ ys) zero x is = let same : y ≡ x = cc in ap (λ z. z ∷ ys) (sym same)
   set-here (y ∷ ys) (suc n) x is = ap (λ l. y ∷ l) (set-here ys n x is)
 
-  -- a push after a growth
-  pub push_items : (xs ys zs : List X) (x : X) → zs ≡ ys ++ x ∷ [] → ys ≡ xs → zs ≡ xs ++ x ∷ []
-  push_items xs ys zs x a b = a ∙ ap (λ l. l ++ x ∷ []) b
-
 count_step : (a b : Bool) (c d : ℕ) → (a ≡ true → b ≡ true) → c ≤ d → cond a 1 0 + c ≤ cond b 1 0 + d
 count_step true true c d gives most = omega arith
 count_step true false c d gives most = absurd (false≢true (gives refl))

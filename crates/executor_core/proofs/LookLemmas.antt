@@ -1,5 +1,5 @@
 -- Whether a search of any queue finds a task.
-use Rattle.std.proofs.Common.{◌≡◌, ℕ, true, false, List, [], ◌∷◌, Option, Some, None, refl, ◌∙◌, ap}
+use Rattle.std.proofs.Common.{◌≡◌, ℕ, true, false, [], Option, Some, None, refl, ◌∙◌, ap}
 use Rattle.std.specs.Prelude.{is_some, option_map}
 use Rattle.executor_core.specs.Queues.{QueueLists, entries_at, local_front, first_occupied, front_at, any_front, search_any}
 use Rattle.executor_core.proofs.QueueLemmas.{some_occupied, local_front-none}
@@ -17,9 +17,6 @@ module _ {X : Type 0} where
 
   pub any_by_locals : (q : QueueLists X) → q.global ≡ [] → is_some (search_any q).0 ≡ is_some (first_occupied q.locals)
   any_by_locals q empty = ap (λ es. is_some (any_front es q).0) empty ∙ front_found (first_occupied q.locals) q refl
-
-  pub any_by_global : (es : List X) (q : QueueLists X) (x : X) (rest : List X) → es ≡ x ∷ rest → is_some (any_front es q).0 ≡ true
-  any_by_global es q x rest is = ap (λ es. is_some (any_front es q).0) is
 
 pub some-map : {X Y : Type 0} (f : X → Y) (o : Option X) → is_some (option_map f o) ≡ is_some o
 some-map f None = refl

@@ -233,9 +233,6 @@ module _ {X Y : Type 0} (f : X → Y) where
   pub fair_count-map : (k : ℕ) (q : QueueLists X) → fair_count k (map_queues f q) ≡ fair_count k q
   fair_count-map k q = ap (λ o. fair_count_at o (map_queues f q)) (position_of-map f k q.locals) ∙ fair_count_at-map (position_of k q.locals) q
 
-  pub registered-map : (k capacity : ℕ) (q : QueueLists X) → registered k capacity (map_queues f q) ≡ map_queues f (registered k capacity q)
-  registered-map k capacity q = queues_same _ _ _ _ refl (sym (map-append (map_local f) q.locals (record { runner = k; entries = []; capacity = capacity } ∷ [])))
-
   unregistered_at-map : (o : Option ℕ) (q : QueueLists X) → unregistered_at o (map_queues f q) ≡ map_queues f (unregistered_at o q)
   unregistered_at-map None q = refl
   unregistered_at-map (Some r) q = queues_same _ _ _ _ (ap (λ es. map f q.global ++ es) (entries_at-map f r q.locals) ∙ sym (map-append f q.global (entries_at r q.locals))) (remove-map (map_local f) q.locals r)
@@ -249,9 +246,6 @@ module _ {X Y : Type 0} (f : X → Y) where
 
   pub all_entries-map : (q : QueueLists X) → all_entries (map_queues f q) ≡ map f (all_entries q)
   all_entries-map q = ap (λ es. es ++ map f q.global) (local_entries-map q.locals) ∙ sym (map-append f (flat_map (λ (l : RunnerQueue X). l.entries) q.locals) q.global)
-
-pub pushed-map : {Y : Type 0} (f : TaskId → Y) (id : TaskId) (q : QueueLists TaskId) → map_queues f (pushed id q) ≡ record (map_queues f q) { global = map f q.global ++ f id ∷ [] }
-pushed-map f id q = queues_same _ _ _ _ (map-append f q.global (id ∷ [])) refl
 
 -- a list of lists in a row, in which one of them changes
 module _ {X : Type 0} where

@@ -1,5 +1,5 @@
 -- The runners of the queues: at which position one stands, and that each stands at one.
-use Rattle.std.proofs.Common.{◌≡◌, ◌≢◌, ℕ, zero, suc, ◌+◌, ◌<◌, ◌⊎◌, inl, inr, cond, List, [], ◌∷◌, ◌++◌, length, Option, Some, None, refl, sym, ap, ◌∙◌, arith}
+use Rattle.std.proofs.Common.{◌≡◌, ◌≢◌, ℕ, zero, suc, ◌+◌, ◌⊎◌, inl, inr, cond, List, [], ◌∷◌, ◌++◌, length, Option, Some, None, refl, sym, ap, ◌∙◌, arith}
 use Rattle.std.proofs.lemmas.Bool.{eqb-true, eq-eqb, ne_eqb, cases_eq}
 use Rattle.std.proofs.lemmas.Option.{slice_get-map, slice_get-get_or}
 use Rattle.std.proofs.lemmas.List.Quantifiers.{position-Some}
@@ -96,7 +96,3 @@ none_registered k locals none = runner_position k locals ∙ none
 pub position_of_place : (k i : ℕ) (locals : List (RunnerQueue TaskId)) (q : RunnerQueue TaskId) → AllDistinct (runners_of locals) → slice_get locals i ≡ Some q → q.runner ≡ k → position_of k locals ≡ Some i
 position_of_place k i locals q distinct is same =
     sym (runner_position k locals) ∙ first_position (runners_of locals) k i (position (λ m. m == k) (runners_of locals)) distinct (slice_get-map (λ (l : RunnerQueue TaskId). l.runner) locals i ∙ ap (option_map (λ (l : RunnerQueue TaskId). l.runner)) is ∙ ap Some same) refl
-
-pub place_within : {X : Type 0} (k i : ℕ) (locals : List (RunnerQueue X)) → position_of k locals ≡ Some i → i < length locals
-place_within {X} k i [] is = absurd (cc)
-place_within {X} k i (q ∷ rest) is = let parts = position-Some (λ (l : RunnerQueue X). l.runner == k) (q ∷ rest) i q is in parts.0

@@ -26,13 +26,6 @@ freed : (b : Bool) (t m l : ℕ) → cond b 1 0 + t ≡ cond (nat_le 1 m && nat_
 freed b t m l h more = (grind (arith, nat_tests), grind (arith, nat_tests))
 
 module _ {W : Type 0} {s : SleeperList W} (law : SleeperLaw s) where
-  pub zero_unused : set.contains s.used 0 ≡ false
-  zero_unused = at (set.contains s.used 0) (law.numbered 0)
-    where
-      at : (b : Bool) → cond b 1 0 + times 0 s.free ≡ cond (nat_le 1 0 && nat_le 0 (set.len s.used + length s.free)) 1 0 → b ≡ false
-      at true h = absurd (omega arith)
-      at false h = refl
-
   -- the number that an insertion gives is not in use
   pub next_fresh : (0 < next_number s) × (set.contains s.used (next_number s) ≡ false)
   next_fresh = elim (empty_or_push s.free) [

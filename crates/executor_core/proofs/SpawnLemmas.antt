@@ -142,8 +142,3 @@ module _ {P T W : Type 0} where
   pub empty_is : (first : ℕ) → table_of {P = P} {T = T} {W = W} first [] no_queues false ≡ empty_table first
   unfolding cells_of
   empty_is first = refl
-
-  -- the slots are the same list by another name
-  pub regrown : {next undropped : ℕ} {slots : List (Option (Numbered (Cell P T W)))} {ids : List TaskId}
-      → IsSound next slots ids undropped → (same : List (Option (Numbered (Cell P T W)))) → same ≡ slots → IsSound next same ids undropped
-  regrown {next} {undropped} {slots} {ids} sound same is = subst (λ l. IsSound next l ids undropped) (sym is) sound

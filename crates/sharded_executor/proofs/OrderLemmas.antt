@@ -1,7 +1,7 @@
 -- What a search has asked when it ends.
-use Rattle.std.proofs.Common.{◌≡◌, ℕ, zero, suc, ◌+◌, ◌-◌, ◌<◌, ◌≤◌, Bool, true, false, cond, List, [], ◌∷◌, ◌++◌, Option, Some, None, refl, sym, ap, ◌∙◌, arith}
+use Rattle.std.proofs.Common.{◌≡◌, ℕ, suc, ◌+◌, ◌-◌, ◌<◌, ◌≤◌, Bool, true, false, cond, List, [], ◌∷◌, ◌++◌, Option, Some, None, sym, ap, ◌∙◌, arith}
 use Rattle.std.specs.Prelude.{◌==◌, nat_lt, IfNone, IfSome}
-use Rattle.std.proofs.lemmas.Bool.{ne_eqb, lt-ltb, le-ltb}
+use Rattle.std.proofs.lemmas.Bool.{ne_eqb, lt-ltb}
 use Rattle.sharded_executor.specs.Order.{false_from, true_after, others_true, asked_around}
 
 -- one shard more answered false
@@ -10,18 +10,6 @@ false_more from at le =
     let next : suc (at - from) ≡ (at + 1) - from = omega arith in
     let here : at ≡ from + (at - from) = omega arith in
     ap (λ k. false_from from (at - from) ++ (k, false) ∷ []) here ∙ ap (false_from from) next
-
-pub none_asked : (from : ℕ) → [] ≡ false_from from (from - from)
-none_asked from =
-    let none : 0 ≡ from - from = omega arith in
-    ap (false_from from) none
-
--- the first that has a task is not before the one at which the walk began
-pub found_after : (first n at : ℕ) → 0 < first → first ≤ at → (0, false) ∷ true_after first at ≡ asked_around first n (Some at)
-found_after first n at low le =
-    let far : at == 0 ≡ false = ne_eqb at 0 (omega arith) in
-    let after : nat_lt at first ≡ false = le-ltb at first le in
-    sym (ap (λ b. cond b ((0, true) ∷ []) ((0, false) ∷ others_true first n at)) far ∙ ap (λ b. (0, false) ∷ cond b (false_from first (n - first) ++ true_after 1 at) (true_after first at)) after)
 
 -- it is before that one
 pub found_before : (first n at : ℕ) → 0 < at → at < first → (0, false) ∷ (false_from first (n - first) ++ true_after 1 at) ≡ asked_around first n (Some at)

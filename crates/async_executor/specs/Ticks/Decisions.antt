@@ -2,10 +2,9 @@
 use Rattle.std.specs.Prelude.{ℕ, Option, Some, None}
 use Rattle.executor_core.specs.declared.task.values.Notice.{Notice}
 use Rattle.executor_core.specs.declared.task.values.Taken.{Taken}
-use Rattle.async_executor.specs.Ticks.{Asked, AskStart, AskSearch, AskInsert, AskUpdate, AskStore, AskRemove, AskStoreRemoved, AskExchange, AskNotify, AskWake, AskRun, asked_by, asked_in, is_return}
+use Rattle.async_executor.specs.Ticks.{Asked, AskStart, AskSearch, AskUpdate, AskStore, AskRemove, AskStoreRemoved, AskExchange, AskNotify, AskWake, AskRun, asked_by, asked_in, is_return}
 use Rattle.async_executor.specs.Ticks.Rows.{kept_in}
 use Rattle.async_executor.specs.Ticks.Table.{Kept, Next, Ask, End, Row, table}
-use Rattle.async_executor.specs.declared.machine.tick.Alone.{Alone}
 use Rattle.async_executor.specs.declared.machine.tick.TickMachine.{TickMachine}
 use Rattle.async_executor.specs.declared.machine.tick.TickNext.{TickNext}
 use Rattle.async_executor.specs.declared.machine.tick.TickNext.TheVariants.{Act, Rest}

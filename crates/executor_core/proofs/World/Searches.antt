@@ -7,20 +7,11 @@ use Rattle.std.proofs.lemmas.List.Sorted.{length_permutation}
 use Rattle.std.proofs.lemmas.Map.Views.{any-filter_same}
 use Rattle.std.specs.List.{list_any, find, flat_map, range_with_len}
 use Rattle.std.specs.Prelude.{◌==◌, ◌%◌, min, slice_get}
-use Rattle.executor_core.specs.Queues.{RunnerQueue, QueueLists, is_runner, position_of, is_registered, half, steal_count, stolen, entries_or, entries_at, capacity_or, capacity_at, set_entries, with_entries, all_entries, visits, can_steal, victim, stolen_between, local_front, steal_from, search_shared, search_own, search_at, search, first_occupied, front_at, any_front, search_any, global_front, search_global, global_stolen, fair_at, fair}
+use Rattle.executor_core.specs.Queues.{RunnerQueue, QueueLists, is_runner, position_of, is_registered, steal_count, stolen, entries_or, entries_at, capacity_or, capacity_at, set_entries, with_entries, all_entries, visits, can_steal, victim, stolen_between, local_front, steal_from, search_shared, search_own, search_at, search, first_occupied, front_at, any_front, search_any, global_front, search_global, global_stolen, fair_at, fair}
 use Rattle.executor_core.specs.World.Steps.{found_by}
 use Rattle.executor_core.proofs.ListLemmas.{get-set_same, within_get}
 use Rattle.executor_core.proofs.QueueLemmas.{find_passes, search_any-permutes, search_any-none}
 use Rattle.executor_core.proofs.World.Runners.{position_at, shapes, shape_at, shapes_with}
-
-half_some : (n : ℕ) → 0 < n → 0 < half n
-half_some n some = omega arith
-
-min_none : (a b : ℕ) → 0 < a → 0 < b → 0 < min a b
-min_none a b x y = omega arith
-
-min_left : (a b : ℕ) → 0 < min a b → 0 < a
-min_left a b some = omega arith
 
 empty_append : {X : Type 0} (xs ys : List X) → xs ++ ys ≡ [] → ys ≡ []
 empty_append [] ys none = none

@@ -119,19 +119,6 @@ floating kept n = by_test (nat_lt 0 kept) refl
     by_test true is = let some = ltb-true 0 kept is in (omega arith, omega arith)
     by_test false is = (omega arith, omega arith)
 
--- one that gave its number up has no search to make
-quiet_change : (p : Phase) → gave_up p ≡ true → has_to_search p ≡ false
-quiet_change Rest h = absurd (cc)
-quiet_change Search h = absurd (cc)
-quiet_change Sleep h = absurd (cc)
-quiet_change Wake h = absurd (cc)
-quiet_change (Store Slept) h = absurd (cc)
-quiet_change (Store (Woke b)) h = refl
-quiet_change (Store (Dropped b)) h = refl
-quiet_change Leaving h = absurd (cc)
-quiet_change Forgotten h = absurd (cc)
-quiet_change Ended h = refl
-
 -- a phase that keeps nothing and changes nothing
 record IsQuiet (p : Phase) : Type 0 where
   pub stored : in_store p ≡ false
