@@ -74,7 +74,7 @@ impl<W: Wake, R: Wait + Clone + Drop> Debug for LocalRunners<'_, W, R> {
         let mut list = f.debug_list();
         list.slice(self.counts.first_lens.as_slice());
         for first in (AT_A_TIME..self.counts.runners).step_by(AT_A_TIME) {
-            let lens = match self.state.parts.cells.try_lock() {
+            let lens = match self.state.try_cells() {
                 Some(cells) => Some(QueueLens::of(&cells, first)),
                 None => None,
             };
@@ -102,7 +102,7 @@ impl<S: Storage> ExecutorIn<S> {
         f: &mut Formatter<O>,
     ) -> fmt::Result {
         let state = self.state();
-        let counts = match state.parts.cells.try_lock() {
+        let counts = match state.try_cells() {
             Some(cells) => Some(TaskCounts::of(&cells)),
             None => None,
         };

@@ -23,19 +23,6 @@ use std::hint::spin_loop;
 use std::sync::atomic::{AtomicBool, AtomicU32, Ordering};
 use std::sync::{Mutex, MutexGuard, Wait};
 
-/// Waits for a lock. It is no function, since each call that may wait costs its caller a test.
-macro_rules! lock {
-    ($lock:expr, $rt:expr) => {{
-        let lock = &$lock;
-        match lock.try_lock() {
-            Some(guard) => guard,
-            None => lock.wait_for($rt),
-        }
-    }};
-}
-
-pub(crate) use lock;
-
 /// As many bytes as a cache line has, between fields that different threads write.
 pub(crate) type CacheLine = [u64; 8];
 

@@ -28,7 +28,7 @@ pub use many::SpawnMany;
 use std::alloc::Global;
 
 // Runs the task that this take finds, and says whether there was one. No lock may be held. A macro, for
-// the same reason as `lock!`.
+// the same reason as `cells!`.
 macro_rules! take_and_run {
     ($executor:expr, $take:ident) => {{
         let state = $executor.storage.state();

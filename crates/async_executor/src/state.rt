@@ -13,7 +13,7 @@ use std::sync::{MutexGuard, Wait};
 
 /// Spends the notice of a task that was queued or taken: if somebody sleeps and nobody was
 /// notified since, a sleeper is woken. No lock may be held. It stands for `State::notify` of the
-/// Rust crate. A macro, for the same reason as `lock!`.
+/// Rust crate. A macro, for the same reason as `cells!`.
 macro_rules! announce {
     ($state:expr, $notice:expr) => {
         if let Some(pick) = $state.exchange($notice) {
@@ -24,23 +24,29 @@ macro_rules! announce {
 
 pub(crate) use announce;
 
-/// Waits for the table of tasks of a state, which is locked until the guard is dropped. A macro, for the
-/// same reason as `lock!`.
+/// Waits for the table of tasks of a state, which is locked until the guard is dropped. It is no function,
+/// since each call that may wait costs its caller a test.
 macro_rules! cells {
     ($state:expr) => {{
         let state = $state;
-        crate::lock::lock!(state.parts.cells, state.rt())
+        match state.try_cells() {
+            Some(cells) => cells,
+            None => state.wait_for_cells(),
+        }
     }};
 }
 
 pub(crate) use cells;
 
 /// Waits for the sleepers of a state, which are locked until the guard is dropped. They come with
-/// their law. A macro, for the same reason as `lock!`.
+/// their law. A macro, for the same reason as `cells!`.
 macro_rules! sleepers {
     ($state:expr) => {{
         let state = $state;
-        let guard = crate::lock::lock!(state.parts.sleepers, state.rt());
+        let guard = match state.try_sleepers() {
+            Some(guard) => guard,
+            None => state.wait_for_sleepers(),
+        };
         // Its contract has the law.
         guard.sleepers.is_notified();
         guard
@@ -62,7 +68,7 @@ pub(crate) use sleepers;
 pub struct ExecutorState<W, R> {
     before_flag: CacheLine,
     flag: Flag,
-    pub(crate) parts: Box<Parts<W, R>>,
+    parts: Box<Parts<W, R>>,
 }
 
 impl<W: Drop, R: Drop> Drop for ExecutorState<W, R> {
@@ -79,11 +85,11 @@ impl<W: Drop, R: Drop> Drop for ExecutorState<W, R> {
 }
 
 #[derive(Drop)]
-pub(crate) struct Parts<W, R> {
+struct Parts<W, R> {
     before_all: Border,
-    pub(crate) cells: Lock<Cells<(), (), W>>,
+    cells: Lock<Cells<(), (), W>>,
     before_sleepers: CacheLine,
-    pub(crate) sleepers: Lock<ClosedSleepers<W>>,
+    sleepers: Lock<ClosedSleepers<W>>,
     rt: R,
     alloc: Global,
     after_all: Border,
@@ -116,10 +122,22 @@ impl<W, R> ExecutorState<W, R> {
         self.flag.store(change, sleepers)
     }
 
+    /// The table of tasks of this `ExecutorState`, if nobody has it.
+    #[inline(always)]
+    pub(crate) fn try_cells(&self) -> Option<MutexGuard<'_, Cells<(), (), W>>> {
+        self.parts.cells.try_lock()
+    }
+
+    /// The sleepers of this `ExecutorState`, if nobody has them.
+    #[inline(always)]
+    pub(crate) fn try_sleepers(&self) -> Option<MutexGuard<'_, ClosedSleepers<W>>> {
+        self.parts.sleepers.try_lock()
+    }
+
     /// How many sleepers of this `ExecutorState` sleep. `None` if the lock is taken, for which it does not
     /// wait.
     pub(crate) fn sleepers_in_use(&self) -> Option<usize> {
-        let guard = self.parts.sleepers.try_lock()?;
+        let guard = self.try_sleepers()?;
         Some(guard.sleepers.numbers())
     }
 }
@@ -144,6 +162,20 @@ impl<W: Wake, R: Wait + Clone + Drop> ExecutorState<W, R> {
             }),
             Err(_) => Err(OutOfMemory),
         }
+    }
+
+    /// Waits for the table of tasks of this `ExecutorState`, which somebody has.
+    #[cold]
+    #[inline(never)]
+    pub(crate) fn wait_for_cells(&self) -> MutexGuard<'_, Cells<(), (), W>> {
+        self.parts.cells.wait_for(self.rt())
+    }
+
+    /// Waits for the sleepers of this `ExecutorState`, which somebody has.
+    #[cold]
+    #[inline(never)]
+    pub(crate) fn wait_for_sleepers(&self) -> MutexGuard<'_, ClosedSleepers<W>> {
+        self.parts.sleepers.wait_for(self.rt())
     }
 
     /// Waits for the table of tasks of this `ExecutorState`, which is locked until the guard is dropped. It

@@ -41,7 +41,7 @@ pub trait Shareable: Storage {
 }
 
 /// Waits for the futures of a storage, which nobody else has until the guard is dropped. A macro, for the
-/// same reason as `lock!`.
+/// same reason as `cells!`.
 macro_rules! futures {
     ($storage:expr) => {
         match $storage.try_futures() {
