@@ -65,8 +65,8 @@ where
     R: Wait + Clone + Drop,
     G: Future<W>,
 {
-    // Polls the own future, and unless that is ready runs the tasks of a turn, of any level, and goes to sleep if
-    // there are fewer. If it does not sleep, it wakes the waker.
+    // Polls the own future, and unless that is ready runs the tasks of a turn, of any level, and goes to
+    // sleep if there are fewer. If it does not sleep, it wakes the waker.
     fn poll(&mut self, w: &W) -> Poll<G::Output>
         ensures asleep { is_ready result ≡ false → self.new.is_asleep ≡ true → All (λ s. is_some s.inner.number ≡ true) self.new.sleepers.levels.items }
         ensures awake { is_ready result ≡ false → self.new.is_asleep ≡ false → All (λ s. s.inner.number ≡ None) self.new.sleepers.levels.items }
