@@ -75,12 +75,10 @@ impl<R: Wait + Clone + Drop + Send + Sync> Fixture<R> {
         self.ex.try_tick() && task.is_finished()
     }
 
-    // Runs tasks until this many threads are done.
+    // Runs tasks until this many threads are done. Its turns are not counted: on a processor of its own it
+    // has millions while those threads wait for theirs.
     fn ticks_until(&self, threads: u64) {
-        for _ in 0..TURNS {
-            if self.done.load(Ordering::SeqCst) >= threads {
-                return;
-            }
+        while self.done.load(Ordering::SeqCst) < threads {
             if !self.ex.try_tick() {
                 yield_now();
             }
@@ -88,15 +86,16 @@ impl<R: Wait + Clone + Drop + Send + Sync> Fixture<R> {
     }
 
     // Spawns tasks one by one, each of which yields once, and counts those that give the number of
-    // their polls.
+    // their polls, up to the first that does not.
     fn awaits_each(&self, tasks: u64) {
         for _ in 0..tasks {
             let Some(mut task) = self.task(Kind::Yields(1)) else {
-                return;
+                break;
             };
-            if awaited(&mut task, &self.waker) == Some(2) {
-                self.good.fetch_add(1, Ordering::SeqCst);
+            if awaited(&mut task, &self.waker) != Some(2) {
+                break;
             }
+            self.good.fetch_add(1, Ordering::SeqCst);
         }
         self.done.fetch_add(1, Ordering::SeqCst);
     }
