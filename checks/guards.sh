@@ -65,31 +65,46 @@ judge() {
     fi
 }
 
-# Tries the guards of the crates that are not taken yet, and leaves the counts there.
-try_crates() {
+# Writes the words of a check of this crate into a file of the room. Who asks first writes them.
+read_words() {
+    if mkdir "$copy/$1.asked" 2> /dev/null; then
+        words "$1" > "$copy/$1.written" || :
+        mv "$copy/$1.written" "$copy/$1.words"
+    fi
+    until [ -f "$copy/$1.words" ]; do sleep 1; done
+    cp "$copy/$1.words" "$room/words"
+}
+
+# Tries the guards of the parts that are not taken yet, and leaves the counts there.
+try_parts() {
     room=$1
     mkdir "$room"
-    while read -r _ crate; do
-        mkdir "$copy/$crate.taken" 2> /dev/null || continue
-        words "$crate" > "$room/words"
-        mv "$copy/$crate.asked" "$room/left"
+    while read -r part; do
+        mv "$copy/parts/$part" "$room/left" 2> /dev/null || continue
+        crate=${part%.*}
+        read_words "$crate"
         while [ -s "$room/left" ]; do
             start=$(date +%s)
             try_round "$crate"
             echo "$crate: $(grep -c . "$room/round") guards in $(($(date +%s) - start)) s"
         done
-    done < "$copy/crates"
+    done < "$copy/order"
     echo "$passed $failed" > "$room/counts"
 }
 
+mkdir "$copy/parts"
 for guard in $(asked "$@"); do
-    echo "$guard" >> "$copy/$(field "$guard" crate).asked"
+    echo "$guard" >> "$copy/$(field "$guard" crate).guards"
 done
-(cd "$copy" && grep -c . ./*.asked /dev/null) | sed -n 's/^\.\/\(.*\)\.asked:\(.*\)/\2 \1/p' |
-    sort -rn > "$copy/crates"
-# Two crates at a time, that with the most guards first.
+# At most so many in a part, so that both lanes have guards to try until the end. Crates that the gate proves
+# first come first.
+for crate in $(sed -n 's/^\([a-z_]*\)[ :].*/\1/p' "$crates"; cd "$copy" && ls | sed -n 's/\.guards$//p'); do
+    [ -f "$copy/$crate.guards" ] || continue
+    (cd "$copy/parts" && split -l 70 "$copy/$crate.guards" "$crate." && ls "$crate".*)
+    rm "$copy/$crate.guards"
+done > "$copy/order"
 for lane in one two; do
-    try_crates "$copy/$lane" &
+    try_parts "$copy/$lane" &
 done
 wait
 for lane in one two; do
