@@ -187,6 +187,28 @@ fn a_run_takes_a_handful_of_another_shard(rt: HostRuntime) -> Result<(), Fail> {
     Ok(())
 }
 
+// How many of three hundred tasks of its own shard a run takes in a poll, before which it slept.
+fn taken_of_its_own<R: Wait + AllocGlobal + Clone + Drop + Send + Sync>(
+    rt: &R,
+) -> Result<usize, Fail> {
+    let ran = Arc::new(rt.alloc(), AtomicU64::new(0))?;
+    let ex = shards(rt, 1)?;
+    let (waker, _) = waker(rt.alloc())?;
+    let mut run = run_of(&ex, 0)?;
+    let _ = run.poll(&waker);
+    for _ in 0..300 {
+        leave(&ex, 0, digit(1, &ran)?)?;
+    }
+    let _ = run.poll(&waker);
+    Ok(301 - Arc::strong_count(&ran))
+}
+
+#[test]
+fn a_run_that_was_notified_takes_one_task_before_its_turn(rt: HostRuntime) -> Result<(), Fail> {
+    assert_eq!(rt; taken_of_its_own(&rt)?, 201);
+    Ok(())
+}
+
 // Two runs sleep, the one of the first shard last. A task of the first shard wakes one of the second:
 // while it is polled, the other run has to be woken. Gives how often that one was woken by then.
 fn woken_meanwhile<R: Wait + AllocGlobal + Clone + Drop + Send + Sync>(rt: &R) -> Result<u64, Fail> {

@@ -147,7 +147,8 @@ where
         has_task
     }
 
-    /// Has the member at this place run a handful of tasks of its shard, and says whether there was one.
+    /// Has the member at this place run a handful of tasks of its shard, and says whether there was one. Of the
+    /// own shard it runs one alone: the worker takes each of the others under fewer locks.
     pub(crate) fn help(&mut self, at: usize) -> bool
         requires { at < vec_len self.old.sleepers }
         ensures count { vec_len self.new.sleepers ≡ vec_len self.old.sleepers }
@@ -158,7 +159,8 @@ where
         if !sleeper.try_tick_any() {
             return false;
         }
-        for _ in 1..HANDFUL {
+        let most = if at == 0 { 1 } else { HANDFUL };
+        for _ in 1..most {
             if !sleeper.try_tick_any() {
                 break;
             }
