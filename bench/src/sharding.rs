@@ -72,7 +72,7 @@ impl<W: Wake, R: Wait + Clone + Drop> Future<TaskWaker<W, R>> for Works<'_> {
     type Output = ();
 
     fn poll(&mut self, w: &TaskWaker<W, R>) -> Poll<()> {
-        if !has_worked(self.yields, self.steps) {
+        if self.steps > 0 && !has_worked(self.yields, self.steps) {
             return Poll::Pending;
         }
         if self.yields == 0 {

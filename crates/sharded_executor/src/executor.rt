@@ -137,9 +137,14 @@ where
         ensures ok { IfOk result (λ task. task.inner.answered ≡ false) }
         ensures refused { IfErr result (λ e. refused_future e ≡ future) }
     {
-        // One count for all: one for each thread would need a place for it.
-        let number = self.next.count.fetch_add(1, Ordering::SeqCst);
-        self.shards[shard_of(number, self.shards.len())].spawn(future)
+        let shards = self.shards.len();
+        let at = if shards == 1 {
+            0
+        } else {
+            // One count for all: one for each thread would need a place for it.
+            shard_of(self.next.count.fetch_add(1, Ordering::SeqCst), shards)
+        };
+        self.shards[at].spawn(future)
     }
 }
 
