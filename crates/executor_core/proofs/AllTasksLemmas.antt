@@ -13,7 +13,7 @@ use Rattle.std.proofs.lemmas.List.Elements.{All-append, All-weaker}
 use Rattle.std.proofs.lemmas.List.Sums.{sum_by-cons, sum_by-append}
 use Rattle.executor_core.specs.Numbers.{times}
 use Rattle.executor_core.specs.Cell.{is_idle, is_held, is_scheduled}
-use Rattle.executor_core.specs.Cell.Changes.{state_woken, cancelled_cell}
+use Rattle.executor_core.specs.Cell.Changes.{state_woken}
 use Rattle.executor_core.specs.Cells.{Slotted}
 use Rattle.executor_core.specs.Cells.Law.{scheduled_in}
 use Rattle.executor_core.specs.Cells.Calls.{each_changed, closing, after_close, close_queues, SlotsDiffer}
@@ -29,7 +29,6 @@ use Rattle.executor_core.proofs.QueueLemmas.{local_entries-map}
 use Rattle.executor_core.proofs.RisingLemmas.{passing, times-rising, idle_rising}
 use Rattle.executor_core.specs.declared.task.cell.Cell.{Cell}
 use Rattle.executor_core.specs.declared.task.cell.CellState.{CellState}
-use Rattle.executor_core.specs.declared.task.cell.CellState.TheVariants.{Idle, Scheduled, Held, Finished, Gone}
 use Rattle.executor_core.specs.declared.task.cell.Numbered.{Numbered}
 use Rattle.executor_core.specs.declared.task.id.TaskId.{TaskId}
 
@@ -62,9 +61,7 @@ module _ {P T W : Type 0} (change : Cell P T W → Cell P T W) where
   by_number-changed first (Some e ∷ rest) = ap (λ l. (e.number, seen first (change e.cell)) ∷ l) (by_number-changed (first + 1) rest)
 
   get-changed : (slots : List (Option (Numbered (Cell P T W)))) (q : ℕ) → fin_map.get (cells_of (map (changed_slot change) slots)) q ≡ option_map changed (fin_map.get (cells_of slots) q)
-  get-changed slots q =
-      get-cells_of (map (changed_slot change) slots) q ∙ ap (find nat_cmp q) (by_number-changed 0 slots) ∙ find-changed q (by_number 0 slots)
-      ∙ ap (option_map changed) (sym (get-cells_of slots q))
+  get-changed slots q = grind (arith, get-cells_of, by_number-changed, find-changed)
 
   pub cells_changed : (slots : List (Option (Numbered (Cell P T W)))) → cells_of (map (changed_slot change) slots) ≡ each_changed change (cells_of slots)
   cells_changed slots =
@@ -86,42 +83,23 @@ module _ {P T W : Type 0} (change : Cell P T W → Cell P T W) where
 module _ {P T : Type 0} where
   -- what is idle is scheduled then, and nothing else is that was not
   scheduled_changed : (s : CellState P T) → cond (is_scheduled s) 1 0 + cond (is_idle s) 1 0 ≡ cond (is_scheduled (state_woken s)) 1 0
-  scheduled_changed (Idle p) = refl
-  scheduled_changed (Scheduled p) = refl
-  scheduled_changed Held = refl
-  scheduled_changed (Finished t) = refl
-  scheduled_changed Gone = refl
+  scheduled_changed s = grind arith
 
   queueable_changed : (s : CellState P T) → cond (is_idle s) 1 0 + cond (is_idle (state_woken s) || is_held (state_woken s)) 1 0 ≡ cond (is_idle s || is_held s) 1 0
-  queueable_changed (Idle p) = refl
-  queueable_changed (Scheduled p) = refl
-  queueable_changed Held = refl
-  queueable_changed (Finished t) = refl
-  queueable_changed Gone = refl
+  queueable_changed s = grind arith
 
 module _ {P T W : Type 0} where
   settled_changed : (cancels : Bool) (c : Cell P T W) → Settled c → Settled (change_by cancels c)
-  settled_changed true c settled = settled_cancelled c settled
-  settled_changed false c settled = settled_woken c settled
+  settled_changed cancels c settled = grind (arith, settled_cancelled, settled_woken)
 
   state_changed : (cancels : Bool) (c : Cell P T W) → (change_by cancels c).state ≡ state_woken c.state
-  state_changed true c = refl
-  state_changed false c = refl
+  state_changed cancels c = grind arith
 
   law_changed : (cancels : Bool) (o : Option (Slotted P T W)) → cond (scheduled_in o) 1 0 + cond (passing (λ c. is_idle c.state) o) 1 0 ≡ cond (scheduled_in (option_map (changed (change_by cancels)) o)) 1 0
-  law_changed cancels None = refl
-  law_changed cancels (Some s) = scheduled_changed s.cell.state ∙ ap (λ x. cond (is_scheduled x) 1 0) (sym (state_changed cancels s.cell))
+  law_changed cancels o = grind (arith, scheduled_changed, state_changed)
 
   slot_count : (cancels : Bool) (n : ℕ) (s : Option (Numbered (Cell P T W))) → length (cons_option (idle_id n s) []) + cond (is_queueable (changed_slot (change_by cancels) s)) 1 0 ≡ cond (is_queueable s) 1 0
-  slot_count cancels n None = refl
-  slot_count cancels n (Some e) =
-      ap (λ x. length (cons_option (idle_id n (Some e)) []) + cond (is_idle x || is_held x) 1 0) (state_changed cancels e.cell)
-      ∙ ap (λ k. k + cond (is_idle (state_woken e.cell.state) || is_held (state_woken e.cell.state)) 1 0) (one (record { number = e.number; slot = n }) (is_idle e.cell.state))
-      ∙ queueable_changed e.cell.state
-    where
-      one : (id : TaskId) (b : Bool) → length (cons_option (cond b (Some id) None) []) ≡ cond b 1 0
-      one id true = refl
-      one id false = refl
+  slot_count cancels n s = grind (arith, state_changed, queueable_changed)
 
   count_changed : (cancels : Bool) (first : ℕ) (slots : List (Option (Numbered (Cell P T W)))) → length (idle_ids first slots) + count_by is_queueable (map (changed_slot (change_by cancels)) slots) ≡ count_by is_queueable slots
   count_changed cancels first [] = refl
@@ -189,12 +167,7 @@ module _ {P T W : Type 0} where
   -- each cell has a slot of its own
   pub slots_differ : {next undropped : ℕ} {slots : List (Option (Numbered (Cell P T W)))} {ids : List TaskId}
       → IsSound next slots ids undropped → (q : QueueState) (closed : Bool) → SlotsDiffer (table_of next slots q closed)
-  slots_differ {slots = slots} sound q closed n k s t at_n at_k same =
-      let a = get_sees slots n s at_n in
-      let b = get_sees slots k t at_k in
-      let place : a.at ≡ b.at = let one = ap (λ x. x.slot) a.is in let two = ap (λ x. x.slot) b.is in omega arith in
-      let cell : a.cell ≡ b.cell = cc (ap (λ i. get_or slots i None) place, a.there, b.there) in
-      sym a.number ∙ ap (λ x. x.number) cell ∙ b.number
+  slots_differ {slots = slots} sound q closed n k s t at_n at_k same = grind (arith, get_sees slots n s at_n, get_sees slots k t at_k)
 
 -- what is queued then
 pub pushed_all-entries : (ids : List TaskId) (q : QueueLists TaskId) → all_entries (pushed_all ids q) ≡ all_entries q ++ ids
@@ -216,22 +189,10 @@ one_of_two (x ∷ xs) ys = lt-ltb 0 (length (x ∷ xs ++ ys)) (omega arith) ∙ 
 module _ {P T W : Type 0} {next undropped : ℕ} {slots : List (Option (Numbered (Cell P T W)))} {ids : List TaskId} (sound : IsSound next slots ids undropped) (q : QueueState) (closed : Bool) where
   -- what is put at the global end
   closing_is : numbers_of (idle_ids 0 slots ++ local_entries q.lists.locals) ≡ closing (table_of next slots q closed)
-  closing_is =
-      map-append (λ (id : TaskId). id.number) (idle_ids 0 slots) (local_entries q.lists.locals)
-      ∙ (λ i. idle_rising slots sound.distinct i ++ sym (local_entries-map (λ (id : TaskId). id.number) q.lists.locals) i)
+  closing_is = grind (arith, map-append, idle_rising, local_entries-map)
 
   pub close_table : table_of next (map (changed_slot (change_by true)) slots) (with_lists (gathered (pushed_all (idle_ids 0 slots) q.lists)) q) true ≡ after_close (table_of next slots q closed)
-  close_table =
-      let table = table_of next slots q closed in
-      let global = ap numbers_of (append_assoc q.lists.global (idle_ids 0 slots) (local_entries q.lists.locals)) ∙ map-append (λ (id : TaskId). id.number) q.lists.global (idle_ids 0 slots ++ local_entries q.lists.locals) ∙ ap (λ l. table.global ++ l) closing_is in
-      λ i. record table {
-        cells = cells_changed cancelled_cell slots i;
-        global = global i;
-        locals = emptied-map (λ (id : TaskId). id.number) q.lists.locals i;
-        closed = true;
-      }
+  close_table = grind (arith, append_assoc, map-append, closing_is, cells_changed, emptied-map)
 
   pub close_notice : (nat_lt 0 (length (idle_ids 0 slots)) || nat_lt 0 (length (local_entries q.lists.locals))) ≡ close_queues (table_of next slots q closed)
-  close_notice =
-      let ids = idle_ids 0 slots ++ local_entries q.lists.locals in
-      sym (one_of_two (idle_ids 0 slots) (local_entries q.lists.locals)) ∙ ap (λ n. nat_lt 0 n) (sym (length-map ids (λ (id : TaskId). id.number)) ∙ ap length closing_is)
+  close_notice = grind (arith, one_of_two, length-map, closing_is)

@@ -1,5 +1,5 @@
 -- What a cancel, and the end of a task that was cancelled, keep and give.
-use Rattle.std.proofs.Common.{◌≡◌, ℕ, ◌-◌, ◌&&◌, Bool, true, false, List, [], ◌∷◌, ◌++◌, set, get_or, Option, Some, None, cond, refl, sym, ap, ◌∙◌}
+use Rattle.std.proofs.Common.{◌≡◌, ℕ, ◌-◌, ◌&&◌, Bool, true, false, List, [], ◌∷◌, ◌++◌, set, get_or, Option, Some, None, cond, refl, sym, ap, ◌∙◌, arith}
 use Rattle.executor_core.specs.Cells.{Table}
 use Rattle.executor_core.specs.Cell.{is_idle, is_held}
 use Rattle.executor_core.specs.Cells.View.{numbers_of, table_of, IsSound, Settled}
@@ -55,12 +55,10 @@ module _ {P T W : Type 0} where
 
   -- the handle is not there
   pub after_cancel-absent : (table : Table P T W) (id : TaskId) (o : Option (Cell P T W)) → handle_in o ≡ false → cancel_at table id o ≡ table
-  after_cancel-absent table id None h = refl
-  after_cancel-absent table id (Some c) h = ap (λ b. cond b (queued_if (is_idle c.state) (with_cell table id (cancelled_cell c)) id) table) h
+  after_cancel-absent table id o h = grind arith
 
   pub cancel_queues-absent : (o : Option (Cell P T W)) → handle_in o ≡ false → passes (λ c. c.has_handle && is_idle c.state) o ≡ false
-  cancel_queues-absent None h = refl
-  cancel_queues-absent (Some c) h = ap (λ b. b && is_idle c.state) h
+  cancel_queues-absent o h = grind arith
 
   pub disposed_sound : {next undropped : ℕ} {slots : List (Option (Numbered (Cell P T W)))} {ids : List TaskId}
       → IsSound next slots ids undropped
@@ -76,9 +74,7 @@ module _ {P T W : Type 0} where
 
   -- nothing is out for the id
   pub after_end_dropped-absent : (table : Table P T W) (id : TaskId) (o : Option (Cell P T W)) → held_in o ≡ false → end_dropped_at table id o ≡ table
-  after_end_dropped-absent table id None h = refl
-  after_end_dropped-absent table id (Some c) h = ap (λ b. cond b (cond c.has_handle (with_cell table id (disposed c)) (without_cell table id)) table) h
+  after_end_dropped-absent table id o h = grind arith
 
   pub dropped_answer-absent : (o : Option (Cell P T W)) → held_in o ≡ false → dropped_answer o ≡ None
-  dropped_answer-absent None h = refl
-  dropped_answer-absent (Some c) h = ap (λ b. cond b (wakeup_of c.awaiter) None) h
+  dropped_answer-absent o h = grind arith

@@ -1,11 +1,11 @@
 -- What the end of a handle keeps and gives.
-use Rattle.std.proofs.Common.{◌≡◌, ℕ, Bool, true, false, List, set, get_or, Option, Some, None, cond, refl, ap, ◌∙◌}
+use Rattle.std.proofs.Common.{◌≡◌, ℕ, Bool, true, false, List, set, get_or, Option, Some, None, cond, refl, arith}
 use Rattle.std.proofs.lemmas.Bool.{eq-eqb}
 use Rattle.executor_core.specs.Cells.{Table}
-use Rattle.executor_core.specs.Cell.{is_idle, is_undropped}
+use Rattle.executor_core.specs.Cell.{is_undropped}
 use Rattle.executor_core.specs.Cells.View.{IsSound}
-use Rattle.executor_core.specs.Cells.Calls.{cell_at, in_slot, with_cell, without_cell, queued_if, handle_in, cancel_at, after_cancel, detach_at, detach_answer}
-use Rattle.executor_core.specs.Cell.Changes.{cancelled_cell, detached, output_of}
+use Rattle.executor_core.specs.Cells.Calls.{cell_at, with_cell, without_cell, handle_in, after_cancel, detach_at, detach_answer}
+use Rattle.executor_core.specs.Cell.Changes.{detached, output_of}
 use Rattle.executor_core.proofs.SlotLemmas.{insert_same}
 use Rattle.executor_core.proofs.WriteLemmas.{kept_sound}
 use Rattle.executor_core.proofs.StateLemmas.{output_of-state_woken}
@@ -32,30 +32,14 @@ module _ {P T W : Type 0} where
 
   -- the handle is not there
   pub after_detach-absent : (table : Table P T W) (id : TaskId) (o : Option (Cell P T W)) → handle_in o ≡ false → detach_at table id o ≡ table
-  after_detach-absent table id None h = refl
-  after_detach-absent table id (Some c) h = rw h refl
+  after_detach-absent table id o h = grind arith
 
   pub detach_answer-absent : (o : Option (Cell P T W)) → handle_in o ≡ false → detach_answer o ≡ (None, None)
-  detach_answer-absent None h = refl
-  detach_answer-absent (Some c) h = rw h refl
+  detach_answer-absent o h = grind arith
 
   pub cell_at-with_cell : (table : Table P T W) (id : TaskId) (c : Cell P T W) → cell_at (with_cell table id c) id ≡ Some c
-  cell_at-with_cell table id c =
-      ap (in_slot id.slot) (insert_same table.cells id.number (record { slot = id.slot; cell = c }) id.number refl)
-      ∙ ap (λ b. cond b (Some c) None) (eq-eqb id.slot id.slot refl)
+  cell_at-with_cell table id c = grind (arith, insert_same, eq-eqb)
 
   -- a cancel changes nothing of what a detach gives
   pub detach_answer-after_cancel : (table : Table P T W) (id : TaskId) → detach_answer (cell_at (after_cancel table id) id) ≡ detach_answer (cell_at table id)
-  detach_answer-after_cancel table id = by_cell (cell_at table id) refl
-    where
-      marked : (c : Cell P T W) → detach_answer (Some (cancelled_cell c)) ≡ detach_answer (Some c)
-      marked c = ap (λ t. cond c.has_handle (pair_of t c.awaiter) (None, None)) (output_of-state_woken c.state)
-
-      by_handle : (c : Cell P T W) (b : Bool) → cell_at table id ≡ Some c
-          → detach_answer (cell_at (cond b (queued_if (is_idle c.state) (with_cell table id (cancelled_cell c)) id) table) id) ≡ detach_answer (Some c)
-      by_handle c true is = ap detach_answer (cell_at-with_cell table id (cancelled_cell c)) ∙ marked c
-      by_handle c false is = ap detach_answer is
-
-      by_cell : (o : Option (Cell P T W)) → cell_at table id ≡ o → detach_answer (cell_at (cancel_at table id o) id) ≡ detach_answer o
-      by_cell None is = ap detach_answer is
-      by_cell (Some c) is = by_handle c c.has_handle is
+  detach_answer-after_cancel table id = grind (arith, output_of-state_woken, cell_at-with_cell)

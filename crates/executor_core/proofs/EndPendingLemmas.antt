@@ -1,5 +1,5 @@
 -- What the end of a poll that was pending keeps and gives.
-use Rattle.std.proofs.Common.{◌≡◌, ℕ, Bool, ◌||◌, true, false, List, [], ◌∷◌, ◌++◌, set, get_or, Option, Some, None, cond, refl, sym, ap, ◌∙◌}
+use Rattle.std.proofs.Common.{◌≡◌, ℕ, Bool, ◌||◌, true, false, List, [], ◌∷◌, ◌++◌, set, get_or, Option, Some, None, cond, sym, ap, ◌∙◌, arith}
 use Rattle.executor_core.specs.Cells.{Table}
 use Rattle.executor_core.specs.Cell.{is_idle, is_held, is_scheduled, is_undropped}
 use Rattle.executor_core.specs.Cells.View.{numbers_of, table_of, IsSound}
@@ -53,8 +53,7 @@ module _ {P T W : Type 0} where
 
   -- nothing is out for the id
   pub after_end_pending-absent : (table : Table P T W) (id : TaskId) (p : P) (o : Option (Cell P T W)) → takes_back_in o ≡ false → end_pending_at table id p o ≡ table
-  after_end_pending-absent table id p None h = refl
-  after_end_pending-absent table id p (Some c) h = ap (λ b. cond b (queued_if c.woken (with_cell table id (pended c p)) id) table) h
+  after_end_pending-absent table id p o h = grind arith
 
   pub woken_in_is : {next undropped : ℕ} {slots : List (Option (Numbered (Cell P T W)))} {ids : List TaskId}
       → IsSound next slots ids undropped → (id : TaskId) (e : Numbered (Cell P T W)) → get_or slots id.slot None ≡ Some e → e.number ≡ id.number

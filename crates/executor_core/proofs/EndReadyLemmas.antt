@@ -25,8 +25,7 @@ use Rattle.executor_core.proofs.RemoveLemmas.{remove_sound, counted_one}
 
 module _ {P T : Type 0} where
   readied_state : (b : Bool) (s : CellState P T) (t : T) → s ≡ cond b Gone (Finished t) → (is_scheduled s ≡ false) × ((is_idle s || is_held s) ≡ false)
-  readied_state true s t e = rw e (refl, refl)
-  readied_state false s t e = rw e (refl, refl)
+  readied_state b s t e = grind arith
 
 arith_end : (u l : ℕ) {a b : Bool} → (u - 1) + 1 ≡ u → a ≡ true → b ≡ false → (u - 1) + (l + cond a 1 0) ≡ u + (l + cond b 1 0)
 arith_end u l e f g = rw (f, g) (omega arith)
@@ -64,12 +63,10 @@ module _ {P T W : Type 0} where
       remove_sound sound key e there facts.0 new changes (undropped - 1) (ap (λ b. (undropped - 1) + cond b 1 0) facts.1 ∙ counted_one sound key e there facts.1)
 
   pub after_end_ready-absent : (table : Table P T W) (id : TaskId) (t : T) (o : Option (Cell P T W)) → held_in o ≡ false → end_ready_at table id t o ≡ table
-  after_end_ready-absent table id t None h = refl
-  after_end_ready-absent table id t (Some c) h = ap (λ b. cond b (cond c.has_handle (with_cell table id (readied c t)) (without_cell table id)) table) h
+  after_end_ready-absent table id t o h = grind arith
 
   pub ready_answer-absent : (t : T) (o : Option (Cell P T W)) → held_in o ≡ false → ready_answer t o ≡ record { awaiter = None; unwanted = Some t }
-  ready_answer-absent t None h = refl
-  ready_answer-absent t (Some c) h = rw h refl
+  ready_answer-absent t o h = grind arith
 
   pub readied_some : (table : Table P T W) (id : TaskId) (t : T) (c : Cell P T W) {b : Bool} → is_held c.state ≡ true → c.has_handle ≡ b → end_ready_at table id t (Some c) ≡ cond b (with_cell table id (readied c t)) (without_cell table id)
   readied_some table id t c held handle = rw (held, handle) refl
@@ -94,12 +91,10 @@ module _ {P T W : Type 0} where
       remove_sound sound key e there facts.0 new changes undropped (ap (λ b. undropped + cond b 1 0) facts.1 ∙ add-zero undropped)
 
   pub after_poll_handle-absent : (table : Table P T W) (id : TaskId) (w : W) (o : Option (Cell P T W)) → handle_in o ≡ false → poll_handle_at table id w o ≡ table
-  after_poll_handle-absent table id w None h = refl
-  after_poll_handle-absent table id w (Some c) h = rw h refl
+  after_poll_handle-absent table id w o h = grind arith
 
   pub poll_answer-absent : (w : W) (o : Option (Cell P T W)) → handle_in o ≡ false → poll_answer w o ≡ Cancelled w
-  poll_answer-absent w None h = refl
-  poll_answer-absent w (Some c) h = rw h refl
+  poll_answer-absent w o h = grind arith
 
   pub polled_some : (table : Table P T W) (id : TaskId) (w : W) (c : Cell P T W) {b : Bool} → c.has_handle ≡ true → is_undropped c.state ≡ b → poll_handle_at table id w (Some c) ≡ cond b (with_cell table id (awaited c w)) (without_cell table id)
   polled_some table id w c handle undropped = rw (handle, undropped) refl
@@ -114,11 +109,7 @@ module _ {P T W : Type 0} where
   set_table {closed} {next} {slots = slots} sound q id e c there number = table_set next slots q id e c (numbers_of q.lists.global) sound.distinct there number refl
 
   pub answer_kept : (t : T) (c : Cell P T W) → is_held c.state ≡ true → c.has_handle ≡ true → ready_answer t (Some c) ≡ record { awaiter = wakeup_of c.awaiter; unwanted = cond c.cancelled (Some t) None }
-  answer_kept t c held handle = answer_some t c held handle ∙ by c.cancelled
-    where
-      by : (b : Bool) → ◌≡◌ {A = EndReady T W} (record { awaiter = wakeup_of c.awaiter; unwanted = cond (true && not b) None (Some t) }) (record { awaiter = wakeup_of c.awaiter; unwanted = cond b (Some t) None })
-      by true = refl
-      by false = refl
+  answer_kept t c held handle = grind (arith, answer_some)
 
 abbrev pub end_ready_of : {T W : Type 0} → Option (Wakeup W) → Option T → EndReady T W
 end_ready_of a u = record { awaiter = a; unwanted = u }

@@ -30,16 +30,13 @@ module _ {P T W : Type 0} where
   cell_of slots id = in_slot id.slot (map.get (cells_of slots) id.number)
 
   in_slot_none : (slot : ℕ) (o : Option (Slotted P T W)) → ((s : Slotted P T W) → o ≡ Some s → s.slot ≢ slot) → in_slot slot o ≡ None
-  in_slot_none slot None h = refl
-  in_slot_none slot (Some s) h = ap (λ b. cond b (Some s.cell) None) (ne_eqb s.slot slot (h s refl))
+  in_slot_none slot o h = grind (arith, ne_eqb)
 
   -- a slot's cell is the id's, if the number is the id's
   pub cell_at_entry : {next undropped : ℕ} {slots : List (Option (Numbered (Cell P T W)))} {ids : List TaskId}
       → IsSound next slots ids undropped
       → (id : TaskId) (e : Numbered (Cell P T W)) → get_or slots id.slot None ≡ Some e → e.number ≡ id.number → cell_of slots id ≡ Some e.cell
-  cell_at_entry {slots = slots} sound id e there number =
-      ap (in_slot id.slot) (ap (map.get (cells_of slots)) (sym number) ∙ sees_get slots sound.distinct id.slot e there)
-      ∙ ap (λ b. cond b (Some e.cell) None) (eq-eqb id.slot id.slot refl)
+  cell_at_entry {slots = slots} sound id e there number = grind (arith, sees_get, eq-eqb)
 
   cell_at_none : (slots : List (Option (Numbered (Cell P T W)))) (id : TaskId)
       → is_numbered id.number (get_or slots id.slot None) ≡ false → cell_of slots id ≡ None
@@ -97,9 +94,4 @@ module _ {P T W : Type 0} where
   -- what a test finds in the cell that a slot has for a number
   pub facts_at : (F : Option (Cell P T W) → Bool) → F None ≡ false → (n : ℕ) (o : Option (Numbered (Cell P T W))) (e : Numbered (Cell P T W)) → o ≡ Some e
       → F (cell_in n o) ≡ true → (e.number ≡ n) × (F (Some e.cell) ≡ true)
-  facts_at F none n o e is h =
-      let at : F (cond (e.number == n) (Some e.cell) None) ≡ true = ap (λ x. F (cell_in n x)) (sym is) ∙ h in
-      elim (cases_Bool (e.number == n)) [
-        | inl same ↦ (eqb-true e.number n same, sym (ap (λ b. F (cond b (Some e.cell) None)) same) ∙ at)
-        | inr far ↦ absurd (cc (ap (λ b. F (cond b (Some e.cell) None)) far, none, at))
-      ]
+  facts_at holds none n o e is h = grind (arith, cases_Bool, eqb-true)

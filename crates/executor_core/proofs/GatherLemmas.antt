@@ -2,7 +2,7 @@
 use Rattle.std.proofs.Common.{◌≡◌, ℕ, zero, suc, ◌+◌, ◌≤◌, List, [], ◌∷◌, ◌++◌, map, length, set, Some, refl, sym, ap, subst, ◌∙◌, append_assoc, append-nil, arith}
 use Rattle.std.proofs.lemmas.List.{map-set}
 use Rattle.std.proofs.lemmas.Option.{slice_get-map}
-use Rattle.std.specs.Prelude.{option_map, slice_get}
+use Rattle.std.specs.Prelude.{slice_get}
 use Rattle.std.specs.List.Sorted.{IsPermutation}
 use Rattle.std.proofs.lemmas.List.Sorted.{IsPermutation-append_comm}
 use Rattle.executor_core.specs.Queues.{RunnerQueue, QueueLists, all_entries, emptied, local_entries, gathered, map_local}
@@ -76,8 +76,7 @@ module _ {X : Type 0} where
 -- one more queue is moved
 module _ (n : ℕ) (first : List (RunnerQueue TaskId)) (locals : List LocalQueue) (l : LocalQueue) (moved : map local_of locals ≡ emptied_below n first) (there : slice_get locals n ≡ Some l) where
   next_queue : slice_get first n ≡ Some (local_of l)
-  next_queue =
-      sym (emptied_below-at n first) ∙ ap (λ k. slice_get k n) (sym moved) ∙ slice_get-map local_of locals n ∙ ap (option_map local_of) there
+  next_queue = grind (arith, emptied_below-at, slice_get-map)
 
   pub next_entries : entries_below (n + 1) first ≡ entries_below n first ++ l.ring.ids
   next_entries = let next : n + 1 ≡ suc n = omega arith in ap (λ k. entries_below k first) next ∙ entries_below-next n first (local_of l) next_queue

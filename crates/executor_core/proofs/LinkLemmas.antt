@@ -96,8 +96,7 @@ module _ {P T W : Type 0} where
 
   -- a write of a link alone
   pub entries_kept : (slots : List (Option (Slot P T W))) (key : ℕ) (s t : Slot P T W) → get_or slots key None ≡ Some s → t.entry ≡ s.entry → entries_of (set slots key (Some t)) ≡ entries_of slots
-  entries_kept slots key s t there same =
-      entries-set slots key t ∙ ap (λ e. set (entries_of slots) key (Some e)) same ∙ same_set (entries_of slots) key s.entry (entry_at slots key s there)
+  entries_kept slots key s t there same = grind (arith, entries-set, same_set, entry_at)
 
   -- what a walk meets
   walked : (slots : List (Option (Slot P T W))) (ids : List TaskId) (at : ℕ) → Chain slots ids at → walk slots (length ids) at ≡ ids
@@ -112,9 +111,7 @@ module _ {P T W : Type 0} where
   walk_is slots ids first len chain same = ap (λ n. walk slots n first) same ∙ walked slots ids first chain
 
   pub is_linked : (slots : List (Option (Slot P T W))) (ids : List TaskId) (first last len : ℕ) → IsChain slots first last ids → len ≡ length ids → IsLinked slots first last len
-  is_linked slots ids first last len linked same =
-      let is = walk_is slots ids first len linked.chain same in
-      record { linked = subst (IsChain slots first last) (sym is) linked; counted = ap length is ∙ sym same }
+  is_linked slots ids first last len linked same = grind (arith, walk_is)
 
   pub view_linked : (slots : List (Option (Slot P T W))) (ids : List TaskId) (entries : List (Option (Numbered (Cell P T W)))) (first last len : ℕ) → IsChain slots first last ids → len ≡ length ids → entries_of slots ≡ entries
       → slots_of slots first len ≡ record { slots = entries; queue = ids }
@@ -174,16 +171,7 @@ module _ {P T W : Type 0} where
   -- what the links are after a change of a slot that is not queued
   pub beside_linked : (old new : List (Option (Slot P T W))) (key : ℕ) (slot : Option (Slot P T W)) (first last : ℕ) (ids : List TaskId) → IsChain old first last ids → Changes old new key slot → Beside key ids
       → ((s : Slot P T W) → slot ≡ Some s → s.next ≡ no_slot) → IsChain new first last ids
-  beside_linked old new key slot first last ids linked changes beside clear =
-      record {
-        chain = chain_beside old new key slot changes ids first beside linked.chain;
-        apart = linked.apart;
-        ends = linked.ends;
-        cleared = λ at s there far. elim (cases_eq at key) [
-          | inl here ↦ clear s (sym changes.changed ∙ ap (λ k. get_or new k None) (sym here) ∙ there)
-          | inr other ↦ linked.cleared at s (sym (changes.others at other) ∙ there) far
-        ];
-      }
+  beside_linked old new key slot first last ids linked changes beside clear = grind (arith, chain_beside, cases_eq)
 
   -- what a change of one slot makes of the entries
   pub entries_changes : (old new : List (Option (Slot P T W))) (key : ℕ) (s : Slot P T W) → Changes old new key (Some s) → Changes (entries_of old) (entries_of new) key (Some s.entry)
@@ -207,16 +195,11 @@ module _ {P T W : Type 0} where
 
   -- the number of a slot is the id's
   pub named_entry : (slots : List (Option (Slot P T W))) (id : TaskId) (s : Slot P T W) → HasCell (entries_of slots) id → get_or slots id.slot None ≡ Some s → s.entry ≡ numbered id s.entry.cell
-  named_entry slots id s has there =
-      let both : Some s.entry ≡ Some has.0 = sym (entry_at slots id.slot s there) ∙ has.1 in
-      let same : s.entry ≡ has.0 = cc in
-      let number = ap (λ (e : Numbered (Cell P T W)). e.number) same ∙ has.2 in
-      λ i. record { number = number i; cell = s.entry.cell }
+  named_entry slots id s has there = grind (arith, entry_at)
 
   -- a slot that was empty gets a cell
   pub inserted_linked : (old new : List (Option (Slot P T W))) (key : ℕ) (s : Slot P T W) (first last : ℕ) (ids : List TaskId) → IsChain old first last ids → get_or old key None ≡ None → Changes old new key (Some s) → s.next ≡ no_slot → IsChain new first last ids
-  inserted_linked old new key s first last ids linked none changes clear =
-      beside_linked old new key (Some s) first last ids linked changes (unmet old key none ids first linked.chain) (λ t is. let same : s ≡ t = cc in ap (λ (x : Slot P T W). x.next) (sym same) ∙ clear)
+  inserted_linked old new key s first last ids linked none changes clear = grind (arith, beside_linked, unmet)
 
   pub new_beside : (old : List (Option (Slot P T W))) (key first last : ℕ) (ids : List TaskId) → IsChain old first last ids → get_or old key None ≡ None → Beside key ids
   new_beside old key first last ids linked none = unmet old key none ids first linked.chain

@@ -1,6 +1,6 @@
 -- Lists by index: a read after a write or a push.
 use Rattle.std.proofs.Common.{◌≡◌, ◌≢◌, ℕ, zero, suc, ◌+◌, ◌<◌, ◌≤◌, ◌||◌, Bool, true, false, cond, List, [], ◌∷◌, ◌++◌, length, Some, None, refl, sym, ap, ◌∙◌, arith}
-use Rattle.std.proofs.lemmas.Bool.{or_left, or_right, false≢true}
+use Rattle.std.proofs.lemmas.Bool.{or_left, or_right}
 use Rattle.std.proofs.lemmas.Option.{slice_get_read, slice_get_past}
 use Rattle.std.proofs.lemmas.List.Sums.{sum_by-cons}
 use Rattle.std.specs.List.{list_any}
@@ -75,10 +75,7 @@ module _ {X : Type 0} where
   set-here (y ∷ ys) (suc n) x is = ap (λ l. y ∷ l) (set-here ys n x is)
 
 count_step : (a b : Bool) (c d : ℕ) → (a ≡ true → b ≡ true) → c ≤ d → cond a 1 0 + c ≤ cond b 1 0 + d
-count_step true true c d gives most = omega arith
-count_step true false c d gives most = absurd (false≢true (gives refl))
-count_step false true c d gives most = omega arith
-count_step false false c d gives most = omega arith
+count_step a b c d gives most = grind arith
 
 -- what a write makes of a sum, and of a test of each item
 module _ {X : Type 0} where

@@ -7,7 +7,7 @@ use Rattle.std.proofs.lemmas.List.Sorted.{IsPermutation-refl, IsPermutation-tran
 use Rattle.std.proofs.lemmas.Option.{slice_get-map, slice_get-get_or}
 use Rattle.std.proofs.lemmas.List.Quantifiers.{position-Some}
 use Rattle.std.proofs.lemmas.Iterator.Adapters.{position_from-zero}
-use Rattle.std.specs.Prelude.{◌==◌, IsPermutation, nat_lt, option_map, is_some, slice_get}
+use Rattle.std.specs.Prelude.{◌==◌, IsPermutation, option_map, is_some, slice_get}
 use Rattle.std.specs.List.{position, position_from, prefix_len, find, flat_map, remove}
 use Rattle.executor_core.specs.Queues.{QueueLists, RunnerQueue, steal_count, stolen, is_runner, position_of, entries_or, capacity_or, entries_at, capacity_at, set_entries, with_entries, local_entries_at, all_entries, global_front, global_stolen, visits, can_steal, victim, stolen_between, local_front, steal_from, search_shared, search_own, search_at, search, search_global, first_occupied, front_at, any_front, search_any, fair_at, fair_count_at, unregistered_at, map_local, map_queues, fair, fair_count, registered, unregistered, entries_of, is_registered}
 use Rattle.executor_core.specs.Queues.State.{pushed}
@@ -21,10 +21,7 @@ module _ {X Y : Type 0} (g : X → Y) where
   prefix_len-map p (x ∷ xs) = ap (λ n. cond (p (g x)) (1 + n) 0) (prefix_len-map p xs)
 
   pub position-map : (p : Y → Bool) (xs : List X) → position p (map g xs) ≡ position (λ x. p (g x)) xs
-  position-map p xs =
-      let below : ℕ → ℕ → Option ℕ = λ i n. cond (nat_lt i n) (Some i) None in
-      let first = prefix_len (λ x. not (p (g x))) xs in
-      ap (λ i. below i (length (map g xs))) (prefix_len-map (λ y. not (p y)) xs) ∙ ap (λ n. below first n) (length-map xs g)
+  position-map p xs = grind (arith, prefix_len-map, length-map)
 
   pub remove-map : (xs : List X) (i : ℕ) → remove (map g xs) i ≡ map g (remove xs i)
   remove-map xs i = ap (λ l. l ++ drop (suc i) (map g xs)) (take-map g i xs) ∙ ap (λ l. map g (take i xs) ++ l) (drop-map g (suc i) xs) ∙ sym (map-append g (take i xs) (drop (suc i) xs))
@@ -50,12 +47,10 @@ module _ {X Y : Type 0} (f : X → Y) where
   position_of-map k locals = position-map (map_local f) (is_runner k) locals
 
   entries_or-map : (o : Option (RunnerQueue X)) → entries_or (option_map (map_local f) o) ≡ map f (entries_or o)
-  entries_or-map None = refl
-  entries_or-map (Some q) = refl
+  entries_or-map o = grind arith
 
   capacity_or-map : (o : Option (RunnerQueue X)) → capacity_or (option_map (map_local f) o) ≡ capacity_or o
-  capacity_or-map None = refl
-  capacity_or-map (Some q) = refl
+  capacity_or-map o = grind arith
 
   pub entries_at-map : (r : ℕ) (locals : List (RunnerQueue X)) → entries_at r (map (map_local f) locals) ≡ map f (entries_at r locals)
   entries_at-map r locals = ap entries_or (slice_get-map (map_local f) locals r) ∙ entries_or-map (slice_get locals r)
@@ -64,8 +59,7 @@ module _ {X Y : Type 0} (f : X → Y) where
   capacity_at-map r locals = ap capacity_or (slice_get-map (map_local f) locals r) ∙ capacity_or-map (slice_get locals r)
 
   set_entries-map : (r : ℕ) (es : List X) (o : Option (RunnerQueue X)) (locals : List (RunnerQueue X)) → set_entries r (map f es) (option_map (map_local f) o) (map (map_local f) locals) ≡ map (map_local f) (set_entries r es o locals)
-  set_entries-map r es None locals = refl
-  set_entries-map r es (Some q) locals = sym (map-set (map_local f) locals r (record q { entries = es }))
+  set_entries-map r es o locals = grind (arith, map-set)
 
   pub with_entries-map : (r : ℕ) (es : List X) (locals : List (RunnerQueue X)) → with_entries r (map f es) (map (map_local f) locals) ≡ map (map_local f) (with_entries r es locals)
   with_entries-map r es locals = ap (λ o. set_entries r (map f es) o (map (map_local f) locals)) (slice_get-map (map_local f) locals r) ∙ set_entries-map r es (slice_get locals r) locals
@@ -74,13 +68,11 @@ module _ {X Y : Type 0} (f : X → Y) where
   appended n source target = ap (λ l. map f target ++ l) (take-map f n source) ∙ sym (map-append f target (take n source))
 
   stolen-map : (source target : List X) (capacity : ℕ) → stolen (map f source) (map f target) capacity ≡ stolen source target capacity
-  stolen-map source target capacity =
-      ap (λ n. steal_count n (capacity - length (map f target))) (length-map source f) ∙ ap (λ n. steal_count (length source) (capacity - n)) (length-map target f)
+  stolen-map source target capacity = grind (arith, length-map)
 
   -- how many a steal moves to the queue at r
   stolen_at-map : (source : List X) (r : ℕ) (locals : List (RunnerQueue X)) → stolen (map f source) (entries_at r (map (map_local f) locals)) (capacity_at r (map (map_local f) locals)) ≡ stolen source (entries_at r locals) (capacity_at r locals)
-  stolen_at-map source r locals =
-      ap (λ es. stolen (map f source) es (capacity_at r (map (map_local f) locals))) (entries_at-map r locals) ∙ ap (λ c. stolen (map f source) (map f (entries_at r locals)) c) (capacity_at-map r locals) ∙ stolen-map source (entries_at r locals) (capacity_at r locals)
+  stolen_at-map source r locals = grind (arith, entries_at-map, capacity_at-map, stolen-map)
 
   moved-map : (r n : ℕ) (source target : List X) (locals : List (RunnerQueue X)) → moved r n (map f source) (map f target) (map (map_local f) locals) ≡ map_queues f (moved r n source target locals)
   unfolding moved
@@ -120,15 +112,10 @@ module _ {X Y : Type 0} (f : X → Y) where
   stolen_between-map s r q = queues_same _ _ _ _ refl (stolen_between_locals-map s r q)
 
   can_steal-map : (r : ℕ) (locals : List (RunnerQueue X)) (s : ℕ) → can_steal r (map (map_local f) locals) s ≡ can_steal r locals s
-  can_steal-map r locals s =
-      ap (λ es. nat_lt 0 (steal_count (length es) (capacity_at r (map (map_local f) locals)))) (entries_at-map s locals)
-      ∙ ap (λ n. nat_lt 0 (steal_count n (capacity_at r (map (map_local f) locals)))) (length-map (entries_at s locals) f)
-      ∙ ap (λ c. nat_lt 0 (steal_count (length (entries_at s locals)) c)) (capacity_at-map r locals)
+  can_steal-map r locals s = grind (arith, entries_at-map, length-map, capacity_at-map)
 
   pub victim-map : (r word : ℕ) (locals : List (RunnerQueue X)) → victim r word (map (map_local f) locals) ≡ victim r word locals
-  victim-map r word locals =
-      ap (λ n. find (can_steal r (map (map_local f) locals)) (visits r word n)) (length-map locals (map_local f))
-      ∙ find-same (can_steal r (map (map_local f) locals)) (can_steal r locals) (visits r word (length locals)) (can_steal-map r locals)
+  victim-map r word locals = grind (arith, length-map, find-same, can_steal-map)
 
 -- what a search finds, and the queues after it
 module _ {X Y : Type 0} (f : X → Y) where
@@ -213,8 +200,7 @@ module _ {X Y : Type 0} (f : X → Y) where
   is_registered-map k locals = ap is_some (position_of-map f k locals)
 
   local_entries_at-map : (o : Option ℕ) (locals : List (RunnerQueue X)) → local_entries_at o (map (map_local f) locals) ≡ map f (local_entries_at o locals)
-  local_entries_at-map None locals = refl
-  local_entries_at-map (Some r) locals = entries_at-map f r locals
+  local_entries_at-map o locals = grind (arith, entries_at-map)
 
   pub entries_of-map : (k : ℕ) (locals : List (RunnerQueue X)) → entries_of k (map (map_local f) locals) ≡ map f (entries_of k locals)
   entries_of-map k locals = ap (λ o. local_entries_at o (map (map_local f) locals)) (position_of-map f k locals) ∙ local_entries_at-map (position_of k locals) locals
@@ -227,15 +213,13 @@ module _ {X Y : Type 0} (f : X → Y) where
   fair-map k q = ap (λ o. fair_at o (map_queues f q)) (position_of-map f k q.locals) ∙ fair_at-map (position_of k q.locals) q
 
   fair_count_at-map : (o : Option ℕ) (q : QueueLists X) → fair_count_at o (map_queues f q) ≡ fair_count_at o q
-  fair_count_at-map None q = refl
-  fair_count_at-map (Some r) q = stolen_at-map f q.global r q.locals
+  fair_count_at-map o q = grind (arith, stolen_at-map)
 
   pub fair_count-map : (k : ℕ) (q : QueueLists X) → fair_count k (map_queues f q) ≡ fair_count k q
   fair_count-map k q = ap (λ o. fair_count_at o (map_queues f q)) (position_of-map f k q.locals) ∙ fair_count_at-map (position_of k q.locals) q
 
   unregistered_at-map : (o : Option ℕ) (q : QueueLists X) → unregistered_at o (map_queues f q) ≡ map_queues f (unregistered_at o q)
-  unregistered_at-map None q = refl
-  unregistered_at-map (Some r) q = queues_same _ _ _ _ (ap (λ es. map f q.global ++ es) (entries_at-map f r q.locals) ∙ sym (map-append f q.global (entries_at r q.locals))) (remove-map (map_local f) q.locals r)
+  unregistered_at-map o q = grind (arith, queues_same, entries_at-map, map-append, remove-map)
 
   pub unregistered-map : (k : ℕ) (q : QueueLists X) → unregistered k (map_queues f q) ≡ map_queues f (unregistered k q)
   unregistered-map k q = ap (λ o. unregistered_at o (map_queues f q)) (position_of-map f k q.locals) ∙ unregistered_at-map (position_of k q.locals) q
@@ -307,10 +291,7 @@ module _ {X : Type 0} where
 
   -- a queue that is not there gains nothing
   no_room : (r n : ℕ) (source target : List X) (locals : List (RunnerQueue X)) → slice_get locals r ≡ None → n ≡ stolen source target (capacity_at r locals) → take n source ≡ []
-  no_room r n source target locals none counted =
-      let room : capacity_at r locals ≡ 0 = ap capacity_or none in
-      let zero_moved : n ≡ 0 = omega arith in
-      ap (λ m. take m source) zero_moved
+  no_room r n source target locals none counted = grind arith
 
   stolen_permutes : (r : ℕ) (q : QueueLists X) → IsPermutation (all_entries q) (all_entries (global_stolen r q))
   unfolding local_entries
@@ -341,12 +322,10 @@ module _ {X : Type 0} where
   victim_moves r word s locals found = ltb-true 0 (steal_count (length (entries_at s locals)) (capacity_at r locals)) (find_passes (can_steal r locals) (visits r word (length locals)) s found)
 
   take_none : (n : ℕ) → take n (let l : List X = [] in l) ≡ []
-  take_none zero = refl
-  take_none (suc n) = refl
+  take_none n = grind arith
 
   other_kept : (s r : ℕ) (es : List X) (o : Option (RunnerQueue X)) (locals : List (RunnerQueue X)) → r ≢ s → slice_get (set_entries s es o locals) r ≡ slice_get locals r
-  other_kept s r es None locals far = refl
-  other_kept s r es (Some q) locals far = get-set_other locals s r (record q { entries = es }) far
+  other_kept s r es o locals far = grind (arith, get-set_other)
 
   between_permutes : (s r : ℕ) (q : QueueLists X) → r ≢ s → IsPermutation (all_entries q) (all_entries (stolen_between s r q))
   unfolding local_entries
@@ -368,8 +347,7 @@ module _ {X : Type 0} where
       IsPermutation-append_left q.global (local_entries locals) (local_entries (with_entries r (target ++ es) left)) (IsPermutation-trans _ _ _ out end)
 
   entries_set : (r : ℕ) (es : List X) (o : Option (RunnerQueue X)) (locals : List (RunnerQueue X)) → slice_get locals r ≡ o → o ≢ None → entries_at r (set_entries r es o locals) ≡ es
-  entries_set r es None locals is some = absurd (some refl)
-  entries_set r es (Some q) locals is some = ap entries_or (get-set_same locals r (record q { entries = es }) q is)
+  entries_set r es o locals is some = grind (arith, get-set_same)
 
   -- the queue at r is another one, and has something then
   between_gives : (s r word : ℕ) (q : QueueLists X) → entries_at r q.locals ≡ [] → victim r word q.locals ≡ Some s → (r ≢ s) × (0 < length (entries_at r (stolen_between s r q).locals))
@@ -402,8 +380,7 @@ module _ {X : Type 0} where
   search_global-permutes q x found = global_front-permutes q.global q x refl found
 
   global_front-none : (es : List X) (q : QueueLists X) → (global_front es q).0 ≡ None → (global_front es q).1 ≡ q
-  global_front-none [] q none = refl
-  global_front-none (x ∷ es) q none = absurd (cc)
+  global_front-none es q none = grind arith
 
   pub search_global-none : (q : QueueLists X) → (search_global q).0 ≡ None → (search_global q).1 ≡ q
   search_global-none q none = global_front-none q.global q none
@@ -435,35 +412,25 @@ module _ {X : Type 0} where
   search_own-permutes r word (y ∷ rest) q x is found = local_front-permutes r (y ∷ rest) q x is found
 
   search_at-permutes : (o : Option ℕ) (word : ℕ) (q : QueueLists X) (x : X) → (search_at o word q).0 ≡ Some x → IsPermutation (all_entries q) (x ∷ all_entries (search_at o word q).1)
-  search_at-permutes None word q x found = search_global-permutes q x found
-  search_at-permutes (Some r) word q x found = search_own-permutes r word (entries_at r q.locals) q x refl found
+  search_at-permutes o word q x found = grind (arith, search_global-permutes, search_own-permutes)
 
   pub search-permutes : (k word : ℕ) (q : QueueLists X) (x : X) → (search k word q).0 ≡ Some x → IsPermutation (all_entries q) (x ∷ all_entries (search k word q).1)
   search-permutes k word q x found = search_at-permutes (position_of k q.locals) word q x found
 
   pub local_front-none : (r : ℕ) (es : List X) (q : QueueLists X) → (local_front r es q).0 ≡ None → es ≡ []
-  local_front-none r [] q none = refl
-  local_front-none r (x ∷ es) q none = absurd (cc)
+  local_front-none r es q none = grind arith
 
   steal_from-none : (r word : ℕ) (o : Option ℕ) (q : QueueLists X) → entries_at r q.locals ≡ [] → victim r word q.locals ≡ o → (steal_from r o q).0 ≡ None → (steal_from r o q).1 ≡ q
-  steal_from-none r word None q idle chosen none = refl
-  steal_from-none r word (Some s) q idle chosen none =
-      let after = stolen_between s r q in
-      let some = (between_gives s r word q idle chosen).1 in
-      let empty : length (entries_at r after.locals) ≡ 0 = ap length (local_front-none r (entries_at r after.locals) after none) in
-      absurd (omega arith)
+  steal_from-none r word o q idle chosen none = grind (arith, between_gives, local_front-none)
 
   search_shared-none : (r word : ℕ) (es : List X) (q : QueueLists X) → entries_at r q.locals ≡ [] → (search_shared r word es q).0 ≡ None → (search_shared r word es q).1 ≡ q
-  search_shared-none r word [] q idle none = steal_from-none r word (victim r word q.locals) q idle refl none
-  search_shared-none r word (x ∷ es) q idle none = absurd (cc)
+  search_shared-none r word es q idle none = grind (arith, steal_from-none)
 
   search_own-none : (r word : ℕ) (es : List X) (q : QueueLists X) → entries_at r q.locals ≡ es → (search_own r word es q).0 ≡ None → (search_own r word es q).1 ≡ q
-  search_own-none r word [] q is none = search_shared-none r word q.global q is none
-  search_own-none r word (x ∷ es) q is none = absurd (cc)
+  search_own-none r word es q is none = grind (arith, search_shared-none)
 
   search_at-none : (o : Option ℕ) (word : ℕ) (q : QueueLists X) → (search_at o word q).0 ≡ None → (search_at o word q).1 ≡ q
-  search_at-none None word q none = search_global-none q none
-  search_at-none (Some r) word q none = search_own-none r word (entries_at r q.locals) q refl none
+  search_at-none o word q none = grind (arith, search_global-none, search_own-none)
 
   pub search-none : (k word : ℕ) (q : QueueLists X) → (search k word q).0 ≡ None → (search k word q).1 ≡ q
   search-none k word q none = search_at-none (position_of k q.locals) word q none
@@ -547,15 +514,13 @@ module _ {X : Type 0} where
   unregistered-permutes k q = unregistered_at-permutes (position_of k q.locals) q
 
   unregistered_at-global : (o : Option ℕ) (q : QueueLists X) → (unregistered_at o q).global ≡ q.global ++ local_entries_at o q.locals
-  unregistered_at-global None q = sym (append-nil q.global)
-  unregistered_at-global (Some r) q = refl
+  unregistered_at-global o q = grind (arith, append-nil)
 
   pub unregistered-global : (k : ℕ) (q : QueueLists X) → (unregistered k q).global ≡ q.global ++ entries_of k q.locals
   unregistered-global k q = unregistered_at-global (position_of k q.locals) q
 
   pub registered-entries : (k capacity : ℕ) (q : QueueLists X) → all_entries (registered k capacity q) ≡ all_entries q
-  registered-entries k capacity q =
-      ap (λ es. es ++ q.global) (flat_map-append (λ (l : RunnerQueue X). l.entries) q.locals (record { runner = k; entries = []; capacity = capacity } ∷ []) ∙ append-nil (flat_map (λ (l : RunnerQueue X). l.entries) q.locals))
+  registered-entries k capacity q = grind (arith, flat_map-append, append-nil)
 
 pub pushed-entries : (id : TaskId) (q : QueueLists TaskId) → all_entries (pushed id q) ≡ all_entries q ++ id ∷ []
 pushed-entries id q = sym (append_assoc (flat_map (λ (l : RunnerQueue TaskId). l.entries) q.locals) q.global (id ∷ []))

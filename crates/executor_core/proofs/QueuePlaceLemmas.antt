@@ -65,26 +65,10 @@ pub distinct-remove : (numbers : List ℕ) (r : ℕ) → AllDistinct numbers →
 distinct-remove numbers r distinct i j n a b = shifted-same r i j (distinct (shifted r i) (shifted r j) n (sym (get-remove numbers r i) ∙ a) (sym (get-remove numbers r j) ∙ b))
 
 pushed_at : (numbers : List ℕ) (n i m : ℕ) → slice_get (numbers ++ n ∷ []) i ≡ Some m → ((i ≡ length numbers) × (m ≡ n)) ⊎ (slice_get numbers i ≡ Some m)
-pushed_at numbers n i m is =
-    elim (cases_eq i (length numbers)) [
-      | inl same ↦ let last = get-push_last numbers n in let here : slice_get (numbers ++ n ∷ []) i ≡ Some n = ap (slice_get (numbers ++ n ∷ [])) same ∙ last in inl (same, cc)
-      | inr far ↦ inr (sym (get-push_other numbers n i far) ∙ is)
-    ]
+pushed_at numbers n i m is = grind (arith, cases_eq, get-push_last, get-push_other)
 
 pub distinct-push : (numbers : List ℕ) (n : ℕ) → AllDistinct numbers → position (λ m. m == n) numbers ≡ None → AllDistinct (numbers ++ n ∷ [])
-distinct-push numbers n distinct none i j m a b =
-    elim (pushed_at numbers n i m a) [
-      | inl last ↦
-          elim (pushed_at numbers n j m b) [
-            | inl end ↦ last.0 ∙ sym end.0
-            | inr before ↦ absurd (absent numbers n j none (before ∙ ap Some last.1))
-          ]
-      | inr before ↦
-          elim (pushed_at numbers n j m b) [
-            | inl end ↦ absurd (absent numbers n i none (before ∙ ap Some end.1))
-            | inr too ↦ distinct i j m before too
-          ]
-    ]
+distinct-push numbers n distinct none i j m a b = grind (arith, pushed_at, absent)
 
 -- the same of runners
 runner_position : (k : ℕ) (locals : List (RunnerQueue TaskId)) → position (λ m. m == k) (runners_of locals) ≡ position_of k locals

@@ -3,7 +3,7 @@ use Rattle.std.proofs.Common.{◌≡◌, ◌≢◌, ℕ, zero, suc, ◌+◌, ◌
 use Rattle.std.proofs.lemmas.Bool.{cases_Bool, cases_eq, ne_eqb, lt-ltb, le-ltb}
 use Rattle.std.specs.Prelude.{◌==◌, nat_lt, slice_get}
 use Rattle.std.specs.List.{find, filter, range_with_len}
-use Rattle.executor_core.specs.Queues.{QueueLists, RunnerQueue, steal_count, entries_or, entries_at, capacity_at, set_entries, with_entries, visits, gives, can_steal, victim, position_of, global_front, global_stolen, stolen_between, local_front, steal_from, search_shared, search_own, search_at, search_global, search, first_occupied, front_at, any_front, search_any}
+use Rattle.executor_core.specs.Queues.{QueueLists, RunnerQueue, steal_count, entries_or, entries_at, capacity_at, set_entries, with_entries, gives, can_steal, victim, position_of, global_front, global_stolen, stolen_between, local_front, steal_from, search_global, search, first_occupied, front_at, any_front, search_any}
 use Rattle.executor_core.specs.Queues.State.{QueueState, with_lists}
 use Rattle.executor_core.specs.declared.task.id.TaskId.{TaskId}
 use Rattle.executor_core.proofs.ListLemmas.{set-here}
@@ -45,14 +45,7 @@ take-range (suc k) a (suc n) le = ap (λ l. a ∷ l) (take-range k (a + 1) n (om
 
 module _ {X : Type 0} (p q : X → Bool) where
   filter_step : (a b : Bool) (x : X) (xs : List X) → find p (filter q xs) ≡ find (λ y. q y && p y) xs → q x ≡ a → p x ≡ b → find p (filter q (x ∷ xs)) ≡ find (λ y. q y && p y) (x ∷ xs)
-  filter_step true true x xs rest is passes =
-      ap (λ c. find p (cond c (x ∷ filter q xs) (filter q xs))) is ∙ ap (λ c. cond c (Some x) (find p (filter q xs))) passes
-      ∙ sym (ap (λ c. cond (c && p x) (Some x) (find (λ y. q y && p y) xs)) is ∙ ap (λ c. cond c (Some x) (find (λ y. q y && p y) xs)) passes)
-  filter_step true false x xs rest is fails =
-      ap (λ c. find p (cond c (x ∷ filter q xs) (filter q xs))) is ∙ ap (λ c. cond c (Some x) (find p (filter q xs))) fails ∙ rest
-      ∙ sym (ap (λ c. cond (c && p x) (Some x) (find (λ y. q y && p y) xs)) is ∙ ap (λ c. cond c (Some x) (find (λ y. q y && p y) xs)) fails)
-  filter_step false b x xs rest is passes =
-      ap (λ c. find p (cond c (x ∷ filter q xs) (filter q xs))) is ∙ rest ∙ sym (ap (λ c. cond (c && p x) (Some x) (find (λ y. q y && p y) xs)) is)
+  filter_step a b x xs rest is passes = grind arith
 
   find-filter : (xs : List X) → find p (filter q xs) ≡ find (λ x. q x && p x) xs
   find-filter [] = refl
@@ -76,11 +69,7 @@ module _ {X : Type 0} (p : X → Bool) where
       ]
 
 count_some : (n capacity : ℕ) → 0 < capacity → nat_lt 0 (steal_count n capacity) ≡ not (n == 0)
-count_some zero capacity room = le-ltb 0 (steal_count 0 capacity) (omega arith)
-count_some (suc n) capacity room =
-    let some : 0 < steal_count (suc n) capacity = omega arith in
-    let far : suc n ≢ 0 = omega arith in
-    lt-ltb 0 (steal_count (suc n) capacity) some ∙ sym (ap not (ne_eqb (suc n) 0 far))
+count_some n capacity room = grind (arith, le-ltb, lt-ltb, ne_eqb)
 
 sub_zero : (n : ℕ) → n - 0 ≡ n
 sub_zero n = omega arith
@@ -94,36 +83,18 @@ module _ {X : Type 0} where
   gives_is r locals room s = ap (λ b. not (s == r) && b) (count_some (length (entries_at s locals)) (capacity_at r locals) room)
 
   victim_is : (r word : ℕ) (locals : List (RunnerQueue X)) → 0 < capacity_at r locals → r < length locals → victim r word locals ≡ find (gives r locals) (range_with_len (word % length locals) (length locals - word % length locals) ++ range_with_len 0 (word % length locals))
-  victim_is r word locals room within =
-      let n = length locals in
-      let start = word % n in
-      let low : start ≤ n = omega arith in
-      let zero_start : 0 + start ≡ start = omega arith in
-      let both : drop start (range_with_len 0 n) ++ take start (range_with_len 0 n) ≡ range_with_len start (n - start) ++ range_with_len 0 start =
-      ap (λ l. l ++ take start (range_with_len 0 n)) (drop-range start 0 n ∙ ap (λ b. range_with_len b (n - start)) zero_start) ∙ ap (λ l. range_with_len start (n - start) ++ l) (take-range start 0 n low) in
-      find-filter (can_steal r locals) (λ s. not (s == r)) (drop start (range_with_len 0 n) ++ take start (range_with_len 0 n))
-      ∙ find-same (λ s. not (s == r) && can_steal r locals s) (gives r locals) (drop start (range_with_len 0 n) ++ take start (range_with_len 0 n)) (gives_is r locals room)
-      ∙ ap (find (gives r locals)) both
+  victim_is r word locals room within = grind (arith, drop-range, take-range, find-filter, find-same, gives_is)
 
   -- where a search looks from its start on, and then from the first position up to it
   pub victim_after : (r word s n : ℕ) (locals : List (RunnerQueue X)) → n ≡ length locals → capacity_at r locals ≢ 0 → r < length locals → Some s ≡ find (gives r locals) (range_with_len (word % n) (n - word % n)) → Some s ≡ victim r word locals
-  victim_after r word s n locals count some within found =
-      let room : 0 < capacity_at r locals = omega arith in
-      let here = found ∙ ap (λ m. find (gives r locals) (range_with_len (word % m) (m - word % m))) count in
-      sym (victim_is r word locals room within ∙ find-append_some (gives r locals) (range_with_len (word % length locals) (length locals - word % length locals)) (range_with_len 0 (word % length locals)) s (sym here))
+  victim_after r word s n locals count some within found = grind (arith, victim_is, find-append_some)
 
   pub victim_before : (r word n : ℕ) (o : Option ℕ) (locals : List (RunnerQueue X)) → n ≡ length locals → capacity_at r locals ≢ 0 → r < length locals → None ≡ find (gives r locals) (range_with_len (word % n) (n - word % n)) → o ≡ find (gives r locals) (range_with_len 0 (word % n - 0)) → o ≡ victim r word locals
-  victim_before r word n o locals count some within none found =
-      let room : 0 < capacity_at r locals = omega arith in
-      let start : word % n - 0 ≡ word % length locals = ap (λ m. word % m - 0) count ∙ sub_zero (word % length locals) in
-      let here = none ∙ ap (λ m. find (gives r locals) (range_with_len (word % m) (m - word % m))) count in
-      found ∙ ap (λ m. find (gives r locals) (range_with_len 0 m)) start
-      ∙ sym (victim_is r word locals room within ∙ find-append_none (gives r locals) (range_with_len (word % length locals) (length locals - word % length locals)) (range_with_len 0 (word % length locals)) (sym here))
+  victim_before r word n o locals count some within none found = grind (arith, sub_zero, victim_is, find-append_none)
 
   -- nothing can be stolen if nothing has room
   pub victim_none : (r word : ℕ) (locals : List (RunnerQueue X)) → capacity_at r locals ≡ 0 → None ≡ victim r word locals
-  victim_none r word locals none =
-      sym (find_fails (can_steal r locals) (visits r word (length locals)) (λ s. le-ltb 0 (steal_count (length (entries_at s locals)) (capacity_at r locals)) (omega arith)))
+  victim_none r word locals none = grind (arith, find_fails, le-ltb)
 
   -- something stands in the queue that a search steals from
   pub victim_gives : (r word s : ℕ) (locals : List (RunnerQueue X)) → victim r word locals ≡ Some s → 0 < length (entries_at s locals)
@@ -143,33 +114,14 @@ module _ {X : Type 0} where
   front_none (x ∷ es) none = absurd (cc)
 
   pub with_same : (r : ℕ) (o : Option (RunnerQueue X)) (locals : List (RunnerQueue X)) → slice_get locals r ≡ o → set_entries r (entries_or o) o locals ≡ locals
-  with_same r None locals is = refl
-  with_same r (Some q) locals is = set-here locals r q is
+  with_same r o locals is = grind (arith, set-here)
 
   -- nothing changed if there was no front
   front_kept : (r : ℕ) (q : QueueLists X) → slice_get (entries_at r q.locals) 0 ≡ None → (let l : QueueLists X = record q { locals = with_entries r (drop 1 (entries_at r q.locals)) q.locals } in l) ≡ q
-  front_kept r q none =
-      let empty = front_none (entries_at r q.locals) none in
-      queues_same _ _ _ _ refl (ap (λ es. with_entries r es q.locals) (ap (drop 1) empty ∙ sym empty) ∙ with_same r (slice_get q.locals r) q.locals refl)
-
-  local_found : (r : ℕ) (es : List X) (q : QueueLists X) → (local_front r es q).0 ≡ slice_get es 0
-  local_found r [] q = refl
-  local_found r (x ∷ es) q = refl
+  front_kept r q none = grind (arith, front_none, queues_same, with_same)
 
   local_left : (r : ℕ) (es : List X) (q : QueueLists X) → entries_at r q.locals ≡ es → (local_front r es q).1 ≡ record q { locals = with_entries r (drop 1 es) q.locals }
-  local_left r [] q is = sym (queues_same _ _ _ _ refl (ap (λ es. with_entries r es q.locals) (sym is) ∙ with_same r (slice_get q.locals r) q.locals refl))
-  local_left r (x ∷ es) q is = refl
-
-  shared_found : (r word : ℕ) (es : List X) (q : QueueLists X) (x : X) → Some x ≡ (global_front es q).0 → search_shared r word es q ≡ (Some x, global_stolen r (global_front es q).1)
-  shared_found r word [] q x is = absurd (cc)
-  shared_found r word (y ∷ es) q x is = ap (λ o. (o, global_stolen r (record q { global = es }))) (sym is)
-
-  shared_left : (r word : ℕ) (es : List X) (q : QueueLists X) → None ≡ (global_front es q).0 → search_shared r word es q ≡ steal_from r (victim r word q.locals) q
-  shared_left r word [] q none = refl
-  shared_left r word (y ∷ es) q none = absurd (cc)
-
-  search_idle : (k word r : ℕ) (q : QueueLists X) → Some r ≡ position_of k q.locals → entries_at r q.locals ≡ [] → search k word q ≡ search_shared r word q.global q
-  search_idle k word r q place empty = ap (λ o. search_at o word q) (sym place) ∙ ap (λ es. search_own r word es q) empty
+  local_left r es q is = grind (arith, queues_same, with_same)
 
 -- a runner's search past its own queue, which is empty: what it took of the global queue, and the queues then
 pub record Searched (s after : QueueState) (k r : ℕ) (o : Option TaskId) : Type 0 where
@@ -190,17 +142,13 @@ searched s first second after k r own o same place empty own_front own_rest fron
     }
 
 pub found_global : (s after last : QueueState) (k word r : ℕ) (id : TaskId) → Searched s after k r (Some id) → last ≡ with_lists (global_stolen r after.lists) after → last ≡ with_lists (search k word s.lists).1 s
-found_global s after last k word r id done stolen_here =
-    let found = search_idle k word r s.lists done.place done.idle ∙ shared_found r word s.lists.global s.lists id done.front in
-    stolen_here ∙ ap (λ (t : QueueState). with_lists (global_stolen r t.lists) t) done.rest ∙ ap (λ (p : Option TaskId × QueueLists TaskId). with_lists p.1 s) (sym found)
+found_global s after last k word r id done stolen_here = grind arith
 
 unchanged : (s after : QueueState) (k r : ℕ) → Searched s after k r None → after ≡ s
 unchanged s after k r done = done.rest ∙ ap (λ q. with_lists q s) (search_global-none s.lists (sym done.front))
 
 from_others : (s after : QueueState) (k word r : ℕ) (o : Option ℕ) → Searched s after k r None → o ≡ victim r word after.lists.locals → search k word s.lists ≡ steal_from r o s.lists
-from_others s after k word r o done chosen =
-    search_idle k word r s.lists done.place done.idle ∙ shared_left r word s.lists.global s.lists done.front
-    ∙ ap (λ v. steal_from r v s.lists) (ap (λ (t : QueueState). victim r word t.lists.locals) (sym (unchanged s after k r done)) ∙ sym chosen)
+from_others s after k word r o done chosen = grind (arith, unchanged)
 
 pub none_found : (s after : QueueState) (k word r : ℕ) → Searched s after k r None → None ≡ victim r word after.lists.locals → None ≡ (search k word s.lists).0
 none_found s after k word r done chosen = ap (λ (p : Option TaskId × QueueLists TaskId). p.0) (sym (from_others s after k word r None done chosen))
@@ -213,18 +161,10 @@ pub victim_within : (r word v : ℕ) (after : QueueState) → Some v ≡ victim 
 victim_within r word v after chosen = entries_within v after.lists.locals (victim_gives r word v after.lists.locals (sym chosen))
 
 pub victim_apart : (s after : QueueState) (k word r v : ℕ) → Searched s after k r None → Some v ≡ victim r word after.lists.locals → v ≢ r
-victim_apart s after k word r v done chosen same =
-    let some = victim_gives r word v after.lists.locals (sym chosen) in
-    let none : length (entries_at v after.lists.locals) ≡ 0 =
-    ap (λ i. length (entries_at i after.lists.locals)) same ∙ ap (λ (t : QueueState). length (entries_at r t.lists.locals)) (unchanged s after k r done) ∙ ap length done.idle in
-    omega arith
+victim_apart s after k word r v done chosen same = grind (arith, victim_gives r word v after.lists.locals (sym chosen), unchanged)
 
 pub stolen_found : (s after left : QueueState) (k word r v : ℕ) (o : Option TaskId) → Searched s after k r None → Some v ≡ victim r word after.lists.locals → left ≡ with_lists (stolen_between v r after.lists) after → o ≡ slice_get (entries_at r left.lists.locals) 0 → o ≡ (search k word s.lists).0
-stolen_found s after left k word r v o done chosen stolen_here front =
-    let lists : left.lists ≡ stolen_between v r s.lists = ap (λ (t : QueueState). t.lists) stolen_here ∙ ap (λ (t : QueueState). stolen_between v r t.lists) (unchanged s after k r done) in
-    let q = stolen_between v r s.lists in
-    front ∙ ap (λ (l : QueueLists TaskId). slice_get (entries_at r l.locals) 0) lists
-    ∙ sym (ap (λ (p : Option TaskId × QueueLists TaskId). p.0) (from_others s after k word r (Some v) done chosen) ∙ local_found r (entries_at r q.locals) q)
+stolen_found s after left k word r v o done chosen stolen_here front = grind (arith, unchanged, from_others)
 
 pub stolen_left : (s after left last : QueueState) (k word r v : ℕ) → Searched s after k r None → Some v ≡ victim r word after.lists.locals → left ≡ with_lists (stolen_between v r after.lists) after → last ≡ with_lists (record left.lists { locals = with_entries r (drop 1 (entries_at r left.lists.locals)) left.lists.locals }) left → last ≡ with_lists (search k word s.lists).1 s
 stolen_left s after left last k word r v done chosen stolen_here rest =
@@ -236,19 +176,13 @@ stolen_left s after left last k word r v done chosen stolen_here rest =
 
 -- a search of any queue past the global one, which is empty
 any_idle : {X : Type 0} (es : List X) (q : QueueLists X) → None ≡ (global_front es q).0 → any_front es q ≡ front_at (first_occupied q.locals) q
-any_idle [] q none = refl
-any_idle (x ∷ es) q none = absurd (cc)
+any_idle es q none = grind arith
 
 any_past : (s after : QueueState) (r : ℕ) → None ≡ (search_global s.lists).0 → after ≡ with_lists (search_global s.lists).1 s → Some r ≡ first_occupied after.lists.locals → (after ≡ s) × (search_any s.lists ≡ local_front r (entries_at r s.lists.locals) s.lists)
-any_past s after r none rest found =
-    let kept : after ≡ s = rest ∙ ap (λ q. with_lists q s) (search_global-none s.lists (sym none)) in
-    (kept, any_idle s.lists.global s.lists none ∙ ap (λ o. front_at o s.lists) (sym (found ∙ ap (λ (t : QueueState). first_occupied t.lists.locals) kept)))
+any_past s after r none rest found = grind (arith, search_global-none, any_idle)
 
 pub any_found : (s after : QueueState) (r : ℕ) → None ≡ (search_global s.lists).0 → after ≡ with_lists (search_global s.lists).1 s → Some r ≡ first_occupied after.lists.locals → slice_get (entries_at r after.lists.locals) 0 ≡ (search_any s.lists).0
-any_found s after r none rest found =
-    let past = any_past s after r none rest found in
-    ap (λ (t : QueueState). slice_get (entries_at r t.lists.locals) 0) past.0
-    ∙ sym (ap (λ (p : Option TaskId × QueueLists TaskId). p.0) past.1 ∙ local_found r (entries_at r s.lists.locals) s.lists)
+any_found s after r none rest found = grind (arith, any_past)
 
 pub any_left : (s after last : QueueState) (r : ℕ) → None ≡ (search_global s.lists).0 → after ≡ with_lists (search_global s.lists).1 s → Some r ≡ first_occupied after.lists.locals → last ≡ with_lists (record after.lists { locals = with_entries r (drop 1 (entries_at r after.lists.locals)) after.lists.locals }) after → last ≡ with_lists (search_any s.lists).1 s
 any_left s after last r none rest found left =

@@ -1,5 +1,5 @@
 -- The slots of what is queued: each id has its cell there, and no two ids have one slot.
-use Rattle.std.proofs.Common.{◌≡◌, ◌≢◌, ℕ, ◌+◌, ◌≤◌, ◌==◌, Bool, true, false, List, [], ◌∷◌, length, get_or, Option, Some, None, cond, refl, sym, ap, ◌∙◌, arith}
+use Rattle.std.proofs.Common.{◌≡◌, ◌≢◌, ℕ, ◌+◌, ◌≤◌, ◌==◌, Bool, List, [], ◌∷◌, length, Option, cond, refl, sym, ap, ◌∙◌, arith}
 use Rattle.std.proofs.lemmas.Bool.{eq-eqb}
 use Rattle.std.proofs.lemmas.List.{length-append}
 use Rattle.std.proofs.lemmas.List.Elements.{All-nil, All-cons, All-head, All-tail, All-weaker}
@@ -19,24 +19,16 @@ use Rattle.executor_core.specs.declared.task.cell.Numbered.{Numbered}
 use Rattle.executor_core.specs.declared.task.id.TaskId.{TaskId}
 
 at_most_one : (b : Bool) → cond {A = ℕ} b 1 0 ≤ 1
-at_most_one true = omega arith
-at_most_one false = omega arith
+at_most_one b = grind arith
 
 module _ {P T W : Type 0} where
   -- an id that is placed has its cell in its slot
   pub placed_has : (slots : List (Option (Numbered (Cell P T W)))) (id : TaskId) → Placed (cells_of slots) id → HasCell slots id
-  placed_has slots id placed =
-      let sees = get_sees slots id.number placed.0 placed.1 in
-      let zero_at : 0 + sees.at ≡ sees.at = omega arith in
-      let place : sees.at ≡ id.slot = sym (ap (λ x. x.slot) sees.is ∙ zero_at) ∙ placed.2 in
-      (sees.cell, ap (λ k. get_or slots k None) (sym place) ∙ sees.there, sees.number)
+  placed_has slots id placed = grind (arith, get_sees slots id.number placed.0 placed.1)
 
   -- ids that have one slot have one number
   one_number : (slots : List (Option (Numbered (Cell P T W)))) (a b : TaskId) → HasCell slots a → HasCell slots b → a.slot ≡ b.slot → a.number ≡ b.number
-  one_number slots a b first second same =
-      let both : Some first.0 ≡ Some second.0 = sym first.1 ∙ ap (λ k. get_or slots k None) same ∙ second.1 in
-      let one : first.0 ≡ second.0 = cc in
-      sym first.2 ∙ ap (λ (e : Numbered (Cell P T W)). e.number) one ∙ second.2
+  one_number slots a b first second same = grind arith
 
   beside_has : (slots : List (Option (Numbered (Cell P T W)))) (id : TaskId) → HasCell slots id → (rest : List TaskId) → All (HasCell slots) rest → times id.number (numbers_of rest) ≡ 0 → Beside id.slot rest
   beside_has slots id has [] all none = All-nil (λ (other : TaskId). other.slot ≢ id.slot)
@@ -71,7 +63,4 @@ module _ {P T W : Type 0} where
   global_queue {slots = slots} q sound = suffix_queue slots (local_entries q.locals) q.global (sound_queue sound)
 
   pub global_short : {next undropped : ℕ} {slots : List (Option (Numbered (Cell P T W)))} (q : QueueLists TaskId) → IsSound next slots (all_entries q) undropped → length q.global ≤ undropped
-  global_short q sound =
-      let counted = sound.counted in
-      let long = length-append (local_entries q.locals) q.global in
-      omega arith
+  global_short q sound = grind (arith, length-append)

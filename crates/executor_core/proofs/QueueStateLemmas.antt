@@ -1,6 +1,6 @@
 -- What the fields of `Queues` are seen as once a ring in them has changed, and that they fit together then.
 use Rattle.std.proofs.Common.{◌≡◌, ◌≢◌, ℕ, zero, suc, ◌+◌, ◌-◌, ◌<◌, ◌≤◌, true, false, List, [], ◌∷◌, ◌++◌, map, length, get_or, take, drop, set, Option, Some, None, refl, sym, ap, ◌∙◌, subst, arith}
-use Rattle.std.proofs.lemmas.Bool.{eqb-true, false≢true}
+use Rattle.std.proofs.lemmas.Bool.{eqb-true}
 use Rattle.std.proofs.lemmas.List.{map-set, map-append, length-map, length-set}
 use Rattle.std.proofs.Math.Seq.{take-append_seam}
 use Rattle.std.proofs.lemmas.List.Edits.{length-remove}
@@ -19,8 +19,7 @@ use Rattle.executor_core.proofs.QueuePlaceLemmas.{distinct-push, distinct-remove
 
 -- the queue that is read at a position
 pub read_at : (s : QueueState) (g : List TaskId) (items : List LocalQueue) (next free r : ℕ) (l : LocalQueue) → state_of g items next free ≡ s → r < length s.lists.locals → l ≡ get_or items r l → slice_get items r ≡ Some l
-read_at s g items next free r l view within is =
-    slice_get_read items (length items) r l refl (subst (λ n. r < n) (ap (λ (t : QueueState). length t.lists.locals) (sym view) ∙ length-map items local_of) within) is
+read_at s g items next free r l view within is = grind (arith, slice_get_read, length-map)
 
 seen : (items : List LocalQueue) (r : ℕ) (l : LocalQueue) → slice_get items r ≡ Some l → slice_get (map local_of items) r ≡ Some (local_of l)
 seen items r l is = slice_get-map local_of items r ∙ ap (option_map local_of) is
@@ -55,12 +54,7 @@ runners_written (x ∷ xs) (suc r) l ring is = ap (λ n. x.runner ∷ n) (runner
 
 -- the runners stand where they stood
 pub sound_same : (g h : List TaskId) (items others : List LocalQueue) (next free capacity : ℕ) → runners_of (map local_of others) ≡ runners_of (map local_of items) → IsQueues (state_of g items next free) capacity → IsQueues (state_of h others next free) capacity
-sound_same g h items others next free capacity runners sound =
-    let long : length (map local_of others) ≡ length (map local_of items) = sym (length-map (map local_of others) (λ (q : RunnerQueue TaskId). q.runner)) ∙ ap length runners ∙ length-map (map local_of items) (λ (q : RunnerQueue TaskId). q.runner) in
-    record {
-      distinct = subst AllDistinct (sym runners) sound.distinct;
-      reserved = subst (λ n. free + n ≤ capacity) (sym long) sound.reserved;
-    }
+sound_same g h items others next free capacity runners sound = grind (arith, length-map)
 
 pub sound_written : (g h : List TaskId) (items : List LocalQueue) (next free capacity r : ℕ) (l : LocalQueue) (ring : IdRing) → IsQueues (state_of g items next free) capacity → slice_get items r ≡ Some l → IsQueues (state_of h (slice_set items r (with_ring l ring)) next free) capacity
 sound_written g h items next free capacity r l ring sound is = sound_same g h items (slice_set items r (with_ring l ring)) next free capacity (runners_written items r l ring is) sound
@@ -80,12 +74,10 @@ front_gone s g items next free r l ring view is rest =
     subst (λ (t : QueueState). state_of g (slice_set items r (with_ring l ring)) next free ≡ with_lists (record t.lists { locals = with_entries r (drop 1 (entries_at r t.lists.locals)) t.lists.locals }) t) view after
 
 stolen_seen : (source : List TaskId) (items : List LocalQueue) (r : ℕ) (l : LocalQueue) → slice_get items r ≡ Some l → stolen source l.ring.ids l.ring.capacity ≡ stolen source (entries_at r (map local_of items)) (capacity_at r (map local_of items))
-stolen_seen source items r l is =
-    ap (λ es. stolen source es l.ring.capacity) (sym (entries_seen items r l is)) ∙ ap (λ c. stolen source (entries_at r (map local_of items)) c) (sym (capacity_seen items r l is))
+stolen_seen source items r l is = grind (arith, entries_seen, capacity_seen)
 
 pub count_stolen : (s : QueueState) (g : List TaskId) (items : List LocalQueue) (next free r : ℕ) (l : LocalQueue) → state_of g items next free ≡ s → slice_get items r ≡ Some l → stolen g l.ring.ids l.ring.capacity ≡ stolen s.lists.global (entries_at r s.lists.locals) (capacity_at r s.lists.locals)
-count_stolen s g items next free r l view is =
-    stolen_seen g items r l is ∙ ap (λ (t : QueueState). stolen t.lists.global (entries_at r t.lists.locals) (capacity_at r t.lists.locals)) view
+count_stolen s g items next free r l view is = grind (arith, stolen_seen)
 
 -- half of the global queue goes to the one at r
 pub globally_stolen : (s : QueueState) (g h : List TaskId) (items : List LocalQueue) (next free r count : ℕ) (l : LocalQueue) (ring : IdRing) → state_of g items next free ≡ s → slice_get items r ≡ Some l → count ≡ stolen g l.ring.ids l.ring.capacity → h ≡ drop count g → ring ≡ record l.ring { ids = l.ring.ids ++ take count g } → state_of h (slice_set items r (with_ring l ring)) next free ≡ with_lists (global_stolen r s.lists) s
@@ -101,8 +93,7 @@ globally_stolen s g h items next free r count l ring view is counted source targ
 
 -- where the runner's queue stands
 hinted_at : (o : Option LocalQueue) (k : ℕ) → true ≡ unwrap_or (option_map (λ (l : LocalQueue). l.runner == k) o) false → (l : LocalQueue) × (o ≡ Some l) × (l.runner ≡ k)
-hinted_at None k there = absurd (false≢true (sym there))
-hinted_at (Some l) k there = (l, refl, eqb-true l.runner k (sym there))
+hinted_at o k there = grind (arith, eqb-true)
 
 pub hinted : (s : QueueState) (g : List TaskId) (items : List LocalQueue) (next free capacity k hint : ℕ) → IsQueues (state_of g items next free) capacity → state_of g items next free ≡ s → true ≡ unwrap_or (option_map (λ (l : LocalQueue). l.runner == k) (slice_get items hint)) false → Some hint ≡ position_of k s.lists.locals
 hinted s g items next free capacity k hint sound view there =
@@ -110,24 +101,11 @@ hinted s g items next free capacity k hint sound view there =
     sym (position_of_place k hint (map local_of items) (local_of at.0) sound.distinct (seen items hint at.0 at.1) at.2) ∙ ap (λ (t : QueueState). position_of k t.lists.locals) view
 
 is_none : {X : Type 0} (o : Option X) → false ≡ is_some o → o ≡ None
-is_none None none = refl
-is_none (Some x) none = absurd (false≢true none)
+is_none o none = grind arith
 
 -- one queue more, in a free place
 pub sound_pushed : (s : QueueState) (g : List TaskId) (items more : List LocalQueue) (next free capacity k : ℕ) (l : LocalQueue) (o : Option ℕ) → IsQueues (state_of g items next free) capacity → state_of g items next free ≡ s → more ≡ items ++ l ∷ [] → l.runner ≡ k → o ≡ position_of k s.lists.locals → false ≡ is_some o → 0 < free → IsQueues (state_of g more next (free - 1)) capacity
-sound_pushed s g items more next free capacity k l o sound view pushed same found none free_place =
-    let runners : runners_of (map local_of more) ≡ runners_of (map local_of items) ++ k ∷ [] =
-    ap (λ is. runners_of (map local_of is)) pushed
-    ∙ ap runners_of (map-append local_of items (l ∷ []))
-    ∙ map-append (λ (q : RunnerQueue TaskId). q.runner) (map local_of items) (local_of l ∷ [])
-    ∙ ap (λ n. runners_of (map local_of items) ++ n ∷ []) same in
-    let unregistered : position_of k (map local_of items) ≡ None = ap (λ (t : QueueState). position_of k t.lists.locals) view ∙ sym found ∙ is_none o none in
-    let long : length (map local_of more) ≡ length items + 1 = length-map more local_of ∙ ap length pushed ∙ length-push items l in
-    let was : free + length items ≤ capacity = subst (λ n. free + n ≤ capacity) (length-map items local_of) sound.reserved in
-    record {
-      distinct = subst AllDistinct (sym runners) (distinct-push (runners_of (map local_of items)) k sound.distinct (none_registered k (map local_of items) unregistered));
-      reserved = omega arith;
-    }
+sound_pushed s g items more next free capacity k l o sound view pushed same found none free_place = grind (arith, map-append, is_none, length-map, length-push, distinct-push, none_registered)
 
 -- the queue at r goes
 pub sound_removed : (s : QueueState) (g h : List TaskId) (items less : List LocalQueue) (next free capacity r : ℕ) → IsQueues (state_of g items next free) capacity → state_of g items next free ≡ s → less ≡ remove items r → r < length s.lists.locals → IsQueues (state_of h less next free) capacity
@@ -146,33 +124,14 @@ sound_removed s g h items less next free capacity r sound view removed within =
 
 -- all that stands in the queue at r goes to the global end
 pub all_moved : (s : QueueState) (g h : List TaskId) (items less : List LocalQueue) (next free r : ℕ) (l : LocalQueue) → state_of g items next free ≡ s → slice_get items r ≡ Some l → less ≡ remove items r → h ≡ g ++ l.ring.ids → state_of h less next free ≡ with_lists (unregistered_at (Some r) s.lists) s
-all_moved s g h items less next free r l view is removed moved =
-    let entries : h ≡ g ++ entries_at r (map local_of items) =
-    moved ∙ ap (λ es. g ++ es) (sym (entries_seen items r l is)) in
-    let locals : map local_of less ≡ remove (map local_of items) r = ap (map local_of) removed ∙ sym (remove-map local_of items r) in
-    let after : state_of h less next free ≡ with_lists (unregistered_at (Some r) (record { global = g; locals = map local_of items })) (state_of g items next free) =
-    state_same _ _ next free (queues_same _ _ _ _ entries locals) in
-    subst (λ (t : QueueState). state_of h less next free ≡ with_lists (unregistered_at (Some r) t.lists) t) view after
+all_moved s g h items less next free r l view is removed moved = grind (arith, entries_seen, remove-map, state_same, queues_same)
 
 pub count_moved : (s : QueueState) (g : List TaskId) (items : List LocalQueue) (next free r count : ℕ) (l : LocalQueue) → state_of g items next free ≡ s → slice_get items r ≡ Some l → count ≡ length l.ring.ids → count ≡ length (entries_at r s.lists.locals)
-count_moved s g items next free r count l view is counted =
-    counted ∙ ap length (sym (entries_seen items r l is)) ∙ ap (λ (t : QueueState). length (entries_at r t.lists.locals)) view
+count_moved s g items next free r count l view is counted = grind (arith, entries_seen)
 
 -- half of the queue at s goes to the one at r
 stolen_written : (xs : List LocalQueue) (s r count : ℕ) (a b : LocalQueue) (left added : IdRing) → s ≢ r → slice_get xs s ≡ Some a → slice_get xs r ≡ Some b → count ≡ stolen a.ring.ids b.ring.ids b.ring.capacity → left ≡ record a.ring { ids = drop count a.ring.ids } → added ≡ record b.ring { ids = b.ring.ids ++ take count a.ring.ids } → map local_of (slice_set (slice_set xs s (with_ring a left)) r (with_ring b added)) ≡ stolen_locals s r (map local_of xs)
-stolen_written xs s r count a b left added apart from to counted source target =
-    let locals : List (RunnerQueue TaskId) = map local_of xs in
-    let moved : ℕ → List TaskId → List TaskId → List (RunnerQueue TaskId) = λ n ss ts. with_entries r (ts ++ take n ss) (with_entries s (drop n ss) locals) in
-    let still : slice_get (slice_set xs s (with_ring a left)) r ≡ Some b = get-set_other xs s r (with_ring a left) (λ same. apart (sym same)) ∙ to in
-    let whole : count ≡ stolen (entries_at s locals) (entries_at r locals) (capacity_at r locals) =
-    counted ∙ stolen_seen a.ring.ids xs r b to ∙ ap (λ ss. stolen ss (entries_at r locals) (capacity_at r locals)) (sym (entries_seen xs s a from)) in
-    written (slice_set xs s (with_ring a left)) r b added still (ap (λ (x : IdRing). x.capacity) target)
-    ∙ ap (with_entries r added.ids) (written xs s a left from (ap (λ (x : IdRing). x.capacity) source))
-    ∙ ap (λ es. with_entries r es (with_entries s left.ids locals)) (ap (λ (x : IdRing). x.ids) target)
-    ∙ ap (λ es. with_entries r (b.ring.ids ++ take count a.ring.ids) (with_entries s es locals)) (ap (λ (x : IdRing). x.ids) source)
-    ∙ ap (λ ss. moved count ss b.ring.ids) (sym (entries_seen xs s a from))
-    ∙ ap (moved count (entries_at s locals)) (sym (entries_seen xs r b to))
-    ∙ ap (λ n. moved n (entries_at s locals) (entries_at r locals)) whole
+stolen_written xs s r count a b left added apart from to counted source target = grind (arith, get-set_other, stolen_seen, entries_seen, written)
 
 module _ {X : Type 0} where
   set-low : (low high : List X) (i : ℕ) (v : X) → i < length low → slice_set low i v ++ high ≡ slice_set (low ++ high) i v
@@ -203,10 +162,7 @@ module _ {X : Type 0} where
 
   -- writes to both parts of a list
   set-parts : (low high : List X) (i : ℕ) (v w : X) → i < length low → slice_set low i v ++ slice_set high 0 w ≡ slice_set (slice_set (low ++ high) i v) (length low) w
-  set-parts low high i v w h =
-      set-high (slice_set low i v) high w
-      ∙ ap (λ n. slice_set (slice_set low i v ++ high) n w) (length-set low i v)
-      ∙ ap (λ l. slice_set l (length low) w) (set-low low high i v h)
+  set-parts low high i v w h = grind (arith, set-high, length-set, set-low)
 
 -- the same if the list is split at the higher position
 pub stolen_up : (xs low high : List LocalQueue) (s r count : ℕ) (d e : LocalQueue) (left added : IdRing) → xs ≡ low ++ high → length low ≡ r → s < r → r < length xs → count ≡ stolen (get_or low s d).ring.ids (get_or high 0 e).ring.ids (get_or high 0 e).ring.capacity → left ≡ record (get_or low s d).ring { ids = drop count (get_or low s d).ring.ids } → added ≡ record (get_or high 0 e).ring { ids = (get_or high 0 e).ring.ids ++ take count (get_or low s d).ring.ids } → map local_of (slice_set low s (with_ring (get_or low s d) left) ++ slice_set high 0 (with_ring (get_or high 0 e) added)) ≡ stolen_locals s r (map local_of xs)
@@ -229,17 +185,10 @@ stolen_down xs low high s r count d e left added split mid below within counted 
     ∙ ap (λ l. stolen_locals s r (map local_of l)) (sym split)
 
 runners_set : (r : ℕ) (es : List TaskId) (o : Option (RunnerQueue TaskId)) (locals : List (RunnerQueue TaskId)) → slice_get locals r ≡ o → runners_of (set_entries r es o locals) ≡ runners_of locals
-runners_set r es None locals is = refl
-runners_set r es (Some q) locals is =
-    map-set (λ (l : RunnerQueue TaskId). l.runner) locals r (record q { entries = es })
-    ∙ set-here (runners_of locals) r q.runner (slice_get-map (λ (l : RunnerQueue TaskId). l.runner) locals r ∙ ap (option_map (λ (l : RunnerQueue TaskId). l.runner)) is)
+runners_set r es o locals is = grind (arith, map-set, set-here, slice_get-map)
 
 runners_stolen : (s r : ℕ) (locals : List (RunnerQueue TaskId)) → runners_of (stolen_locals s r locals) ≡ runners_of locals
-runners_stolen s r locals =
-    let count = stolen (entries_at s locals) (entries_at r locals) (capacity_at r locals) in
-    let left : List (RunnerQueue TaskId) = with_entries s (drop count (entries_at s locals)) locals in
-    runners_set r (entries_at r locals ++ take count (entries_at s locals)) (slice_get left r) left refl
-    ∙ runners_set s (drop count (entries_at s locals)) (slice_get locals s) locals refl
+runners_stolen s r locals = grind (arith, runners_set)
 
 -- what is behind the end of the list is cut off
 pub cut_off : (n : ℕ) (xs ys zs : List LocalQueue) → length xs ≡ length ys → length ys ≡ n → take n (xs ++ zs) ≡ xs
@@ -250,7 +199,4 @@ sound_stolen g items after whole next free capacity s r cut stolen_here sound =
     sound_same g g items whole next free capacity (ap (λ l. runners_of (map local_of l)) cut ∙ ap runners_of stolen_here ∙ runners_stolen s r (map local_of items)) sound
 
 pub state_stolen : (t : QueueState) (g : List TaskId) (items after whole : List LocalQueue) (next free s r : ℕ) → state_of g items next free ≡ t → whole ≡ after → map local_of after ≡ stolen_locals s r (map local_of items) → state_of g whole next free ≡ with_lists (stolen_between s r t.lists) t
-state_stolen t g items after whole next free s r view cut stolen_here =
-    let done : state_of g whole next free ≡ with_lists (stolen_between s r (record { global = g; locals = map local_of items })) (state_of g items next free) =
-    state_same _ _ next free (queues_same _ _ _ _ refl (ap (map local_of) cut ∙ stolen_here)) in
-    subst (λ (u : QueueState). state_of g whole next free ≡ with_lists (stolen_between s r u.lists) u) view done
+state_stolen t g items after whole next free s r view cut stolen_here = grind (arith, state_same, queues_same)

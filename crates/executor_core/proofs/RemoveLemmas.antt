@@ -1,11 +1,11 @@
 -- What the removal of a cell keeps and gives.
-use Rattle.std.proofs.Common.{◌≡◌, ◌≢◌, ℕ, ◌+◌, ◌≤◌, ◌==◌, ◌||◌, Bool, true, false, List, [], ◌∷◌, length, get_or, Option, Some, None, cond, refl, sym, ap, subst, ◌∙◌, inl, inr, arith}
+use Rattle.std.proofs.Common.{◌≡◌, ◌≢◌, ℕ, ◌+◌, ◌==◌, ◌||◌, Bool, true, false, List, [], ◌∷◌, length, get_or, Option, Some, None, cond, refl, sym, ap, subst, ◌∙◌, inl, inr, arith}
 use Rattle.std.proofs.lemmas.Bool.{eq-eqb}
 use Rattle.std.specs.FinMap as map
 use Rattle.executor_core.specs.Cells.{Slotted}
 use Rattle.executor_core.specs.Cell.{is_idle, is_held, is_scheduled}
 use Rattle.executor_core.specs.Numbers.{times}
-use Rattle.executor_core.specs.Cells.Law.{scheduled_in, ScheduledOnce}
+use Rattle.executor_core.specs.Cells.Law.{ScheduledOnce}
 use Rattle.executor_core.specs.Cells.View.{seen, cells_of, Distinct, numbers_of, table_of, Placed, IsSound, is_queueable}
 use Rattle.executor_core.specs.Cells.Calls.{without_cell}
 use Rattle.executor_core.specs.Queues.State.{QueueState}
@@ -27,22 +27,14 @@ use Rattle.executor_core.proofs.CountLemmas.{recounted, at_least}
 use Rattle.executor_core.proofs.WriteLemmas.{law_at}
 
 pub no_times : (b : Bool) (n : ℕ) → cond b 1 0 + n ≡ 0 → (b ≡ false) × (n ≡ 0)
-no_times true n h = absurd (omega arith)
-no_times false n h = (refl, omega arith)
+no_times b n h = grind arith
 
 less : (l u a s t w y : ℕ) → l + w ≡ u → u ≡ a + s → t + w ≡ s + 0 → l ≡ a + t
 less l u a s t w y p q r = omega arith
 
 module _ {P T W : Type 0} where
   removed_distinct : (old new : List (Option (Numbered (Cell P T W)))) (key : ℕ) → Distinct old → Changes old new key None → Distinct new
-  removed_distinct old new key distinct changes i j c d at_i at_j same =
-      distinct i j c d (kept i c at_i) (kept j d at_j) same
-    where
-      kept : (k : ℕ) (e : Numbered (Cell P T W)) → get_or new k None ≡ Some e → get_or old k None ≡ Some e
-      kept k e found = elim (cases_eq k key) [
-        | inl here ↦ absurd (cc (ap (λ x. get_or new x None) here, found, changes.changed))
-        | inr far ↦ sym (changes.others k far) ∙ found
-      ]
+  removed_distinct old new key distinct changes i j c d at_i at_j same = grind (arith, cases_eq)
 
   pub cells_of-removed : (old new : List (Option (Numbered (Cell P T W)))) (key : ℕ) (e : Numbered (Cell P T W)) → Distinct old → get_or old key None ≡ Some e → Changes old new key None
       → cells_of new ≡ map.remove (cells_of old) e.number
@@ -79,11 +71,7 @@ module _ {P T W : Type 0} where
           ]
 
   law_removed : (m : map.FinMap nat_cmp (Slotted P T W)) (numbers : List ℕ) (n : ℕ) → ScheduledOnce m numbers → times n numbers ≡ 0 → ScheduledOnce (map.remove m n) numbers
-  law_removed m numbers n law none q =
-      elim (cases_eq q n) [
-        | inl same ↦ ap (λ k. times k numbers) same ∙ none ∙ ap (λ x. cond (scheduled_in x) 1 0) (sym (remove_same m n q same))
-        | inr far ↦ law q ∙ ap (λ x. cond (scheduled_in x) 1 0) (sym (remove_other m n q far))
-      ]
+  law_removed m numbers n law none q = grind (arith, cases_eq, remove_same, remove_other)
 
   placed_removed : (m : map.FinMap nat_cmp (Slotted P T W)) (n : ℕ) (ids : List TaskId) → times n (numbers_of ids) ≡ 0 → All (Placed m) ids → All (Placed (map.remove m n)) ids
   placed_removed m n [] none all = All-nil (Placed (map.remove m n))
@@ -127,15 +115,10 @@ module _ {P T W : Type 0} where
       → (q : QueueState) (id : TaskId) (e : Numbered (Cell P T W)) → get_or slots id.slot None ≡ Some e → e.number ≡ id.number
       → (new : List (Option (Numbered (Cell P T W)))) → Changes slots new id.slot None
       → table_of next new q closed ≡ without_cell (table_of next slots q closed) id
-  remove_table {closed} {next} {slots = slots} sound q id e there number new changes =
-      same_table (table_of next slots q closed) _ _ _ _ (cells_of-removed slots new id.slot e sound.distinct there changes ∙ ap (map.remove (cells_of slots)) number) refl
+  remove_table {closed} {next} {slots = slots} sound q id e there number new changes = grind (arith, same_table, cells_of-removed)
 
   -- a cell whose future is out is counted
   pub counted_one : {next undropped : ℕ} {slots : List (Option (Numbered (Cell P T W)))} {ids : List TaskId}
       → IsSound next slots ids undropped
       → (key : ℕ) (e : Numbered (Cell P T W)) → get_or slots key None ≡ Some e → (is_idle e.cell.state || is_held e.cell.state) ≡ true → (undropped - 1) + 1 ≡ undropped
-  counted_one {slots = slots} sound key e there may =
-      let counted = sound.counted in
-      let part : cond {A = ℕ} (is_queueable (get_or slots key None)) 1 0 ≤ count_by is_queueable slots = at_least (λ o. cond (is_queueable o) 1 0) refl slots key in
-      let one : cond {A = ℕ} (is_queueable (get_or slots key None)) 1 0 ≡ 1 = ap (λ o. cond (is_queueable o) 1 0) there ∙ ap (λ b. cond b 1 0) may in
-      omega arith
+  counted_one {slots = slots} sound key e there may = grind (arith, at_least)

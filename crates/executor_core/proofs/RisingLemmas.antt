@@ -23,12 +23,10 @@ use Rattle.executor_core.specs.declared.task.cell.Numbered.{Numbered}
 use Rattle.executor_core.specs.declared.task.id.TaskId.{TaskId}
 
 first : (a b : Bool) → Holds (a && b) → Holds a
-first true b p = tt
-first false b p = p
+first a b p = grind arith
 
 second : (a b : Bool) → Holds (a && b) → Holds b
-second true b p = p
-second false b p = absurd p
+second a b p = grind arith
 
 not_below : (k n : ℕ) → Holds (is_lt (nat_cmp k n)) → k ≢ n
 not_below k n below same = subst (λ o. Holds (is_lt o)) (ap (nat_cmp k) (sym same) ∙ tied_itself nat_cmp_total k) below
@@ -113,17 +111,10 @@ module _ {P T W : Type 0} where
 
 -- the order of the entries does not matter if their slots differ
 two_ways : {A : Type 0} (p q : Bool) (x y : A) → q ≡ not p → cond p x y ≡ cond q y x
-two_ways true true x y h = absurd (cc)
-two_ways true false x y h = refl
-two_ways false true x y h = refl
-two_ways false false x y h = absurd (cc)
+two_ways p q x y h = grind arith
 
 turned : (i j : ℕ) → i ≢ j → nat_lt j i ≡ not (nat_lt i j)
-turned i j far = by (nat_lt i j) refl
-  where
-    by : (b : Bool) → nat_lt i j ≡ b → nat_lt j i ≡ not b
-    by true is = let below : i < j = ltb-true i j is in le-ltb j i (omega arith)
-    by false is = let above : j ≤ i = ltb-false i j is in lt-ltb j i (omega (arith, far))
+turned i j far = grind (arith, ltb-true, le-ltb, ltb-false, lt-ltb)
 
 module _ {P T W : Type 0} where
   insert_first : (a f : ℕ × Slotted P T W) (rest : List (ℕ × Slotted P T W)) → nat_lt a.1.slot f.1.slot ≡ true → insert_by_slot a (f ∷ rest) ≡ a ∷ f ∷ rest

@@ -10,9 +10,9 @@ use Rattle.std.proofs.Math.Seq.{take-append_seam}
 use Rattle.std.proofs.lemmas.Bool.{eqb-true, eqb-false, eq-eqb, ne_eqb, lt-ltb, le-ltb, ltb-false, not_from_true, false_from_ne_true, and_right, true≢false, cond-true, cond-false, cases_eq}
 use Rattle.std.proofs.lemmas.Bool.Decides.{nat_tests}
 use Rattle.executor_core.specs.Numbers.{times}
-use Rattle.executor_core.specs.Sleepers.{SleeperList, is_notified_number, has_place}
+use Rattle.executor_core.specs.Sleepers.{SleeperList, is_notified_number}
 use Rattle.executor_core.specs.Sleepers.View.{IsNumbering, in_use, list_of, IsSoundList}
-use Rattle.executor_core.specs.Sleepers.Calls.{last_of, all_but_last, again, notice, waker_of, change_of, next_number, inserted, after_insert, insert_answer, slept_again, update_at, after_update, answer_at, update_answer, after_remove, removed_of, all_unnotified, after_notify, notify_answer}
+use Rattle.executor_core.specs.Sleepers.Calls.{last_of, all_but_last, again, notice, waker_of, change_of, after_insert, insert_answer, slept_again, update_at, after_update, answer_at, update_answer, after_remove, removed_of, all_unnotified, after_notify, notify_answer}
 use Rattle.executor_core.specs.declared.sleepers.list.Update.{Update}
 use Rattle.executor_core.specs.declared.sleepers.list.Update.TheVariants.{Asleep, WasNotified, Unknown}
 use Rattle.executor_core.specs.declared.task.values.Change.{Change}
@@ -43,8 +43,7 @@ module _ {X : Type 0} where
 
 -- by what is there
 by_option : {A : Type 0} (P : Type 0) (o : Option A) → (o ≡ None → P) → ((a : A) → o ≡ Some a → P) → P
-by_option P None none some = none refl
-by_option P (Some a) none some = some a refl
+by_option P o none some = grind arith
 
 -- a change, by equal lists and equal things carried
 pub change_is : {W X : Type 0} {change : Change X} {s t : SleeperList W} {x y : X} → change ≡ change_of s x → s ≡ t → x ≡ y → change ≡ change_of t y
@@ -52,25 +51,17 @@ change_is is lists carried = is ∙ (λ i. change_of (lists i) (carried i))
 
 -- the test of a notified number
 pub is_id : (notified : Option ℕ) (id : ℕ) → option_eq (λ a b. a == b) notified (Some id) ≡ true → notified ≡ Some id
-is_id None id is = absurd (cc)
-is_id (Some m) id is = ap Some (eqb-true m id is)
+is_id notified id is = grind (arith, eqb-true)
 
 pub is_other : (notified : Option ℕ) (id : ℕ) → option_eq (λ a b. a == b) notified (Some id) ≡ false → notified ≢ Some id
-is_other None id is same = absurd (cc)
-is_other (Some m) id is same = eqb-false m id is (cc)
+is_other notified id is same = grind (arith, eqb-false)
 
 -- one number more than a numbering has
 next_count : (l n t : ℕ) → t ≡ cond (nat_le 1 n && nat_le n l) 1 0 → t + cond (l + 1 == n) 1 0 ≡ cond (nat_le 1 n && nat_le n (l + 1)) 1 0
 next_count l n t is = grind (arith, nat_tests)
 
 grown : (xs : List ℕ) → IsNumbering xs → IsNumbering (xs ++ (length xs + 1) ∷ [])
-grown xs numbering n =
-    let all = times-append n xs ((length xs + 1) ∷ []) in
-    let last = times-cons n (length xs + 1) [] in
-    let next = next_count (length xs) n (times n xs) (numbering n) in
-    let long : length xs + 1 ≡ length (xs ++ (length xs + 1) ∷ []) = sym (length-push xs (length xs + 1)) in
-    let sum : times n (xs ++ (length xs + 1) ∷ []) ≡ times n xs + cond (length xs + 1 == n) 1 0 = omega arith in
-    sum ∙ next ∙ ap (λ l. cond (nat_le 1 n && nat_le n l) 1 0) long
+grown xs numbering n = grind (arith, times-append n xs ((length xs + 1) ∷ []), times-cons n (length xs + 1) [], next_count (length xs) n (times n xs) (numbering n), sym (length-push xs (length xs + 1)))
 
 -- a number goes from the free ones to those in use, or is the next one
 module _ (xs : List ℕ) (k : ℕ) where
@@ -80,12 +71,7 @@ module _ (xs : List ℕ) (k : ℕ) where
       → IsNumbering ((xs ++ k ∷ []) ++ all_but_last free) × ((room : ℕ) → length xs + 1 ≤ room → length (xs ++ free) ≤ room → length ((xs ++ k ∷ []) ++ all_but_last free) ≤ room)
 
   takes_next : Takes []
-  takes_next numbering is =
-      let next : IsNumbering (xs ++ (length xs + 1) ∷ []) = grown xs (subst IsNumbering (append-nil xs) numbering) in
-      let long = length-push xs k in (
-        subst IsNumbering (sym (append-nil (xs ++ k ∷ []))) (subst (λ j. IsNumbering (xs ++ j ∷ [])) (sym is) next),
-        λ room more _. rw (append-nil (xs ++ k ∷ [])) (omega arith),
-      )
+  takes_next numbering is = grind (arith, grown, append-nil, length-push)
 
   takes_last : (ys : List ℕ) (y : ℕ) → Takes (ys ++ y ∷ [])
   takes_last ys y numbering is =
@@ -114,33 +100,18 @@ module _ (xs : List ℕ) (k : ℕ) where
 
 -- a number goes from the end of those in use to their front
 times-turned : (n id : ℕ) (xs free : List ℕ) → times n ((xs ++ id ∷ []) ++ free) ≡ times n (id ∷ xs ++ free)
-times-turned n id xs free =
-    let a = times-append n (xs ++ id ∷ []) free in
-    let b = times-append n xs (id ∷ []) in
-    let c = times-cons n id [] in
-    let d = times-cons n id (xs ++ free) in
-    let e = times-append n xs free in
-    omega arith
+times-turned n id xs free = grind (arith, times-append n (xs ++ id ∷ []) free, times-append n xs (id ∷ []), times-cons n id [], times-cons n id (xs ++ free), times-append n xs free)
 
 length-turned : (id : ℕ) (xs free : List ℕ) → length ((xs ++ id ∷ []) ++ free) ≡ length (id ∷ xs ++ free)
-length-turned id xs free =
-    let a = length-append (xs ++ id ∷ []) free in
-    let b = length-push xs id in
-    let c = length-append xs free in
-    omega arith
+length-turned id xs free = grind (arith, length-append, length-push)
 
 -- another number than the notified one
 times-other : (notified : Option ℕ) (id : ℕ) → notified ≢ Some id → times id (option_to_list notified) ≡ 0
-times-other None id far = refl
-times-other (Some m) id far =
-    let all = times-cons id m [] in
-    let none = one-other m id (λ same. far (ap Some same)) in
-    omega arith
+times-other notified id far = grind (arith, times-cons, one-other)
 
 module _ {W : Type 0} where
   pub in_use-push : (notified : Option ℕ) (pairs : List (ℕ × W)) (k : ℕ) (w : W) → in_use notified (pairs ++ (k, w) ∷ []) ≡ in_use notified pairs ++ k ∷ []
-  in_use-push None pairs k w = keys-push pairs k w
-  in_use-push (Some m) pairs k w = ap (λ l. m ∷ l) (keys-push pairs k w)
+  in_use-push notified pairs k w = grind (arith, keys-push)
 
   times-in_use : (n : ℕ) (notified : Option ℕ) (pairs : List (ℕ × W)) → times n (in_use notified pairs) ≡ times n (option_to_list notified) + times n (keys_of pairs)
   times-in_use n notified pairs = times-append n (option_to_list notified) (keys_of pairs)
@@ -150,10 +121,7 @@ module _ {W : Type 0} where
 
   -- the number is in use, if its waker is found
   times-found : (notified : Option ℕ) (pairs : List (ℕ × W)) (id : ℕ) (w : W) → lookup (λ k. k == id) pairs ≡ Some w → 0 < times id (in_use notified pairs)
-  times-found notified pairs id w found =
-      let all = times-in_use id notified pairs in
-      let one = times-remove_same id pairs w found in
-      omega arith
+  times-found notified pairs id w found = grind (arith, times-in_use id notified pairs, times-remove_same id pairs w found)
 
   -- it is not, if no waker is found and another number is notified
   times-absent : (notified : Option ℕ) (pairs : List (ℕ × W)) (id : ℕ) → notified ≢ Some id → lookup (λ k. k == id) pairs ≡ None → times id (in_use notified pairs) ≡ 0
@@ -165,11 +133,7 @@ module _ {W : Type 0} where
 
   -- no waker is found of a number that is not in the list
   lookup-away : (pairs : List (ℕ × W)) (id : ℕ) → list_any (λ k. k == id) (keys_of pairs) ≡ false → lookup (λ k. k == id) pairs ≡ None
-  lookup-away pairs id away = at (lookup (λ k. k == id) pairs) (sym (any-lookup id pairs) ∙ away)
-    where
-      at : (o : Option W) → is_some o ≡ false → o ≡ None
-      at None is = refl
-      at (Some w) is = absurd (cc)
+  lookup-away pairs id away = grind (arith, any-lookup)
 
 module _ {W : Type 0} {notified : Option ℕ} {pairs : List (ℕ × W)} {free : List ℕ} {places pair_room free_room : ℕ}
     (sound : IsSoundList notified pairs free places pair_room free_room) where
@@ -179,43 +143,17 @@ module _ {W : Type 0} {notified : Option ℕ} {pairs : List (ℕ × W)} {free : 
 
   -- release
   pub release_sound : length (in_use notified pairs) < places → IsSoundList notified pairs free (places - 1) pair_room free_room
-  release_sound more =
-      let a = sound.pairs_fit in
-      let b = sound.places_fit in
-      record { numbering = sound.numbering; placed = omega arith; pairs_fit = omega arith; places_fit = omega arith; numbers_fit = sound.numbers_fit }
+  release_sound more = grind arith
 
   -- insert
   insert_sound : length (in_use notified pairs) < places → (k : ℕ) (w : W) → k ≡ unwrap_or (last_of free) (length (in_use notified pairs) + 1)
       → IsSoundList notified (pairs ++ (k, w) ∷ []) (all_but_last free) places pair_room free_room
-  insert_sound more k w is =
-      let now : in_use notified (pairs ++ (k, w) ∷ []) ≡ in_use notified pairs ++ k ∷ [] = in_use-push notified pairs k w in
-      let took = taken (in_use notified pairs) k free sound.numbering is in
-      let long = length-push (in_use notified pairs) k in
-      let fits = sound.places_fit in
-      record {
-        numbering = subst (λ l. IsNumbering (l ++ all_but_last free)) (sym now) took.0;
-        placed = rw now (omega arith);
-        pairs_fit = sound.pairs_fit;
-        places_fit = sound.places_fit;
-        numbers_fit = rw now (took.1 free_room (omega arith) sound.numbers_fit);
-      }
+  insert_sound more k w is = grind (arith, in_use-push notified pairs k w, taken (in_use notified pairs) k free sound.numbering is, length-push (in_use notified pairs) k, sound.places_fit)
 
   insert_list : (is_open : Bool) → length (in_use notified pairs) < places → (k : ℕ) (w : W) → k ≡ unwrap_or (last_of free) (length (in_use notified pairs) + 1)
       → (list_of notified (pairs ++ (k, w) ∷ []) (all_but_last free) places true ≡ after_insert (list_of notified pairs free places is_open) w)
       × (Ok (k, change_of (after_insert (list_of notified pairs free places is_open) w) again) ≡ insert_answer (list_of notified pairs free places is_open) w)
-  insert_list is_open more k w is =
-      let s : SleeperList W = list_of notified pairs free places is_open in
-      let count = used-len sound in
-      let has : has_place s ≡ true = lt-ltb (set.len s.used) places (omega arith) in
-      let next : k ≡ next_number s = is ∙ ap (λ l. unwrap_or (last_of free) (l + 1)) (sym count) in
-      let used : set.from_list {R = nat_cmp} (in_use notified (pairs ++ (k, w) ∷ [])) ≡ set.insert s.used k = ap set.from_list (in_use-push notified pairs k w) ∙ push-from_list (in_use notified pairs) k in (
-        ap (λ u. record { unnotified = pairs ++ (k, w) ∷ []; used = u; free = all_but_last free; places = places; is_open = true }) used
-            ∙ ap (λ j. record { unnotified = pairs ++ (j, w) ∷ []; used = set.insert s.used j; free = all_but_last free; places = places; is_open = true }) next
-            ∙ sym (cond-true (has_place s) _ s has),
-        ap (λ u. Ok (k, change_of u again)) (cond-true (has_place s) (inserted s w) s has)
-            ∙ ap (λ j. Ok (j, change_of (inserted s w) again)) next
-            ∙ sym (cond-true (has_place s) (Ok (next_number s, change_of (inserted s w) again)) (Err w) has),
-      )
+  insert_list is_open more k w is = grind (arith, list_of notified pairs free places is_open, used-len sound, lt-ltb, in_use-push, push-from_list, cond-true)
 
   -- what an insertion of this number keeps and makes
   pub record Inserts (v : SleeperList W) (k : ℕ) (w : W) : Type 0 where
@@ -241,43 +179,15 @@ module _ {W : Type 0} {notified : Option ℕ} {pairs : List (ℕ × W)} {free : 
 
   -- no reserved place is free
   pub refusing : {v : SleeperList W} {is_open : Bool} → list_of notified pairs free places is_open ≡ v → {n : ℕ} → n ≡ set.len v.used → places ≤ n → (w : W) → (v ≡ after_insert v w) × (Err w ≡ insert_answer v w)
-  refusing {v = v} seen count full w =
-      let fixed : places ≡ v.places = ap (λ s. s.places) seen in
-      let none : has_place v ≡ false = le-ltb (set.len v.used) v.places (omega arith) in
-      (sym (cond-false (has_place v) (inserted v w) v none), sym (cond-false (has_place v) (Ok (next_number v, change_of (inserted v w) again)) (Err w) none))
+  refusing {v = v} seen count full w = grind (arith, le-ltb, cond-false)
 
   -- update
   pub slept_sound : (id : ℕ) (w : W) → notified ≡ Some id → IsSoundList None (pairs ++ (id, w) ∷ []) free places pair_room free_room
-  slept_sound id w is =
-      let before : in_use notified pairs ≡ id ∷ keys_of pairs = ap (λ o. in_use o pairs) is in
-      let now : in_use None (pairs ++ (id, w) ∷ []) ≡ keys_of pairs ++ id ∷ [] = keys-push pairs id w in
-      let old = ap length before in
-      let count = ap length now in
-      let long = length-push (keys_of pairs) id in
-      let all = ap (λ l. length (l ++ free)) before in
-      let new = ap (λ l. length (l ++ free)) now in
-      let total = length-turned id (keys_of pairs) free in
-      let within = sound.placed in
-      let fits = sound.numbers_fit in
-      record {
-        numbering =
-            regrouped (in_use notified pairs ++ free) (in_use None (pairs ++ (id, w) ∷ []) ++ free) sound.numbering
-            (λ n. ap (λ l. times n (l ++ free)) now ∙ times-turned n id (keys_of pairs) free ∙ sym (ap (λ l. times n (l ++ free)) before))
-            (omega arith);
-        placed = omega arith;
-        pairs_fit = sound.pairs_fit;
-        places_fit = sound.places_fit;
-        numbers_fit = omega arith;
-      }
+  slept_sound id w is = grind (arith, keys-push, length-push, length-turned, regrouped, times-turned)
 
   -- there is room for its pair
   pub slept_room : (id : ℕ) → notified ≡ Some id → length pairs < pair_room
-  slept_room id is =
-      let all = length-in_use notified pairs in
-      let one = ap (λ o. length (option_to_list o)) is in
-      let within = sound.placed in
-      let fits = sound.pairs_fit in
-      omega arith
+  slept_room id is = grind (arith, length-in_use)
 
   pub slept_list : (is_open : Bool) (id : ℕ) (w : W) → notified ≡ Some id
       → list_of None (pairs ++ (id, w) ∷ []) free places true ≡ after_update (list_of notified pairs free places is_open) id w
@@ -306,15 +216,7 @@ module _ {W : Type 0} {notified : Option ℕ} {pairs : List (ℕ × W)} {free : 
       )
 
   pub replaced_sound : (id : ℕ) (w : W) → IsSoundList notified (set_value (λ k. k == id) pairs w) free places pair_room free_room
-  replaced_sound id w =
-      let now : in_use notified pairs ≡ in_use notified (set_value (λ k. k == id) pairs w) = ap (λ l. option_to_list notified ++ l) (sym (keys-set_value id pairs w)) in
-      record {
-        numbering = subst (λ l. IsNumbering (l ++ free)) now sound.numbering;
-        placed = subst (λ l. length l ≤ places) now sound.placed;
-        pairs_fit = sound.pairs_fit;
-        places_fit = sound.places_fit;
-        numbers_fit = subst (λ l. length (l ++ free) ≤ free_room) now sound.numbers_fit;
-      }
+  replaced_sound id w = grind (arith, keys-set_value)
 
   not_notified : (is_open : Bool) (id : ℕ) → notified ≢ Some id → is_notified_number (list_of notified pairs free places is_open) id ≡ false
   not_notified is_open id far = false_from_ne_true _ (λ is. far (is_the_notified notified pairs id is))
@@ -407,12 +309,7 @@ module _ {W : Type 0} {notified : Option ℕ} {pairs : List (ℕ × W)} {free : 
   -- a number in the list is not the notified one
   pub removed_of_found : (is_open : Bool) (id : ℕ) (w : W) → lookup (λ k. k == id) pairs ≡ Some w
       → record { notice = None; waker = Some w } ≡ removed_of (list_of notified pairs free places is_open) id
-  removed_of_found is_open id w found =
-      let s : SleeperList W = list_of notified pairs free places is_open in
-      let there : list_any (λ k. k == id) (keys_of pairs) ≡ true = any-lookup id pairs ∙ ap is_some found in
-      let no : is_notified_number s id ≡ false = and_right (set.contains s.used id) _ (not_from_true _ there) in
-      ap (λ o. record { notice = None; waker = o }) (sym found)
-      ∙ ap (λ b. record { notice = cond b (Some notice) None; waker = waker_of s id }) (sym no)
+  removed_of_found is_open id w found = grind (arith, any-lookup, and_right, not_from_true)
 
   pub notified_removed_sound : (id : ℕ) → notified ≡ Some id → IsSoundList None pairs (free ++ id ∷ []) places pair_room free_room
   notified_removed_sound id is =
@@ -464,26 +361,11 @@ module _ {W : Type 0} {notified : Option ℕ} {pairs : List (ℕ × W)} {free : 
 
   pub removed_of_notified : (is_open : Bool) (id : ℕ) → notified ≡ Some id
       → record { notice = Some notice; waker = None } ≡ removed_of (list_of notified pairs free places is_open) id
-  removed_of_notified is_open id is =
-      let s : SleeperList W = list_of notified pairs free places is_open in
-      let here = notified_is is_open sound id is in
-      let away : list_any (λ k. k == id) (keys_of pairs) ≡ false = here.1 in
-      ap (λ o. record { notice = Some notice; waker = o }) (sym (lookup-away pairs id away))
-      ∙ ap (λ b. record { notice = cond b (Some notice) None; waker = waker_of s id }) (sym here.2)
+  removed_of_notified is_open id is = grind (arith, list_of notified pairs free places is_open, notified_is is_open sound id is, lookup-away)
 
   pub unknown_removed_list : (is_open : Bool) (id : ℕ) → notified ≢ Some id → lookup (λ k. k == id) pairs ≡ None
       → list_of notified (remove_entry (λ k. k == id) pairs) free places true ≡ after_remove (list_of notified pairs free places is_open) id
-  unknown_removed_list is_open id far none =
-      let s : SleeperList W = list_of notified pairs free places is_open in
-      let left = remove_entry (λ k. k == id) pairs in
-      let kept : left ≡ pairs = remove-absent id pairs none in
-      let zero = times-absent notified pairs id far none in
-      let away : set.contains s.used id ≡ false = contains-times (in_use notified pairs) id ∙ le-ltb 0 (times id (in_use notified pairs)) (omega arith) in
-      let used : set.from_list {R = nat_cmp} (in_use notified left) ≡ set.remove s.used id =
-      ap (λ l. set.from_list {R = nat_cmp} (in_use notified l)) kept
-      ∙ remove-from_list (in_use notified pairs) (in_use notified pairs) id (λ n _. refl) zero in
-      ap (λ u. record { unnotified = left; used = u; free = free; places = places; is_open = true }) used
-      ∙ ap (λ l. record { unnotified = left; used = set.remove s.used id; free = l; places = places; is_open = true }) (sym (cond-false (set.contains s.used id) (free ++ id ∷ []) free away))
+  unknown_removed_list is_open id far none = grind (arith, remove-absent, times-absent, contains-times, le-ltb, remove-from_list, cond-false)
 
   pub unknown_removed_sound : (id : ℕ) → lookup (λ k. k == id) pairs ≡ None → IsSoundList notified (remove_entry (λ k. k == id) pairs) free places pair_room free_room
   unknown_removed_sound id none = rw (remove-absent id pairs none) sound
@@ -515,21 +397,7 @@ module _ {W : Type 0} {notified : Option ℕ} {pairs : List (ℕ × W)} {free : 
   left_sound {left = left} is = subst (λ l. IsSoundList notified l free places pair_room free_room) (is ∙ append-nil left) sound
 
   pub notified_sound : (left : List (ℕ × W)) (id : ℕ) (w : W) → is_some notified ≡ false → pairs ≡ left ++ (id, w) ∷ [] → IsSoundList (Some id) left free places pair_room free_room
-  notified_sound left id w none is =
-      let used : in_use notified pairs ≡ keys_of left ++ id ∷ [] = ap (λ o. in_use o pairs) (nobody none) ∙ ap keys_of is ∙ keys-push left id w in
-      let count = ap length used in
-      let long = length-push (keys_of left) id in
-      let all = ap (λ l. length (l ++ free)) used in
-      let total = length-turned id (keys_of left) free in
-      let within = sound.placed in
-      let fits = sound.numbers_fit in
-      record {
-        numbering = regrouped (in_use notified pairs ++ free) (id ∷ keys_of left ++ free) sound.numbering (λ n. sym (ap (λ l. times n (l ++ free)) used ∙ times-turned n id (keys_of left) free)) (omega arith);
-        placed = omega arith;
-        pairs_fit = sound.pairs_fit;
-        places_fit = sound.places_fit;
-        numbers_fit = omega arith;
-      }
+  notified_sound left id w none is = grind (arith, nobody, keys-push, length-push, length-turned, regrouped, times-turned)
 
   pub kept_list : (is_open : Bool) → is_some notified ≡ true
       → list_of notified pairs free places is_open ≡ after_notify (list_of notified pairs free places is_open)

@@ -27,10 +27,7 @@ module _ {W : Type 0} where
 
   pub in_use_once : {notified : Option ℕ} {pairs : List (ℕ × W)} {free : List ℕ} {places pair_room free_room : ℕ}
       → IsSoundList notified pairs free places pair_room free_room → (n : ℕ) → times n (in_use notified pairs) ≤ 1
-  in_use_once {notified = notified} {pairs = pairs} {free = free} sound n =
-      let all = times-append n (in_use notified pairs) free in
-      let most = once (in_use notified pairs ++ free) sound.numbering n in
-      omega arith
+  in_use_once {notified = notified} {pairs = pairs} {free = free} sound n = grind (arith, times-append n (in_use notified pairs) free, once (in_use notified pairs ++ free) sound.numbering n)
 
   pub used-len : {notified : Option ℕ} {pairs : List (ℕ × W)} {free : List ℕ} {places pair_room free_room : ℕ}
       → IsSoundList notified pairs free places pair_room free_room → set.len (set.from_list {R = nat_cmp} (in_use notified pairs)) ≡ length (in_use notified pairs)
@@ -66,35 +63,13 @@ module _ {W : Type 0} where
 
   -- in use and not in the list: it is the notified one
   pub is_the_notified : (notified : Option ℕ) (pairs : List (ℕ × W)) (n : ℕ) → (set.contains (set.from_list {R = nat_cmp} (in_use notified pairs)) n && not (list_any (λ k. k == n) (keys_of pairs))) ≡ true → notified ≡ Some n
-  is_the_notified None pairs n is =
-      let both = and_parts (set.contains (set.from_list {R = nat_cmp} (keys_of pairs)) n) _ is in
-      let here : 0 < times n (keys_of pairs) = ltb-true 0 _ (sym (contains-times (keys_of pairs) n) ∙ both.0) in
-      let away : times n (keys_of pairs) ≤ 0 = ltb-false 0 _ (sym (any-times n (keys_of pairs)) ∙ not-true _ both.1) in
-      absurd (omega arith)
-  is_the_notified (Some m) pairs n is =
-      let both = and_parts (set.contains (set.from_list {R = nat_cmp} (m ∷ keys_of pairs)) n) _ is in
-      let here : 0 < times n (m ∷ keys_of pairs) = ltb-true 0 _ (sym (contains-times (m ∷ keys_of pairs) n) ∙ both.0) in
-      let away : times n (keys_of pairs) ≤ 0 = ltb-false 0 _ (sym (any-times n (keys_of pairs)) ∙ not-true _ both.1) in
-      at (m == n) refl (times-cons n m (keys_of pairs)) here away
-    where
-      at : (t : Bool) → (m == n) ≡ t → times n (m ∷ keys_of pairs) ≡ cond (m == n) 1 0 + times n (keys_of pairs) → 0 < times n (m ∷ keys_of pairs) → times n (keys_of pairs) ≤ 0 → Some m ≡ Some n
-      at true same all here away = ap Some (eqb-true m n same)
-      at false other all here away =
-          let none : ◌≡◌ {A = ℕ} (cond (m == n) 1 0) 0 = ap (λ t. cond t 1 0) other in
-          absurd (omega arith)
+  is_the_notified notified pairs n is = grind (arith, and_parts, ltb-true, contains-times, ltb-false, any-times, not-true, times-cons, eqb-true)
 
   -- the notified one is in use, and not in the list
   pub notified_is : {notified : Option ℕ} {pairs : List (ℕ × W)} {free : List ℕ} {places pair_room free_room : ℕ} (b : Bool)
       → IsSoundList notified pairs free places pair_room free_room → (n : ℕ) → notified ≡ Some n
       → (set.contains (set.from_list {R = nat_cmp} (in_use notified pairs)) n ≡ true) × (list_any (λ k. k == n) (keys_of pairs) ≡ false) × (is_notified_number (list_of notified pairs free places b) n ≡ true)
-  notified_is {notified = notified} {pairs = pairs} b sound n is =
-      let all : times n (in_use notified pairs) ≡ times n (n ∷ keys_of pairs) = ap (λ o. times n (in_use o pairs)) is in
-      let split = times-cons n n (keys_of pairs) in
-      let one : ◌≡◌ {A = ℕ} (cond (n == n) 1 0) 1 = ap (λ t. cond t 1 0) (eq-eqb n n refl) in
-      let most = in_use_once sound n in
-      let used : set.contains (set.from_list {R = nat_cmp} (in_use notified pairs)) n ≡ true = contains-times (in_use notified pairs) n ∙ lt-ltb 0 (times n (in_use notified pairs)) (omega arith) in
-      let away : list_any (λ k. k == n) (keys_of pairs) ≡ false = any-times n (keys_of pairs) ∙ le-ltb 0 (times n (keys_of pairs)) (omega arith) in
-      (used, away, and_from _ _ used (not_from_false _ away))
+  notified_is {notified = notified} {pairs = pairs} b sound n is = grind (arith, ap (λ o. times n (in_use o pairs)) is, times-cons n n (keys_of pairs), in_use_once sound n, eq-eqb, contains-times, lt-ltb, any-times, le-ltb, and_from, not_from_false)
 
   pub lawful : {notified : Option ℕ} {pairs : List (ℕ × W)} {free : List ℕ} {places pair_room free_room : ℕ} (b : Bool)
       → IsSoundList notified pairs free places pair_room free_room → SleeperLaw (list_of notified pairs free places b)

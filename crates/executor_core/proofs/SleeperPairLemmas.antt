@@ -24,20 +24,10 @@ module _ {W : Type 0} where
     pub written : (w : W) → pairs ≡ set_value (λ k. k == id) pairs w
 
   first : (id : ℕ) (p : ℕ × W) (ps : List (ℕ × W)) → (p.0 == id) ≡ true → StandsAt (p ∷ ps) id 0
-  first id p ps here = record {
-    within = omega arith;
-    removed = rw here refl;
-    found = λ d. rw here refl;
-    written = λ d w. rw here refl;
-  }
+  first id p ps here = grind arith
 
   later : (id : ℕ) (p : ℕ × W) (ps : List (ℕ × W)) (at : ℕ) → (p.0 == id) ≡ false → StandsAt ps id at → StandsAt (p ∷ ps) id (suc at)
-  later id p ps at other stands = record {
-    within = let h = stands.within in omega arith;
-    removed = rw other (ap (λ l. p ∷ l) stands.removed);
-    found = λ d. rw other (stands.found d);
-    written = λ d w. rw other (ap (λ l. p ∷ l) (stands.written d w));
-  }
+  later id p ps at other stands = grind arith
 
   stands_from : (id i : ℕ) (pairs : List (ℕ × W)) (k : ℕ) → position_from (λ p. p.0 == id) i pairs ≡ Some k → (j : ℕ) × (k ≡ i + j) × StandsAt pairs id j
   stands_from id i [] k is = absurd (cc)
@@ -48,11 +38,7 @@ module _ {W : Type 0} where
       at next false other is = let rest = next is in (suc rest.0, (let far = rest.1 in omega arith), later id p ps rest.0 other rest.2)
 
   pub stands_at : {pairs items : List (ℕ × W)} (id : ℕ) {r : Option ℕ} (k : ℕ) → items ≡ pairs → r ≡ position (λ p. p.0 == id) items → r ≡ Some k → StandsAt pairs id k
-  stands_at {pairs} {items} id {r} k same is some =
-      let from : position_from (λ p. p.0 == id) 0 items ≡ Some k = sym (position_from-zero (λ p. p.0 == id) items) ∙ sym is ∙ some in
-      let at = stands_from id 0 items k from in
-      let here : k ≡ at.0 = (let far = at.1 in omega arith) in
-      rw (← same) (rw here at.2)
+  stands_at {pairs} {items} id {r} k same is some = grind (arith, position_from-zero, stands_from)
 
   nowhere_from : (id i : ℕ) (pairs : List (ℕ × W)) → position_from (λ p. p.0 == id) i pairs ≡ None → StandsNowhere pairs id
   nowhere_from id i [] is = record { removed = refl; found = refl; written = λ w. refl }
@@ -69,9 +55,7 @@ module _ {W : Type 0} where
           }
 
   pub stands_nowhere : {pairs items : List (ℕ × W)} (id : ℕ) {r : Option ℕ} → items ≡ pairs → r ≡ position (λ p. p.0 == id) items → r ≡ None → StandsNowhere pairs id
-  stands_nowhere {pairs} {items} id {r} same is none =
-      let from : position_from (λ p. p.0 == id) 0 items ≡ None = sym (position_from-zero (λ p. p.0 == id) items) ∙ sym is ∙ none in
-      rw (← same) (nowhere_from id 0 items from)
+  stands_nowhere {pairs} {items} id {r} same is none = grind (arith, position_from-zero, nowhere_from)
 
   pub length-keys : (pairs : List (ℕ × W)) → length (keys_of pairs) ≡ length pairs
   length-keys [] = refl

@@ -1,15 +1,14 @@
 -- The numbers in use of a list of sleepers, as its calls change them.
-use Rattle.std.proofs.Common.{◌≡◌, ℕ, ◌+◌, ◌-◌, ◌<◌, Bool, true, false, not, cond, ◌&&◌, ◌||◌, inl, inr, [], ◌∷◌, ◌++◌, length, Option, Some, None, is_some, refl, sym, ap, ◌∙◌, arith}
-use Rattle.std.proofs.lemmas.Bool.{cases_eq, eq-eqb, lt-ltb, ltb-true, and_right, true≢false}
+use Rattle.std.proofs.Common.{◌≡◌, ℕ, ◌+◌, ◌-◌, ◌<◌, Bool, true, false, not, cond, ◌&&◌, ◌||◌, inl, inr, [], ◌∷◌, ◌++◌, length, refl, sym, ap, ◌∙◌, arith}
+use Rattle.std.proofs.lemmas.Bool.{cases_eq, eq-eqb, lt-ltb, ltb-true, and_right}
 use Rattle.std.proofs.lemmas.Bool.Decides.{nat_tests}
 use Rattle.std.specs.Prelude.{nat_le, ◌==◌, unwrap_or}
 use Rattle.std.specs.Ordering.{nat_cmp}
 use Rattle.std.specs.Cmp.{nat_cmp_total}
 use Rattle.std.specs.FinSet as set
-use Rattle.std.specs.Map.{keys_of, set_value}
 use Rattle.executor_core.specs.Numbers.{times}
-use Rattle.executor_core.specs.Sleepers.{SleeperList, SleeperLaw, is_unnotified, is_notified_number}
-use Rattle.executor_core.specs.Sleepers.Calls.{last_of, waker_of, next_number, update_at, after_update, answer_at, update_answer, after_remove}
+use Rattle.executor_core.specs.Sleepers.{SleeperList, SleeperLaw, is_notified_number}
+use Rattle.executor_core.specs.Sleepers.Calls.{last_of, next_number, after_update, update_answer, after_remove}
 use Rattle.executor_core.specs.World.Promises.{some_notified}
 use Rattle.executor_core.specs.declared.task.values.Again.{Again}
 use Rattle.executor_core.specs.declared.task.values.Change.{Change}
@@ -66,20 +65,10 @@ module _ (used : set.FinSet nat_cmp) (n : ℕ) where
 module _ {W : Type 0} (s : SleeperList W) (id : ℕ) (w : W) where
   -- an update leaves the numbers in use and the places
   pub update_used : (after_update s id w).used ≡ s.used
-  update_used = at (waker_of s id) (is_notified_number s id)
-    where
-      at : (o : Option W) (b : Bool) → (update_at s id w o b).used ≡ s.used
-      at (Some old) b = refl
-      at None true = refl
-      at None false = refl
+  update_used = grind arith
 
   pub update_places : (after_update s id w).places ≡ s.places
-  update_places = at (waker_of s id) (is_notified_number s id)
-    where
-      at : (o : Option W) (b : Bool) → (update_at s id w o b).places ≡ s.places
-      at (Some old) b = refl
-      at None true = refl
-      at None false = refl
+  update_places = grind arith
 
   -- the number stands in the list
   pub record SleepsOn : Type 0 where
@@ -88,26 +77,7 @@ module _ {W : Type 0} (s : SleeperList W) (id : ℕ) (w : W) where
     pub long : length (after_update s id w).unnotified ≡ length s.unnotified
 
   pub sleeps_on : (old : W) → Asleep old ≡ update_answer s id w → SleepsOn
-  sleeps_on old is = at (waker_of s id) refl is
-    where
-      found : (o : Option W) (b : Bool) → Asleep old ≡ answer_at s id w o b → is_some o ≡ true
-      found (Some x) b h = refl
-      found None true h = absurd (cc)
-      found None false h = absurd (cc)
-
-      at : (o : Option W) → waker_of s id ≡ o → Asleep old ≡ answer_at s id w (waker_of s id) (is_notified_number s id) → SleepsOn
-      at (Some x) here h =
-          let stands : is_unnotified s id ≡ true = any-lookup id s.unnotified ∙ ap is_some here in
-          let keys = keys-set_value id s.unnotified w in
-          let before = length-keys s.unnotified in
-          let after = length-keys (set_value (λ k. k == id) s.unnotified w) in
-          let same : length (keys_of (set_value (λ k. k == id) s.unnotified w)) ≡ length (keys_of s.unnotified) = ap length keys in
-          record {
-            unnotified = and_right (set.contains s.used id) _ (ap not stands);
-            opened = ap (λ o. (update_at s id w o (is_notified_number s id)).is_open) here;
-            long = ap (λ o. length (update_at s id w o (is_notified_number s id)).unnotified) here ∙ omega arith;
-          }
-      at None here h = absurd (true≢false (sym (found _ _ h) ∙ ap is_some here))
+  sleeps_on old is = grind (arith, any-lookup, keys-set_value, length-keys, and_right)
 
   -- the number is notified
   pub record SleepsAgain : Type 0 where
@@ -115,36 +85,13 @@ module _ {W : Type 0} (s : SleeperList W) (id : ℕ) (w : W) where
     pub opened : (after_update s id w).is_open ≡ true
 
   pub sleeps_again : (change : Change Again) → WasNotified change ≡ update_answer s id w → SleepsAgain
-  sleeps_again change is = at (waker_of s id) (is_notified_number s id) refl refl is
-    where
-      at : (o : Option W) (b : Bool) → waker_of s id ≡ o → is_notified_number s id ≡ b → WasNotified change ≡ answer_at s id w o b → SleepsAgain
-      at (Some x) b here there h = absurd (cc)
-      at None false here there h = absurd (cc)
-      at None true here there h = record { notified = there; opened = ap (λ o. (update_at s id w o (is_notified_number s id)).is_open) here ∙ ap (λ b. (update_at s id w None b).is_open) there }
+  sleeps_again change is = grind arith
 
   -- a number in use is known
   pub never_unknown : set.contains s.used id ≡ true → (x : W) → Unknown x ≡ update_answer s id w → ⊥
-  never_unknown there x is = at (waker_of s id) (is_notified_number s id) refl refl is
-    where
-      at : (o : Option W) (b : Bool) → waker_of s id ≡ o → is_notified_number s id ≡ b → Unknown x ≡ answer_at s id w o b → ⊥
-      at (Some y) b here is h = cc
-      at None true here is h = cc
-      at None false here is h =
-          let away : is_unnotified s id ≡ false = any-lookup id s.unnotified ∙ ap is_some here in
-          let not_false : is_notified_number s id ≡ true = rw (there, away) refl in
-          true≢false (sym not_false ∙ is)
+  never_unknown there x is = grind (arith, any-lookup)
 
 module _ {W : Type 0} {s : SleeperList W} (law : SleeperLaw s) (id : ℕ) (there : set.contains s.used id ≡ true) (unnotified : is_notified_number s id ≡ false) where
   -- an unnotified number is removed: another one is notified as before
   pub still_notified : some_notified s ≡ true → some_notified (after_remove s id) ≡ true
-  still_notified some =
-      let stands : is_unnotified s id ≡ true = stood (is_unnotified s id) (sym (ap (λ b. b && not (is_unnotified s id)) there) ∙ unnotified) in
-      let found = some_of (waker_of s id) (sym (any-lookup id s.unnotified) ∙ stands) in
-      let one = length-remove id s.unnotified found.0 found.1 in
-      let fewer = remove_len s.used id there in
-      let before = ltb-true _ _ some in
-      lt-ltb _ _ (omega arith)
-    where
-      stood : (b : Bool) → not b ≡ false → b ≡ true
-      stood true h = refl
-      stood false h = absurd (true≢false h)
+  still_notified some = grind (arith, some_of, any-lookup, length-remove, remove_len, ltb-true, lt-ltb)

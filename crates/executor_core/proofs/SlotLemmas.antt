@@ -14,13 +14,10 @@ use Rattle.executor_core.specs.declared.task.cell.Numbered.{Numbered}
 
 module _ {X : Type 0} where
   pub same_option : (a b : Option X) → ((x : X) → a ≡ Some x → b ≡ Some x) → ((x : X) → b ≡ Some x → a ≡ Some x) → a ≡ b
-  same_option None None f g = refl
-  same_option (Some x) b f g = sym (f x refl)
-  same_option None (Some y) f g = g y refl
+  same_option a b f g = grind arith
 
   pub some_of : (a : Option X) → is_some a ≡ true → (x : X) × (a ≡ Some x)
-  some_of None e = absurd (cc)
-  some_of (Some x) e = (x, refl)
+  some_of a e = grind arith
 
 pub tied : (q n : ℕ) → q ≡ n → eq_by_cmp nat_cmp q n ≡ true
 tied q n e = unsigned_tied q n ∙ eq-eqb q n e
@@ -47,12 +44,7 @@ module _ {X : Type 0} where
   within slots key e there = grind (arith, get_or_past)
 
   pub set_changes : (slots : List (Option X)) (key : ℕ) (e f : X) → get_or slots key None ≡ Some e → Changes slots (set slots key (Some f)) key (Some f)
-  set_changes slots key e f there =
-      let inside = within slots key e there in
-      record {
-        changed = get_or-set_same slots key (Some f) None inside;
-        others = λ other far. get_or-set_other slots key other (Some f) None far;
-      }
+  set_changes slots key e f there = grind (arith, within, get_or-set_same, get_or-set_other)
 
   cleared_at : (slots : List (Option X)) (key : ℕ) → get_or (set slots key None) key None ≡ None
   cleared_at [] key = refl
@@ -123,30 +115,10 @@ module _ {P T W : Type 0} where
     pub own : (d : Numbered (Cell P T W)) → get_or slots key None ≡ Some d → d.number ≡ n
 
   pub fits_itself : (slots : List (Option (Numbered (Cell P T W)))) → Distinct slots → (key : ℕ) (c : Numbered (Cell P T W)) → get_or slots key None ≡ Some c → Fits slots key c.number
-  fits_itself slots distinct key c e =
-      record {
-        free = λ at d there same. distinct at key d c there e same;
-        own = λ d there. let is : d ≡ c = cc in ap (λ x. x.number) is;
-      }
+  fits_itself slots distinct key c e = grind arith
 
   pub put_distinct : (old new : List (Option (Numbered (Cell P T W)))) (key : ℕ) (c : Numbered (Cell P T W)) → Distinct old → Fits old key c.number → Changes old new key (Some c) → Distinct new
-  put_distinct old new key c distinct fits changes i j d e at_i at_j same =
-      elim (cases_eq i key) [
-        | inl i_key ↦ elim (cases_eq j key) [
-          | inl j_key ↦ i_key ∙ sym j_key
-          | inr j_other ↦
-              let d_is : d ≡ c = cc (ap (λ k. get_or new k None) i_key, at_i, changes.changed) in
-              let place = fits.free j e (sym (changes.others j j_other) ∙ at_j) (sym same ∙ ap (λ x. x.number) d_is) in
-              absurd (j_other place)
-        ]
-        | inr i_other ↦ elim (cases_eq j key) [
-          | inl j_key ↦
-              let e_is : e ≡ c = cc (ap (λ k. get_or new k None) j_key, at_j, changes.changed) in
-              let place = fits.free i d (sym (changes.others i i_other) ∙ at_i) (same ∙ ap (λ x. x.number) e_is) in
-              absurd (i_other place)
-          | inr j_other ↦ distinct i j d e (sym (changes.others i i_other) ∙ at_i) (sym (changes.others j j_other) ∙ at_j) same
-        ]
-      ]
+  put_distinct old new key c distinct fits changes i j d e at_i at_j same = grind (arith, cases_eq)
 
   pub cells_of-put : (old new : List (Option (Numbered (Cell P T W)))) (key : ℕ) (c : Numbered (Cell P T W)) → Distinct old → Fits old key c.number → Changes old new key (Some c) → cells_of new ≡ map.insert (cells_of old) c.number (seen key c.cell)
   cells_of-put old new key c distinct fits changes =

@@ -1,5 +1,5 @@
 -- What a spawn keeps and gives.
-use Rattle.std.proofs.Common.{◌≡◌, ◌≢◌, ℕ, Bool, false, ◌+◌, List, [], ◌∷◌, ◌++◌, length, get_or, Option, Some, None, cond, refl, sym, ap, subst, ◌∙◌, inl, inr, arith, length-append}
+use Rattle.std.proofs.Common.{◌≡◌, ℕ, Bool, false, ◌+◌, List, [], ◌∷◌, ◌++◌, length, get_or, Option, Some, None, cond, refl, sym, ap, subst, ◌∙◌, inl, inr, arith, length-append}
 use Rattle.std.specs.FinMap as map
 use Rattle.std.specs.Ordering.{nat_cmp}
 use Rattle.executor_core.specs.Cells.{Slotted}
@@ -14,7 +14,7 @@ use Rattle.executor_core.proofs.SlotLemmas.{get_sees}
 use Rattle.executor_core.specs.declared.task.cell.Cell.{Cell}
 use Rattle.executor_core.specs.declared.task.cell.Numbered.{Numbered}
 use Rattle.executor_core.specs.declared.task.id.TaskId.{TaskId}
-use Rattle.std.proofs.lemmas.List.Elements.{All-push, All-weaker, All-nil}
+use Rattle.std.proofs.lemmas.List.Elements.{All-push, All-weaker}
 use Rattle.std.proofs.Common.{count_by}
 use Rattle.std.proofs.lemmas.Bool.{cases_eq}
 use Rattle.std.specs.List.{All}
@@ -24,8 +24,7 @@ use Rattle.executor_core.proofs.TableLemmas.{law_put, times-push_same, times-pus
 use Rattle.executor_core.proofs.CountLemmas.{recounted}
 
 none_of : {X : Type 0} (o : Option X) → ((x : X) → o ≡ Some x → ⊥) → o ≡ None
-none_of None h = refl
-none_of (Some x) h = absurd (h x refl)
+none_of o h = grind arith
 
 counts : (u a b s t : ℕ) → u ≡ a + s → b ≡ a + 1 → t + 0 ≡ s + 0 → u + 1 ≡ b + t
 counts u a b s t p q r = omega arith
@@ -43,26 +42,15 @@ module _ {P T W : Type 0} where
 
   new_fits : {next undropped : ℕ} {slots : List (Option (Numbered (Cell P T W)))} {ids : List TaskId}
       → IsSound next slots ids undropped → (key : ℕ) → get_or slots key None ≡ None → Fits slots key next
-  new_fits sound key vacant =
-      record {
-        free = λ at d there same. let below = sound.below at d there in absurd (omega arith);
-        own = λ d there. absurd (cc);
-      }
+  new_fits sound key vacant = grind arith
 
   kept_beside : (m : map.FinMap nat_cmp (Slotted P T W)) (n : ℕ) (slotted : Slotted P T W) → map.get m n ≡ None → (other : TaskId) → Placed m other → Placed (map.insert m n slotted) other
-  kept_beside m n slotted none other placed =
-      let far : other.number ≢ n = λ same. absurd (some_none _ (sym placed.1 ∙ ap (map.get m) same ∙ none)) in
-      (placed.0, insert_other m n slotted other.number far ∙ placed.1, placed.2)
-    where
-      some_none : {X : Type 0} (x : X) → Some x ≡ None → ⊥
-      some_none x e = cc
+  kept_beside m n slotted none other placed = grind (arith, insert_other)
 
   -- the slots keep their count if neither old nor new slot may be queued later
   same_count : (old new : List (Option (Numbered (Cell P T W)))) (key : ℕ) (slot : Option (Numbered (Cell P T W))) → Changes old new key slot
       → count_by is_queueable new + cond (is_queueable (get_or old key None)) 1 0 ≡ count_by is_queueable old + cond (is_queueable slot) 1 0
-  same_count old new key slot changes =
-      recounted (λ o. cond (is_queueable o) 1 0) refl old new key changes.others
-      ∙ ap (λ o. count_by is_queueable old + cond (is_queueable o) 1 0) changes.changed
+  same_count old new key slot changes = grind (arith, recounted)
 
   pub spawn_sound : {next undropped : ℕ} {slots : List (Option (Numbered (Cell P T W)))} {ids later : List TaskId}
       → IsSound next slots ids undropped
@@ -120,24 +108,10 @@ module _ {P T W : Type 0} where
   pub spawn_free : {next undropped : ℕ} {slots : List (Option (Numbered (Cell P T W)))} {ids : List TaskId}
       → IsSound next slots ids undropped
       → (q : QueueState) (closed : Bool) (key : ℕ) → get_or slots key None ≡ None → IsFree (table_of next slots q closed) key
-  spawn_free {slots = slots} sound q closed key vacant n s found taken =
-      let sees = get_sees slots n s found in
-      let zero_at : 0 + sees.at ≡ sees.at = omega arith in
-      let place : sees.at ≡ key = sym (ap (λ x. x.slot) sees.is ∙ zero_at) ∙ taken in
-      let both : Some sees.cell ≡ None = sym sees.there ∙ ap (λ k. get_or slots k None) place ∙ vacant in
-      cc
+  spawn_free {slots = slots} sound q closed key vacant n s found taken = grind (arith, get_sees slots n s found)
 
   pub empty_sound : (first : ℕ) → IsSound {P = P} {T = T} {W = W} first [] [] 0
-  empty_sound first =
-      record {
-        below = λ i c found. absurd (cc);
-        distinct = λ i j c d found e. absurd (cc);
-        placed = All-nil (Placed (cells_of []));
-        law = λ n. sym (ap (λ o. cond (scheduled_in {P = P} {T = T} {W = W} o) 1 0) (get-cells_of {P = P} {T = T} {W = W} [] n));
-        counted = refl;
-        numbered = omega arith;
-        settled = λ i c found. absurd (cc);
-      }
+  empty_sound first = grind (arith, get-cells_of)
 
   pub empty_is : (first : ℕ) → table_of {P = P} {T = T} {W = W} first [] no_queues false ≡ empty_table first
   unfolding cells_of

@@ -1,5 +1,5 @@
 -- What keeps `IsSound`, and what is then seen.
-use Rattle.std.proofs.Common.{◌≡◌, ◌≢◌, ℕ, Bool, ◌+◌, ◌<◌, ◌≤◌, ◌==◌, ◌||◌, false, List, [], ◌∷◌, ◌++◌, length, set, get_or, Option, Some, None, cond, refl, sym, ap, subst, ◌∙◌, inl, inr, arith}
+use Rattle.std.proofs.Common.{◌≡◌, ◌≢◌, ℕ, Bool, ◌+◌, ◌<◌, ◌≤◌, ◌==◌, ◌||◌, List, [], ◌∷◌, ◌++◌, length, set, get_or, Option, Some, None, cond, refl, sym, ap, subst, ◌∙◌, inl, inr, arith}
 use Rattle.std.proofs.lemmas.Bool.{cases_eq, eq-eqb, ne_eqb}
 use Rattle.std.proofs.lemmas.List.Sums.{sum_by-set, sum_by-append}
 use Rattle.std.proofs.lemmas.List.Elements.{All-weaker}
@@ -22,9 +22,7 @@ pub times-push_same : (n : ℕ) (numbers : List ℕ) → times n (numbers ++ n �
 times-push_same n numbers = sum_by-append (λ k. cond (k == n) 1 0) numbers (n ∷ []) ∙ rw (eq-eqb n n refl) refl
 
 pub times-push_other : (q n : ℕ) (numbers : List ℕ) → q ≢ n → times q (numbers ++ n ∷ []) ≡ times q numbers
-times-push_other q n numbers far =
-    let other : (n == q) ≡ false = ne_eqb n q (λ e. far (sym e)) in
-    sum_by-append (λ k. cond (k == q) 1 0) numbers (n ∷ []) ∙ rw other (omega arith)
+times-push_other q n numbers far = grind (arith, ne_eqb, sum_by-append)
 
 module _ {P T W : Type 0} where
   -- a law that is kept when one cell changes and the number is queued if it becomes scheduled
@@ -107,8 +105,7 @@ module _ {P T W : Type 0} where
   pub table_set : {closed : Bool} (next : ℕ) (slots : List (Option (Numbered (Cell P T W)))) (later : QueueState) (id : TaskId) (e : Numbered (Cell P T W)) (c : Cell P T W) (xs : List ℕ)
       → Distinct slots → get_or slots id.slot None ≡ Some e → e.number ≡ id.number → numbers_of later.lists.global ≡ xs
       → table_of next (set slots id.slot (Some (record { number = e.number; cell = c }))) later closed ≡ record (with_cell (table_of next slots later closed) id c) { global = xs }
-  table_set {closed} next slots later id e c xs distinct there number lists =
-      same_table (table_of next slots later closed) _ _ _ _ (cells_of-set slots id.slot e c distinct there ∙ ap (λ n. map.insert (cells_of slots) n (seen id.slot c)) number) lists
+  table_set {closed} next slots later id e c xs distinct there number lists = grind (arith, same_table, cells_of-set)
 
 pub numbers_of-push : (ids : List TaskId) (id : TaskId) → numbers_of (ids ++ id ∷ []) ≡ numbers_of ids ++ id.number ∷ []
 numbers_of-push [] id = refl

@@ -1,13 +1,13 @@
 -- What a take keeps and gives.
-use Rattle.std.proofs.Common.{◌≡◌, ℕ, Bool, true, List, [], ◌∷◌, get_or, Option, Some, None, refl, sym, ap, subst, ◌∙◌}
+use Rattle.std.proofs.Common.{◌≡◌, ℕ, Bool, true, List, [], ◌∷◌, get_or, Option, Some, None, refl, sym, ap, subst, ◌∙◌, arith}
 use Rattle.std.specs.FinMap as map
 use Rattle.executor_core.specs.Cell.{is_scheduled}
 use Rattle.executor_core.specs.Cells.{Slotted, Table}
 use Rattle.executor_core.specs.Cells.Law.{queues_of}
 use Rattle.executor_core.specs.Cells.View.{seen, cells_of, numbers_of, scheduled_slot, table_of, IsSound, TakesOut}
 use Rattle.executor_core.specs.Cell.Changes.{taken}
-use Rattle.executor_core.specs.Cells.Calls.{with_cell, with_taken_at, with_queues, search_to, after_take, take_first, IsTaken}
-use Rattle.executor_core.specs.Queues.{QueueLists, map_queues, search_global, global_front}
+use Rattle.executor_core.specs.Cells.Calls.{with_cell, with_taken_at, with_queues, search_to, after_take, IsTaken}
+use Rattle.executor_core.specs.Queues.{QueueLists, map_queues, search_global}
 use Rattle.executor_core.specs.Queues.State.{QueueState, with_lists}
 use Rattle.executor_core.specs.Slots.{HasCell}
 use Rattle.executor_core.proofs.TableLemmas.{table_set}
@@ -32,11 +32,7 @@ module _ {P T W : Type 0} where
 
   taken_number : {next undropped : ℕ} {slots new : List (Option (Numbered (Cell P T W)))} {later : List TaskId} {id : TaskId} {task : Taken P}
       → IsSound next slots (id ∷ later) undropped → (takes : TakesOut slots new id task) → takes.entry.number ≡ id.number
-  taken_number {id = id} sound takes =
-      let at = front_cell sound id refl in
-      let there = takes.there in
-      let same : at.0 ≡ takes.entry = cc in
-      ap (λ x. x.number) (sym same) ∙ at.2
+  taken_number {id = id} sound takes = grind (arith, front_cell sound id refl)
 
   taken_get : {next undropped : ℕ} {slots new : List (Option (Numbered (Cell P T W)))} {later : List TaskId} {id : TaskId} {task : Taken P}
       → IsSound next slots (id ∷ later) undropped → (takes : TakesOut slots new id task) → map.get (cells_of slots) id.number ≡ Some (seen id.slot takes.entry.cell)
@@ -76,16 +72,7 @@ module _ {P T W : Type 0} where
 
   -- a take of the global front is a search there
   pub after_take-search : (table : Table P T W) → search_to (search_global (queues_of table)) table ≡ after_take table
-  after_take-search table = by_global table.global
-    where
-      by_cell : (n : ℕ) (rest : List ℕ) (o : Option (Slotted P T W))
-          → with_queues (record { global = rest; locals = table.locals }) (with_taken_at table n o) ≡ record (with_taken_at table n o) { global = rest }
-      by_cell n rest None = refl
-      by_cell n rest (Some s) = refl
-
-      by_global : (numbers : List ℕ) → search_to (global_front numbers (queues_of table)) table ≡ take_first table numbers
-      by_global [] = refl
-      by_global (n ∷ rest) = by_cell n rest (map.get table.cells n)
+  after_take-search table = grind arith
 
   pub is_taken : {closed : Bool} {next undropped : ℕ} {slots new : List (Option (Numbered (Cell P T W)))} {later : List TaskId} {id : TaskId} {task : Taken P}
       → IsSound next slots (id ∷ later) undropped → (takes : TakesOut slots new id task) → (q : QueueState) → IsTaken (table_of next slots q closed) task
@@ -99,8 +86,4 @@ module _ {P T W : Type 0} where
 
 -- what is found at the global front stood there
 pub front_found : {X : Type 0} (q : QueueLists X) (x : X) → (search_global q).0 ≡ Some x → q.global ≡ x ∷ (search_global q).1.global
-front_found {X = X} q x found = by_global q.global refl found
-  where
-    by_global : (xs : List X) → q.global ≡ xs → (global_front xs q).0 ≡ Some x → q.global ≡ x ∷ (global_front xs q).1.global
-    by_global [] is found = absurd (cc)
-    by_global (first ∷ rest) is found = let same : first ≡ x = cc in is ∙ ap (λ y. y ∷ rest) same
+front_found {X = X} q x found = grind arith

@@ -24,8 +24,6 @@ use Rattle.executor_core.proofs.StateLemmas.{ended_state, undropped_by}
 use Rattle.executor_core.proofs.WriteLemmas.{law_at, front_cell}
 use Rattle.executor_core.specs.declared.task.cell.Cell.{Cell}
 use Rattle.executor_core.specs.declared.task.cell.Numbered.{Numbered}
-use Rattle.executor_core.specs.declared.task.cell.CellState.{CellState}
-use Rattle.executor_core.specs.declared.task.cell.CellState.TheVariants.{Idle, Scheduled, Held, Finished, Gone}
 use Rattle.executor_core.specs.declared.task.id.TaskId.{TaskId}
 
 length-numbers_of : (ids : List TaskId) → length (numbers_of ids) ≡ length ids
@@ -33,8 +31,7 @@ length-numbers_of [] = refl
 length-numbers_of (id ∷ ids) = ap suc (length-numbers_of ids)
 
 no_one : (b : Bool) → cond b 1 0 ≤ 0 → b ≡ false
-no_one true h = absurd (omega arith)
-no_one false h = refl
+no_one b h = grind arith
 
 -- no key occurs twice
 abbrev pub AllFresh : {X : Type 0} → List (ℕ × X) → Type 0
@@ -152,15 +149,7 @@ module _ {P T W : Type 0} where
       omega arith
 
   undropped_parts : (s : Option (Numbered (Cell P T W))) → cond (undropped_slot s) 1 0 ≡ cond (scheduled_slot s) 1 0 + cond (is_queueable s) 1 0
-  undropped_parts None = refl
-  undropped_parts (Some e) = by_state e.cell.state
-    where
-      by_state : (st : CellState P T) → cond (is_undropped st) 1 0 ≡ cond (is_scheduled st) 1 0 + cond (is_idle st || is_held st) 1 0
-      by_state (Idle p) = refl
-      by_state (Scheduled p) = refl
-      by_state Held = refl
-      by_state (Finished t) = refl
-      by_state Gone = refl
+  undropped_parts s = grind arith
 
   -- each queued number has one slot
   queued_sum : (slots : List (Option (Numbered (Cell P T W)))) → Distinct slots → (ids : List TaskId) → All (Placed (cells_of slots)) ids → sum_by (queued_times ids) slots ≡ length ids
@@ -210,17 +199,7 @@ module _ {P T W : Type 0} where
   -- nothing is undropped if the count is zero
   pub all_dropped : {next : ℕ} {slots : List (Option (Numbered (Cell P T W)))} {ids : List TaskId}
       → IsSound next slots ids 0 → (q : QueueState) (closed : Bool) → AllDropped (table_of next slots q closed)
-  all_dropped {slots = slots} {ids = ids} sound q closed n s found =
-      let sees = get_sees slots n s found in
-      let part : cond (is_queueable (get_or slots sees.at None)) 1 0 ≤ count_by is_queueable slots = at_least (λ o. cond (is_queueable o) 1 0) refl slots sees.at in
-      let counted = sound.counted in
-      let none : cond (is_queueable (get_or slots sees.at None)) 1 0 ≤ 0 = omega arith in
-      let may : is_queueable (Some sees.cell) ≡ false = sym (ap is_queueable sees.there) ∙ no_one _ none in
-      let law : times sees.cell.number (numbers_of ids) ≡ cond (is_scheduled sees.cell.cell.state) 1 0 = law_at sound sees.at sees.cell sees.there in
-      let short : times sees.cell.number (numbers_of ids) ≤ length (numbers_of ids) = count_by-le-length (λ k. k == sees.cell.number) (numbers_of ids) in
-      let same : length (numbers_of ids) ≡ length ids = length-numbers_of ids in
-      let queued : cond (is_scheduled sees.cell.cell.state) 1 0 ≤ 0 = omega arith in
-      ap (λ x. is_undropped x.cell.state) sees.is ∙ undropped_by sees.cell.cell.state may (no_one _ queued)
+  all_dropped {slots = slots} {ids = ids} sound q closed n s found = grind (arith, get_sees slots n s found, length-numbers_of ids, at_least, no_one, law_at, count_by-le-length, undropped_by)
 
   pub none_undropped : {next undropped : ℕ} {slots : List (Option (Numbered (Cell P T W)))} {ids : List TaskId}
       → IsSound next slots ids undropped → (q : QueueState) (closed : Bool) → AllDropped (table_of next slots q closed) → undropped ≡ 0

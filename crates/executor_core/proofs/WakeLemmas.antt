@@ -1,5 +1,5 @@
 -- What a wake keeps and gives.
-use Rattle.std.proofs.Common.{◌≡◌, ℕ, ◌||◌, Bool, true, false, List, [], ◌∷◌, ◌++◌, set, get_or, Option, Some, None, is_some, cond, refl, sym, ap, ◌∙◌}
+use Rattle.std.proofs.Common.{◌≡◌, ℕ, ◌||◌, Bool, true, false, List, [], ◌∷◌, ◌++◌, set, get_or, Option, Some, None, is_some, cond, refl, sym, ap, ◌∙◌, arith}
 use Rattle.executor_core.specs.Cells.{Table}
 use Rattle.executor_core.specs.Cell.{is_idle, is_held, is_scheduled}
 use Rattle.executor_core.specs.Cells.View.{numbers_of, table_of, IsSound, Settled}
@@ -69,9 +69,7 @@ module _ {P T W : Type 0} where
 
   -- there is no cell
   pub after_wake-absent : (table : Table P T W) (id : TaskId) (o : Option (Cell P T W)) → is_some o ≡ false → wake_at table id o ≡ table
-  after_wake-absent table id None h = refl
-  after_wake-absent table id (Some c) h = absurd (cc)
+  after_wake-absent table id o h = grind arith
 
   pub wakes-absent : (o : Option (Cell P T W)) → is_some o ≡ false → idle_in o ≡ false
-  wakes-absent None h = refl
-  wakes-absent (Some c) h = absurd (cc)
+  wakes-absent o h = grind arith

@@ -16,8 +16,7 @@ use Rattle.executor_core.specs.declared.task.cell.Numbered.{Numbered}
 use Rattle.executor_core.specs.declared.task.id.TaskId.{TaskId}
 
 cons_append : {A : Type 0} (o : Option A) (xs ys : List A) → cons_option o (xs ++ ys) ≡ cons_option o xs ++ ys
-cons_append None xs ys = refl
-cons_append (Some x) xs ys = refl
+cons_append o xs ys = grind arith
 
 module _ {P T W : Type 0} where
   -- the slots once so many of them were visited
@@ -97,9 +96,7 @@ module _ {P T W : Type 0} (change : Cell P T W → Cell P T W) (n : ℕ) (slots 
   same_slot = ap (λ l. get_or l n None) visited ∙ changed_below-at change n slots
 
   pub slots_walked : {later : List (Option (Numbered (Cell P T W)))} → later ≡ set now n (changed_slot change (get_or now n None)) → later ≡ changed_below change (n + 1) slots
-  slots_walked is =
-      let next : suc n ≡ n + 1 = omega arith in
-      is ∙ (λ i. set (visited i) n (changed_slot change (same_slot i))) ∙ changed_below-next change n slots ∙ ap (λ k. changed_below change k slots) next
+  slots_walked is = grind (arith, same_slot, changed_below-next)
 
   -- the idle ones of the slots up to this one, if this is what the slot gives
   ids_walked : {found : Option TaskId} → found ≡ idle_id n (get_or now n None) → idle_below 0 (n + 1) slots ≡ idle_below 0 n slots ++ cons_option found []
@@ -152,9 +149,7 @@ module _ {P T W : Type 0} (change : Cell P T W → Cell P T W) (n : ℕ) (slots 
   pub queues_walked : {id : TaskId} {found : Option TaskId} → found ≡ idle_id n (get_or now n None) → found ≡ Some id
       → (first : QueueState) {q later : QueueState} → q ≡ with_lists (pushed_all (idle_below 0 n slots) first.lists) first → later ≡ with_lists (pushed id q.lists) q
       → later ≡ with_lists (pushed_all (idle_below 0 (n + 1) slots) first.lists) first
-  queues_walked {id} is some first same next =
-      next ∙ ap (λ s. with_lists (pushed id s.lists) s) same
-      ∙ ap (λ l. with_lists (record first.lists { global = l }) first) (append_assoc first.lists.global (idle_below 0 n slots) (id ∷ []) ∙ ap (λ l. first.lists.global ++ l) (sym (ids_pushed is some)))
+  queues_walked {id} is some first same next = grind (arith, append_assoc, ids_pushed)
 
   pub idle_walked : {id : TaskId} {found : Option TaskId} → found ≡ idle_id n (get_or now n None) → found ≡ Some id → true ≡ nat_lt 0 (length (idle_below 0 (n + 1) slots))
   idle_walked {id} is some = sym (ap (λ l. nat_lt 0 (length l)) (ids_pushed is some) ∙ some_last (idle_below 0 n slots) id)
@@ -187,17 +182,10 @@ module _ {P T W : Type 0} {E : Type 0} (event : ℕ → E) (slots : List (Option
     logged_kept none = ap (λ l. old ++ list_map event l) (numbers_walked ∙ ap (λ o. undropped_numbers (take n slots) ++ cons_option o []) none ∙ append-nil (undropped_numbers (take n slots)))
 
     pub logged_pushed : {k : ℕ} → found ≡ Some k → logged_below (n + 1) ≡ logged_below n ++ event k ∷ []
-    logged_pushed {k} some =
-        ap (λ l. old ++ list_map event l) (numbers_walked ∙ ap (λ o. undropped_numbers (take n slots) ++ cons_option o []) some)
-        ∙ ap (λ l. old ++ l) (map-append event (undropped_numbers (take n slots)) (k ∷ [])) ∙ sym (append_assoc old (list_map event (undropped_numbers (take n slots))) (event k ∷ []))
+    logged_pushed {k} some = grind (arith, numbers_walked, map-append, append_assoc)
 
     pub room_logged : {k : ℕ} → found ≡ Some k → {now : List E} {count capacity : ℕ} → now ≡ logged_below n → count ≡ length now → length old + length (undropped_numbers slots) ≤ capacity → count < capacity
-    room_logged {k} some is_now counts room =
-        let few = few_numbers (n + 1) slots in
-        let more = ap length (numbers_walked ∙ ap (λ o. undropped_numbers (take n slots) ++ cons_option o []) some) in
-        let longer = length-append (undropped_numbers (take n slots)) (k ∷ []) in
-        let now_long = ap length is_now ∙ length-logged event old (undropped_numbers (take n slots)) in
-        omega arith
+    room_logged {k} some is_now counts room = grind (arith, few_numbers (n + 1) slots, length-append (undropped_numbers (take n slots)) (k ∷ []), numbers_walked, length-logged)
 
   pub logged_all : (n : ℕ) → length slots ≤ n → logged_below n ≡ old ++ list_map event (undropped_numbers slots)
   logged_all n past = ap (λ l. old ++ list_map event (undropped_numbers l)) (take_all n slots past)

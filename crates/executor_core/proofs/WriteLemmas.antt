@@ -22,9 +22,7 @@ pub times-front_same : (q n : ℕ) (numbers : List ℕ) → n ≡ q → times q 
 times-front_same q n numbers same = sum_by-cons (λ k. cond (k == q) 1 0) n numbers ∙ ap (λ b. cond b 1 0 + times q numbers) (eq-eqb n q same) ∙ one_more (times q numbers)
 
 pub times-front_other : (q n : ℕ) (numbers : List ℕ) → q ≢ n → times q (n ∷ numbers) ≡ times q numbers
-times-front_other q n numbers far =
-    let other : (n == q) ≡ false = ne_eqb n q (λ e. far (sym e)) in
-    sum_by-cons (λ k. cond (k == q) 1 0) n numbers ∙ ap (λ b. cond b 1 0 + times q numbers) other ∙ zero-add (times q numbers)
+times-front_other q n numbers far = grind (arith, ne_eqb, sum_by-cons, zero-add)
 
 module _ {P T W : Type 0} where
   -- how often a cell's number is queued

@@ -23,7 +23,6 @@ use Rattle.executor_core.proofs.ListLemmas.{within_get, get-set_same, get-set_ot
 use Rattle.executor_core.proofs.SlotLemmas.{insert_same, insert_other, remove_same, remove_other}
 use Rattle.executor_core.specs.declared.task.cell.Cell.{Cell}
 use Rattle.executor_core.specs.declared.task.cell.CellState.{CellState}
-use Rattle.executor_core.specs.declared.task.cell.CellState.TheVariants.{Idle, Scheduled, Held, Finished, Gone}
 use Rattle.executor_core.specs.declared.task.id.TaskId.{TaskId}
 use Rattle.executor_core.specs.declared.interleave.entry.TaskInfo.{TaskInfo}
 use Rattle.executor_core.specs.declared.interleave.entry.TaskEntry.{TaskEntry}
@@ -60,12 +59,7 @@ pub entry_same : {P : Type 0} (entries : List (TaskEntry P)) (n : ℕ) (e : Task
 entry_same entries n e is = record { here = is; others = λ q far. refl; longer = refl }
 
 pub entry_set : {P : Type 0} (entries : List (TaskEntry P)) (n : ℕ) (before e : TaskEntry P) → slice_get entries n ≡ Some before → EntryChange entries (slice_set entries n e) n e
-entry_set entries n before e is =
-    record {
-      here = get-set_same entries n e before is;
-      others = λ q far. get-set_other entries n q e far;
-      longer = length-slice_set entries n e;
-    }
+entry_set entries n before e is = grind (arith, get-set_same, get-set_other, length-slice_set)
 
 module _ {P T : Type 0} where
   -- the cells change at a number
@@ -75,27 +69,16 @@ module _ {P T : Type 0} where
     pub others : (q : ℕ) → q ≢ n → map.get later.cells q ≡ map.get table.cells q
 
   pub cell_put : (table later : Table P T (Unit {0})) (n : ℕ) (slotted : Slotted P T (Unit {0})) → later.next ≡ table.next → later.cells ≡ map.insert table.cells n slotted → CellChange table later n (Some slotted)
-  cell_put table later n slotted next is =
-      record {
-        next = next;
-        here = ap (λ i. map.get i n) is ∙ insert_same table.cells n slotted n refl;
-        others = λ q far. ap (λ i. map.get i q) is ∙ insert_other table.cells n slotted q far;
-      }
+  cell_put table later n slotted next is = grind (arith, insert_same, insert_other)
 
   pub cell_removed : (table later : Table P T (Unit {0})) (n : ℕ) → later.next ≡ table.next → later.cells ≡ map.remove table.cells n → CellChange table later n None
-  cell_removed table later n next is =
-      record {
-        next = next;
-        here = ap (λ i. map.get i n) is ∙ remove_same table.cells n n refl;
-        others = λ q far. ap (λ i. map.get i q) is ∙ remove_other table.cells n q far;
-      }
+  cell_removed table later n next is = grind (arith, remove_same, remove_other)
 
   pub cell_same : (table : Table P T (Unit {0})) (n : ℕ) (o : Option (Slotted P T (Unit {0}))) → map.get table.cells n ≡ o → CellChange table table n o
   cell_same table n o is = record { next = refl; here = is; others = λ q far. refl }
 
   pub number_agrees_by : (o p : Option (Slotted P T (Unit {0}))) (s u : Status T) (i k : Option (TaskEntry P)) → o ≡ p → s ≡ u → i ≡ k → NumberAgrees p u k → NumberAgrees o s i
-  number_agrees_by o p s u i k a b c h =
-      subst (λ x. NumberAgrees x s i) (sym a) (subst (λ x. NumberAgrees p x i) (sym b) (subst (λ x. NumberAgrees p u x) (sym c) h))
+  number_agrees_by o p s u i k a b c h = grind arith
 
   pub agree_again : {table later : Table P T (Unit {0})} {log more : List (Event T)} {entries anew : List (TaskEntry P)} {n : ℕ} {o : Option (Slotted P T (Unit {0}))} {s : Status T} {e : TaskEntry P}
       → Agree table log entries → CellChange table later n o → LogChange log more n s → EntryChange entries anew n e → NumberAgrees o s (Some e) → FewPollsFor s → InOrder more → Agree later more anew
@@ -125,80 +108,45 @@ module _ {P T : Type 0} where
   agreed_at {table} {log} {entries} agree n e found o here = number_agrees_by _ _ _ _ _ _ (sym here) refl (sym found) (agree.each n)
 
   in_slot_of : (s : Status T) (e : TaskEntry P) (o : Option (Slotted P T (Unit {0}))) → NumberAgrees o s (Some e) → in_slot e.info.slot o ≡ cell_of o
-  in_slot_of s e None h = refl
-  in_slot_of s e (Some slotted) h = ap (λ b. cond b (Some slotted.cell) None) (eq-eqb slotted.slot e.info.slot h.slot)
+  in_slot_of s e o h = grind (arith, eq-eqb)
 
   pub cell_agreed : {table : Table P T (Unit {0})} {log : List (Event T)} {entries : List (TaskEntry P)} → Agree table log entries → (n : ℕ) (e : TaskEntry P) → slice_get entries n ≡ Some e → (o : Option (Slotted P T (Unit {0}))) → map.get table.cells n ≡ o → cell_at table (id_of n e.info) ≡ cell_of o
   cell_agreed agree n e found o here = ap (in_slot e.info.slot) here ∙ in_slot_of _ e o (agreed_at agree n e found o here)
 
   pub owed_state : (st : CellState P T) (w : Bool) (s : Status T) → StateAgrees st w s → owed_of s ≡ is_scheduled st
-  owed_state (Idle p) w s h = rw (h.0.spawned, h.0.dropped, h.0.held, h.1, h.2, h.4) refl
-  owed_state (Scheduled p) w s h = rw (h.0.spawned, h.0.dropped, h.0.held, h.1) refl
-  owed_state Held w s h = rw (h.0.spawned, h.0.dropped, h.0.held) refl
-  owed_state (Finished t) w s h = rw (h.spawned, h.dropped) refl
-  owed_state Gone w s h = rw (h.spawned, h.dropped) refl
+  owed_state st w s h = grind arith
 
   pub idle_state : (st : CellState P T) (w : Bool) (s : Status T) → StateAgrees st w s → idle_of s ≡ is_idle st
-  idle_state (Idle p) w s h = rw (h.0.spawned, h.0.dropped, h.0.held, h.1, h.2, h.4) refl
-  idle_state (Scheduled p) w s h = rw (h.0.spawned, h.0.dropped, h.0.held, h.1) refl
-  idle_state Held w s h = rw (h.0.spawned, h.0.dropped, h.0.held) refl
-  idle_state (Finished t) w s h = rw (h.spawned, h.dropped) refl
-  idle_state Gone w s h = rw (h.spawned, h.dropped) refl
+  idle_state st w s h = grind arith
 
   pub dropped_state : (st : CellState P T) (w : Bool) (s : Status T) → StateAgrees st w s → s.dropped ≡ not (is_undropped st)
-  dropped_state (Idle p) w s h = h.0.dropped
-  dropped_state (Scheduled p) w s h = h.0.dropped
-  dropped_state Held w s h = h.0.dropped
-  dropped_state (Finished t) w s h = h.dropped
-  dropped_state Gone w s h = h.dropped
+  dropped_state st w s h = grind arith
 
   pub held_by_state : (st : CellState P T) (w : Bool) (s : Status T) → StateAgrees st w s → s.held ≡ is_held st
-  held_by_state (Idle p) w s h = h.0.held
-  held_by_state (Scheduled p) w s h = h.0.held
-  held_by_state Held w s h = h.0.held
-  held_by_state (Finished t) w s h = h.held
-  held_by_state Gone w s h = h.held
+  held_by_state st w s h = grind arith
 
   scheduled_is : (o : Option (Slotted P T (Unit {0}))) (s : Status T) (i : Option (TaskEntry P)) → NumberAgrees o s i → has_state is_scheduled o ≡ owed_of s
-  scheduled_is None s None h = sym (ap owed_of h)
-  scheduled_is None s (Some e) h = rw (h.spawned, h.dropped) refl
-  scheduled_is (Some slotted) s (Some e) h = sym (owed_state slotted.cell.state slotted.cell.woken s h.state)
-  scheduled_is (Some slotted) s None h = absurd h
+  scheduled_is o s i h = grind (arith, owed_state)
 
   idle_is : (o : Option (Slotted P T (Unit {0}))) (s : Status T) (i : Option (TaskEntry P)) → NumberAgrees o s i → has_state is_idle o ≡ idle_of s
-  idle_is None s None h = sym (ap idle_of h)
-  idle_is None s (Some e) h = rw (h.spawned, h.dropped) refl
-  idle_is (Some slotted) s (Some e) h = sym (idle_state slotted.cell.state slotted.cell.woken s h.state)
-  idle_is (Some slotted) s None h = absurd h
+  idle_is o s i h = grind (arith, idle_state)
 
   held_is : (o : Option (Slotted P T (Unit {0}))) (s : Status T) (i : Option (TaskEntry P)) → NumberAgrees o s i → has_state is_held o ≡ s.held
-  held_is None s None h = sym (ap (λ x. x.held) h)
-  held_is None s (Some e) h = sym h.held
-  held_is (Some slotted) s (Some e) h = sym (held_by_state slotted.cell.state slotted.cell.woken s h.state)
-  held_is (Some slotted) s None h = absurd h
+  held_is o s i h = grind (arith, held_by_state)
 
   pub cells_agree : {table : Table P T (Unit {0})} {log : List (Event T)} {entries : List (TaskEntry P)} → Agree table log entries → CellsAgree table log
-  cells_agree {table} {log} {entries} agree =
-      record {
-        scheduled = λ n. scheduled_is (map.get table.cells n) (status n log) (slice_get entries n) (agree.each n);
-        idle = λ n. idle_is (map.get table.cells n) (status n log) (slice_get entries n) (agree.each n);
-        held = λ n. held_is (map.get table.cells n) (status n log) (slice_get entries n) (agree.each n);
-      }
+  cells_agree {table} {log} {entries} agree = grind (arith, scheduled_is, idle_is, held_is)
 
   -- a future is out if and only if its task is held
   out_held : (o : Option (Slotted P T (Unit {0}))) (s : Status T) (i : Option (TaskEntry P)) → NumberAgrees o s i → is_out i ≡ s.held
-  out_held None s None h = sym (ap (λ x. x.held) h)
-  out_held None s (Some e) h = h.out
-  out_held (Some slotted) s (Some e) h = h.out
-  out_held (Some slotted) s None h = absurd h
+  out_held o s i h = grind arith
 
   pub out_is : {table : Table P T (Unit {0})} {log : List (Event T)} {entries : List (TaskEntry P)} → Agree table log entries → (n : ℕ) → is_out (slice_get entries n) ≡ held n log
   out_is agree n = out_held _ _ _ (agree.each n)
 
   -- the queue has each number whose cell is scheduled
   scheduled_same : (o : Option (Slotted P T (Unit {0}))) → scheduled_in o ≡ has_state is_scheduled o
-  scheduled_same None = refl
-  scheduled_same (Some slotted) = refl
+  scheduled_same o = grind arith
 
   pub one_place : {table : Table P T (Unit {0})} {log : List (Event T)} {entries : List (TaskEntry P)} → Agree table log entries → LockLaw table → OnePlace log (queued_of table)
   one_place {table} agree law n = law n ∙ ap (λ b. cond b 1 0) (scheduled_same (map.get table.cells n) ∙ (cells_agree agree).scheduled n)
@@ -211,17 +159,7 @@ module _ {P T : Type 0} where
 
   -- whether a number was spawned, by what is known of it
   spawned_match : (o : Option (Slotted P T (Unit {0}))) (s : Status T) (i : Option (TaskEntry P)) → NumberAgrees o s i → s.spawned ≡ is_some i
-  spawned_match None s None h = ap (λ x. x.spawned) h
-  spawned_match None s (Some i) h = h.spawned
-  spawned_match (Some slotted) s None h = absurd h
-  spawned_match (Some slotted) s (Some i) h = by_state slotted.cell.state slotted.cell.woken h.state
-    where
-      by_state : (st : CellState P T) (w : Bool) → StateAgrees st w s → s.spawned ≡ true
-      by_state (Idle p) w h = h.0.spawned
-      by_state (Scheduled p) w h = h.0.spawned
-      by_state Held w h = h.0.spawned
-      by_state (Finished t) w h = h.spawned
-      by_state Gone w h = h.spawned
+  spawned_match o s i h = grind arith
 
   pub spawned_is : {table : Table P T (Unit {0})} {log : List (Event T)} {entries : List (TaskEntry P)} → Agree table log entries → (n : ℕ) → spawned n log ≡ is_some (slice_get entries n)
   spawned_is {table} {log} {entries} agree n = spawned_match _ _ _ (agree.each n)
@@ -265,48 +203,23 @@ module _ {P T : Type 0} where
 
 module _ {P T : Type 0} {table : Table P T (Unit {0})} {log : List (Event T)} {entries : List (TaskEntry P)} (agree : Agree table log entries) (n : ℕ) (e : TaskEntry P) (found : slice_get entries n ≡ Some e) where
   pub cell_or_none : CellAt table log n e ⊎ NoCellAt table log n e
-  cell_or_none = by_slotted (map.get table.cells n) refl
-    where
-      by_slotted : (o : Option (Slotted P T (Unit {0}))) → map.get table.cells n ≡ o → CellAt table log n e ⊎ NoCellAt table log n e
-      by_slotted None here = inr (record { here = here; cell = cell_agreed agree n e found None here; agrees = agreed_at agree n e found None here })
-      by_slotted (Some slotted) here = inl (record { slotted = slotted; here = here; cell = cell_agreed agree n e found (Some slotted) here; agrees = agreed_at agree n e found (Some slotted) here })
+  cell_or_none = grind (arith, cell_agreed, agreed_at)
 
   -- the future is in the cell if and only if the task is owed a poll or a drop, or is idle
   pub kept_is : future_in (cell_at table (id_of n e.info)) ≡ owed n log || idle n log
-  kept_is = elim cell_or_none [
-    | inl at ↦ ap future_in at.cell ∙ by_state at.slotted.cell.state at.slotted.cell.woken at.agrees.state
-    | inr none ↦ ap future_in none.cell ∙ rw (none.agrees.spawned, none.agrees.dropped) refl
-  ]
-    where
-      swapped : (a b : Bool) → a || b ≡ b || a
-      swapped true true = refl
-      swapped true false = refl
-      swapped false true = refl
-      swapped false false = refl
-
-      by_state : (st : CellState P T) (w : Bool) → StateAgrees st w (status n log) → is_idle st || is_scheduled st ≡ owed n log || idle n log
-      by_state st w h = swapped (is_idle st) (is_scheduled st) ∙ ap (λ b. b || is_idle st) (sym (owed_state st w (status n log) h)) ∙ ap (λ b. owed n log || b) (sym (idle_state st w (status n log) h))
+  kept_is = grind (arith, cell_or_none, owed_state, idle_state)
 
   -- a task whose handle is there has a cell
   pub handle_cell : e.info.has_handle ≡ true → CellAt table log n e
-  handle_cell there = elim cell_or_none [
-    | inl at ↦ at
-    | inr none ↦ absurd (cc (there, none.agrees.has_handle))
-  ]
+  handle_cell there = grind (arith, cell_or_none)
 
   -- and so has a held task
   pub held_cell : held n log ≡ true → CellAt table log n e
-  held_cell now_held = elim cell_or_none [
-    | inl at ↦ at
-    | inr none ↦ absurd (cc (now_held, none.agrees.held))
-  ]
+  held_cell now_held = grind (arith, cell_or_none)
 
   -- whether the future is dropped is what the log says
   pub undropped_is : undropped_in (cell_at table (id_of n e.info)) ≡ not (dropped n log)
-  undropped_is = elim cell_or_none [
-    | inl at ↦ ap undropped_in at.cell ∙ undropped_state at.slotted.cell.state at.slotted.cell.woken (status n log) at.agrees.state
-    | inr none ↦ ap undropped_in none.cell ∙ ap not (sym none.agrees.dropped)
-  ]
+  undropped_is = grind (arith, cell_or_none, undropped_state)
 
 module _ {P T : Type 0} (a : Inside P T) (sound : IsWorld (execution_of a) a.core.cells a.entries.items a.rings.items (vec_capacity a.log)) {w : Execution T} (view : execution_of a ≡ w) (n : ℕ) where
   -- a task that was spawned, or is held, is one of the tasks
@@ -321,11 +234,7 @@ module _ {P T : Type 0} (a : Inside P T) (sound : IsWorld (execution_of a) a.cor
   held_out b is = out_is sound.agree n ∙ ap (λ w. held n w.log) view ∙ (and_parts _ _ is).0
 
   pub held_within : (b : Bool) → held n w.log && b ≡ true → n < length a.entries.items
-  held_within b is = by_entry (slice_get a.entries.items n) refl (held_out b is)
-    where
-      by_entry : (o : Option (TaskEntry P)) → slice_get a.entries.items n ≡ o → is_out (slice_get a.entries.items n) ≡ true → n < length a.entries.items
-      by_entry (Some e) found h = within_get a.entries.items n e found
-      by_entry None found h = absurd (cc (h, ap (λ (o : Option (TaskEntry P)). is_out o) found))
+  held_within b is = grind (arith, held_out, within_get)
 
   -- nobody holds a task that was not spawned
   pub held_not : slice_get (infos a.entries.items) n ≡ None → held n w.log ≡ false
@@ -337,15 +246,8 @@ module _ {P T : Type 0} (a : Inside P T) (sound : IsWorld (execution_of a) a.cor
 
   -- what is known of a task says whether it was spawned
   pub spawned_known : is_some (slice_get (infos a.entries.items) n) ≡ spawned n w.log
-  spawned_known = by_entry (slice_get a.entries.items n) refl ∙ sym (spawned_is sound.agree n) ∙ ap (λ w. spawned n w.log) view
-    where
-      by_entry : (o : Option (TaskEntry P)) → slice_get a.entries.items n ≡ o → is_some (slice_get (infos a.entries.items) n) ≡ is_some (slice_get a.entries.items n)
-      by_entry None found = rw (found, no_info a.entries.items n found) refl
-      by_entry (Some e) found = rw (found, info_at a.entries.items n e found) refl
+  spawned_known = grind (arith, spawned_is, no_info, info_at)
 
   -- no future of a task that was not spawned is kept
   pub kept_not : slice_get (infos a.entries.items) n ≡ None → owed n w.log || idle n w.log ≡ false
-  kept_not none = unspawned w.log (sym spawned_known ∙ ap is_some none)
-    where
-      unspawned : (log : List (Event T)) → spawned n log ≡ false → owed n log || idle n log ≡ false
-      unspawned log is = rw is refl
+  kept_not none = grind (arith, spawned_known)

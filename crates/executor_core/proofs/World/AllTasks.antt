@@ -9,7 +9,7 @@ use Rattle.executor_core.specs.Numbers.{times}
 use Rattle.executor_core.specs.Cells.{Slotted, Table}
 use Rattle.executor_core.specs.Cell.{is_idle, is_undropped}
 use Rattle.executor_core.specs.Cells.Calls.{each_changed, rising, rising_idle, SlotsDiffer}
-use Rattle.executor_core.specs.World.Agreement.{Status, status, FewPollsFor, StateAgrees, NumberAgrees, Agree}
+use Rattle.executor_core.specs.World.Agreement.{Status, status, FewPollsFor, NumberAgrees, Agree}
 use Rattle.executor_core.specs.World.Closing.{AllMarked}
 use Rattle.executor_core.specs.World.Entries.{infos}
 use Rattle.executor_core.specs.World.Log.{spawned, dropped, cancelled, idle}
@@ -68,27 +68,13 @@ module _ {P T : Type 0} {table : Table P T (Unit {0})} {log : List (Event T)} {e
   undropped_ones = rising (λ c. is_undropped c.state) table.cells
 
   pub undropped_match : (o : Option (Slotted P T (Unit {0}))) (s : Status T) (i : Option (TaskEntry P)) → NumberAgrees o s i → passing (λ c. is_undropped c.state) o ≡ s.spawned && not s.dropped
-  undropped_match None s None h = sym (ap (λ x. x.spawned && not x.dropped) h)
-  undropped_match None s (Some e) h = rw (h.spawned, h.dropped) refl
-  undropped_match (Some slotted) s None h = absurd h
-  undropped_match (Some slotted) s (Some e) h = undropped_state slotted.cell.state slotted.cell.woken s h.state ∙ sym (ap (λ b. b && not s.dropped) (was slotted.cell.state slotted.cell.woken h.state))
-    where
-      was : (st : CellState P T) (w : Bool) → StateAgrees st w s → s.spawned ≡ true
-      was (Idle p) w h = h.0.spawned
-      was (Scheduled p) w h = h.0.spawned
-      was Held w h = h.0.spawned
-      was (Finished t) w h = h.spawned
-      was Gone w h = h.spawned
+  undropped_match o s i h = grind (arith, undropped_state)
 
   pub each_undropped : (n : ℕ) → times n undropped_ones ≡ cond (spawned n log && not (dropped n log)) 1 0
   each_undropped n = times-rising (λ c. is_undropped c.state) table.cells n ∙ ap (λ b. cond b 1 0) (undropped_match (fin_map.get table.cells n) (status n log) (slice_get entries n) (agree.each n))
 
   slot_known : (n : ℕ) (s : Slotted P T (Unit {0})) → fin_map.get table.cells n ≡ Some s → (info_or (slice_get (infos entries) n)).slot ≡ s.slot
-  slot_known n s here = by_entry (slice_get entries n) refl (subst (λ o. NumberAgrees o (status n log) (slice_get entries n)) here (agree.each n))
-    where
-      by_entry : (i : Option (TaskEntry P)) → slice_get entries n ≡ i → NumberAgrees (Some s) (status n log) i → (info_or (slice_get (infos entries) n)).slot ≡ s.slot
-      by_entry None found h = absurd h
-      by_entry (Some e) found h = ap (λ o. (info_or o).slot) (info_at entries n e found) ∙ sym h.slot
+  slot_known n s here = grind (arith, info_at)
 
   -- a number among them has a cell
   listed_cell : (i n : ℕ) → slice_get undropped_ones i ≡ Some n → (s : Slotted P T (Unit {0})) × (fin_map.get table.cells n ≡ Some s)
@@ -102,13 +88,7 @@ module _ {P T : Type 0} {table : Table P T (Unit {0})} {log : List (Event T)} {e
           absurd (omega arith)
 
   pub rising_slots : SlotsDiffer table → (i j n k : ℕ) → i < j → slice_get undropped_ones i ≡ Some n → slice_get undropped_ones j ≡ Some k → (info_or (slice_get (infos entries) n)).slot < (info_or (slice_get (infos entries) k)).slot
-  rising_slots differ i j n k before at_i at_j =
-      let s = listed_cell i n at_i in
-      let t = listed_cell j k at_j in
-      let rises = rising-rises (λ c. is_undropped c.state) table differ i j n k s.0 t.0 before at_i at_j s.1 t.1 in
-      let one = slot_known n s.0 s.1 in
-      let two = slot_known k t.0 t.1 in
-      omega arith
+  rising_slots differ i j n k before at_i at_j = grind (arith, listed_cell, rising-rises, slot_known)
 
   pub idle_ones : filter (λ n. idle n log) undropped_ones ≡ rising_idle table
   idle_ones = rising_among (λ c. is_undropped c.state) (λ c. is_idle c.state) (λ c. idle_undropped c.state) table.cells (λ n. idle n log) (λ n s here. sym ((cells_agree agree).idle n) ∙ ap (has_idle) here)
@@ -137,21 +117,10 @@ module _ {P T : Type 0} {table : Table P T (Unit {0})} {log : List (Event T)} {e
 
     -- what a number's cell is then
     number_marked : (o : Option (Slotted P T (Unit {0}))) (s t : Status T) (i : Option (TaskEntry P)) → (s.spawned && not s.dropped ≡ true → t ≡ change s) → (s.spawned && not s.dropped ≡ false → t ≡ s) → NumberAgrees o s i → NumberAgrees (option_map (changed mark) o) t i
-    number_marked None s t None alive gone h = gone (ap (λ x. x.spawned && not x.dropped) h) ∙ h
-    number_marked None s t (Some e) alive gone h = subst (λ t. NumberAgrees {P = P} {T = T} None t (Some e)) (sym (gone (rw (h.spawned, h.dropped) refl))) h
-    number_marked (Some slotted) s t None alive gone h = absurd h
-    number_marked (Some slotted) s t (Some e) alive gone h =
-        let undropped = undropped_match (Some slotted) s (Some e) h in
-        elim (cases_Bool (is_undropped slotted.cell.state)) [
-          | inl is ↦ subst (λ t. NumberAgrees (option_map (changed mark) (Some slotted)) t (Some e)) (sym (alive (sym undropped ∙ is))) (marked_cell marking h h.slot is)
-          | inr ended ↦ subst (λ t. NumberAgrees (option_map (changed mark) (Some slotted)) t (Some e)) (sym (gone (sym undropped ∙ ended))) (ended_cell marking h h.slot ended)
-        ]
+    number_marked o s t i alive gone h = grind (arith, undropped_match, cases_Bool, marked_cell, ended_cell)
 
     few_marked : (s t : Status T) → (s.spawned && not s.dropped ≡ true → t ≡ change s) → (s.spawned && not s.dropped ≡ false → t ≡ s) → FewPollsFor s → FewPollsFor t
-    few_marked s t alive gone few = elim (cases_Bool (s.spawned && not s.dropped)) [
-      | inl is ↦ subst FewPollsFor (sym (alive is)) (marking.few_polls s few)
-      | inr is ↦ subst FewPollsFor (sym (gone is)) few
-    ]
+    few_marked s t alive gone few = grind (arith, cases_Bool)
 
     pub marked_holds : {later : Table P T (Unit {0})} → later.next ≡ table.next → later.cells ≡ each_changed mark table.cells → Agree later marked_log entries
     marked_holds {later} next cells =

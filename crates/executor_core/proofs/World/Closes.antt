@@ -42,7 +42,6 @@ use Rattle.executor_core.specs.declared.interleave.event.Event.TheVariants.{Took
 use Rattle.executor_core.specs.declared.interleave.reply.Reply.{Reply}
 use Rattle.executor_core.specs.declared.interleave.reply.Reply.TheVariants as reply
 use Rattle.executor_core.specs.declared.interleave.ticker.Phase.{Phase}
-use Rattle.executor_core.specs.declared.interleave.ticker.Phase.TheVariants.{Rest, Search, Sleep, Wake, Store, Leaving, Forgotten, Ended}
 use Rattle.executor_core.specs.declared.interleave.ticker.Ticker.{Ticker}
 
 -- what has no item
@@ -109,14 +108,7 @@ still_at (x ∷ xs) (suc k) t none at = still_at xs k t (rest (not (at_rest x.ph
 
 -- one that has the flag to store is busy
 store_busy : (p : Phase) → in_store p ≡ true → not (at_rest p || is_over p) ≡ true
-store_busy Rest storing = absurd (cc)
-store_busy Search storing = absurd (cc)
-store_busy Sleep storing = absurd (cc)
-store_busy Wake storing = absurd (cc)
-store_busy (Store change) storing = refl
-store_busy Leaving storing = absurd (cc)
-store_busy Forgotten storing = absurd (cc)
-store_busy Ended storing = absurd (cc)
+store_busy p storing = grind arith
 
 -- some future is out if and only if some task is held
 any-range : {X : Type 0} (f : X → Bool) (g : ℕ → Bool) (xs : List X) (first : ℕ) → ((i : ℕ) (x : X) → slice_get xs i ≡ Some x → f x ≡ g (first + i)) → list_any f xs ≡ list_any g (range_with_len first (length xs))
@@ -161,14 +153,7 @@ module _ {P T : Type 0} (a : Inside P T) (sound : IsWorld (execution_of a) a.cor
 
     -- there is room for an event for each task
     pub room_for_each : length a.log.items + a.core.cells.next ≤ vec_capacity a.log
-    room_for_each =
-        let few = sound.room.few_before was_open was_kept in
-        let known = sound.agree.next in
-        let tasks = sound.room.few_tasks in
-        let as_many = length-infos a.entries.items in
-        let enough = sound.room.enough in
-        let within = sound.room.within in
-        omega arith
+    room_for_each = grind (arith, was_open, was_kept, length-infos)
 
     -- the world once each task is marked, and these went to the global end
     abbrev all_marked : Table P T (Unit {0}) → List (Event T) → List ℕ → Bool → Execution T

@@ -1,5 +1,5 @@
 -- What was closed stays so, and what follows of it.
-use Rattle.std.proofs.Common.{◌≡◌, ◌≢◌, ℕ, ◌==◌, ◌||◌, Bool, true, false, List, [], ◌∷◌, ◌++◌, Option, Some, None, cond, refl, sym, ap, ◌∙◌, inl, inr, append_assoc, arith}
+use Rattle.std.proofs.Common.{◌≡◌, ◌≢◌, ℕ, ◌==◌, ◌||◌, Bool, true, false, List, [], ◌∷◌, ◌++◌, Option, cond, refl, sym, ap, ◌∙◌, inl, inr, append_assoc, arith}
 use Rattle.std.proofs.lemmas.Bool.{cases_Bool, eqb-true, eq-eqb, or_left, or_right, true≢false, false≢true}
 use Rattle.std.proofs.lemmas.List.Sums.{sum_by-cons}
 use Rattle.std.specs.Prelude.{slice_get}
@@ -11,20 +11,16 @@ use Rattle.executor_core.specs.World.Log.{is_spawn, is_drop, spawned, dropped, c
 use Rattle.executor_core.specs.World.Promises.{InOrder, OnePlace, all_queues}
 use Rattle.executor_core.specs.World.Closing.{NoneOwed, drops, AllMarked, Closing, IsClosed}
 use Rattle.executor_core.specs.World.Steps.{drain_row, handle_row}
-use Rattle.executor_core.specs.World.Agreement.{Status, status, StateAgrees, NumberAgrees, Agree}
+use Rattle.executor_core.specs.World.Agreement.{Status, status, NumberAgrees, Agree}
 use Rattle.executor_core.proofs.World.Agreement.{owed_of, owed_state}
 use Rattle.executor_core.proofs.World.Log.{status-push}
-use Rattle.executor_core.specs.declared.task.cell.CellState.{CellState}
-use Rattle.executor_core.specs.declared.task.cell.CellState.TheVariants.{Idle, Scheduled, Held, Finished, Gone}
 use Rattle.executor_core.specs.declared.interleave.entry.TaskEntry.{TaskEntry}
 use Rattle.executor_core.specs.declared.interleave.event.Event.{Event}
-use Rattle.executor_core.specs.declared.interleave.event.Event.TheVariants.{Spawned, Woken, Cancelled, Took, Returned, Finished as Finish, Dropped, Got}
+use Rattle.executor_core.specs.declared.interleave.event.Event.TheVariants.{Dropped}
 use Rattle.executor_core.specs.declared.interleave.reply.Reply.TheVariants as reply
 
 either_more : (a b c d : Bool) → a || b ≡ true → (c || a) || (d || b) ≡ true
-either_more a b true d h = refl
-either_more true b false d h = refl
-either_more false b false d h = or_right d b h
+either_more a b c d h = grind (arith, or_right)
 
 -- more of the log leaves its tasks marked
 module _ {T : Type 0} where
@@ -44,19 +40,10 @@ module _ {T : Type 0} (n : ℕ) {log : List (Event T)} (order : InOrder log) whe
   dropped_push before e = ap (λ s. s.dropped) (status-push n before e)
 
   other_drop : (e : Event T) → is_drop n e ≡ true → e ≡ Dropped n
-  other_drop (Spawned m) is = absurd (cc)
-  other_drop (Woken m) is = absurd (cc)
-  other_drop (Cancelled m) is = absurd (cc)
-  other_drop (Took m purpose) is = absurd (cc)
-  other_drop (Returned m) is = absurd (cc)
-  other_drop (Finish m t) is = absurd (cc)
-  other_drop (Dropped m) is = ap (λ (k : ℕ). let e : Event T = Dropped k in e) (eqb-true m n is)
-  other_drop (Got m t) is = absurd (cc)
+  other_drop e is = grind (arith, eqb-true)
 
   may_drop : (before : List (Event T)) (e : Event T) (rest : List (Event T)) → log ≡ before ++ e ∷ rest → is_drop n e ≡ true → dropped n before ≡ false
-  may_drop before e rest is drop =
-      let same = other_drop e drop in
-      order before (Dropped n) rest (is ∙ ap (λ (x : Event T). before ++ x ∷ rest) same)
+  may_drop before e rest is drop = grind (arith, other_drop)
 
   further : (before : List (Event T)) (e : Event T) (rest : List (Event T)) → log ≡ before ++ e ∷ rest → log ≡ (before ++ e ∷ []) ++ rest
   further before e rest is = is ∙ sym (append_assoc before (e ∷ []) rest)
@@ -94,31 +81,11 @@ module _ {T : Type 0} (n : ℕ) {log : List (Event T)} (order : InOrder log) whe
 module _ {P T : Type 0} where
   -- an undropped task that is marked is owed or held
   owed_or_held : (o : Option (Slotted P T (Unit {0}))) (s : Status T) (i : Option (TaskEntry P)) → NumberAgrees o s i → s.spawned ≡ true → s.dropped ≡ false → s.cancelled ≡ true → owed_of s || s.held ≡ true
-  owed_or_held None s None h was alive marked = absurd (true≢false (sym was ∙ ap (λ x. x.spawned) h))
-  owed_or_held None s (Some e) h was alive marked = absurd (true≢false (sym h.dropped ∙ alive))
-  owed_or_held (Some slotted) s None h was alive marked = absurd h
-  owed_or_held (Some slotted) s (Some e) h was alive marked = by_state slotted.cell.state slotted.cell.woken h.state
-    where
-      by_state : (st : CellState P T) (w : Bool) → StateAgrees st w s → owed_of s || s.held ≡ true
-      by_state (Idle p) w h = absurd (true≢false (sym marked ∙ h.3))
-      by_state (Scheduled p) w h = or_left (owed_of s) s.held (owed_state {P = P} (Scheduled p) w s h)
-      by_state Held w h = or_right (owed_of s) s.held h.0.held
-      by_state (Finished t) w h = absurd (true≢false (sym h.dropped ∙ alive))
-      by_state Gone w h = absurd (true≢false (sym h.dropped ∙ alive))
+  owed_or_held o s i h was alive marked = grind (arith, or_left, owed_state, or_right)
 
   -- a future that gave an output was dropped
   gave_dropped : (o : Option (Slotted P T (Unit {0}))) (s : Status T) (i : Option (TaskEntry P)) → NumberAgrees o s i → s.outputs ≢ [] → s.dropped ≡ true
-  gave_dropped None s None h gave = absurd (gave (ap (λ x. x.outputs) h))
-  gave_dropped None s (Some e) h gave = h.dropped
-  gave_dropped (Some slotted) s None h gave = absurd h
-  gave_dropped (Some slotted) s (Some e) h gave = by_state slotted.cell.state slotted.cell.woken h.state
-    where
-      by_state : (st : CellState P T) (w : Bool) → StateAgrees st w s → s.dropped ≡ true
-      by_state (Idle p) w h = absurd (gave h.0.outputs)
-      by_state (Scheduled p) w h = absurd (gave h.0.outputs)
-      by_state Held w h = absurd (gave h.0.outputs)
-      by_state (Finished t) w h = h.dropped
-      by_state Gone w h = h.dropped
+  gave_dropped o s i h gave = grind arith
 
 -- what holds of a world that was closed
 module _ {P T : Type 0} {w : Execution T} {table : Table P T (Unit {0})} {entries : List (TaskEntry P)} (agree : Agree table w.log entries) (one : OnePlace w.log (all_queues w)) (closed : IsClosed w) where
@@ -132,10 +99,7 @@ module _ {P T : Type 0} {w : Execution T} {table : Table P T (Unit {0})} {entrie
   queued_is = ap (λ l. l ++ w.global) closed.emptied
 
   none_owed : w.global ≡ [] → NoneOwed w.log
-  none_owed none n = elim (cases_Bool (owed n w.log)) [
-    | inl is ↦ let placed = one n in let nothing = ap (times n) (queued_is ∙ none) in let here : ◌≡◌ {A = ℕ} (cond (owed n w.log) 1 0) 1 = ap (λ b. cond {A = ℕ} b 1 0) is in absurd (omega arith)
-    | inr not_owed ↦ not_owed
-  ]
+  none_owed none n = grind (arith, one n, cases_Bool, queued_is)
 
   empty_by : NoneOwed w.log → (queue : List ℕ) → w.global ≡ queue → queue ≡ []
   empty_by none [] is = refl
@@ -148,8 +112,7 @@ module _ {P T : Type 0} {w : Execution T} {table : Table P T (Unit {0})} {entrie
       absurd (omega arith)
 
   drains_none : (queue : List ℕ) → (drain_row queue w).0 ≡ reply.NoTask → queue ≡ []
-  drains_none [] is = refl
-  drains_none (n ∷ rest) is = absurd (cc)
+  drains_none queue is = grind arith
 
   give_output : (n : ℕ) (t : T) → outputs n w.log ≡ t ∷ [] → (handle_row n w).0 ≡ reply.Output t
   give_output n t is =

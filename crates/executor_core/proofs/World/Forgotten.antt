@@ -5,33 +5,19 @@ use Rattle.std.specs.List.{list_any}
 use Rattle.std.specs.Prelude.{sum_by, count_by, slice_get, slice_set}
 use Rattle.executor_core.specs.Sleepers.{SleeperList}
 use Rattle.executor_core.specs.World.Promises.{numbers_of, NumbersTied, HolderStores}
-use Rattle.executor_core.specs.World.Phases.{at_rest, is_over, is_awake, has_ended, gave_up, in_wake, in_store, ticker_or}
+use Rattle.executor_core.specs.World.Phases.{at_rest, is_over, in_store, ticker_or}
 use Rattle.executor_core.specs.World.Tickers.{forgotten}
 use Rattle.executor_core.specs.declared.interleave.ticker.Phase.{Phase}
-use Rattle.executor_core.specs.declared.interleave.ticker.Phase.TheVariants.{Rest, Search, Sleep, Wake, Store, Leaving, Forgotten, Ended}
+use Rattle.executor_core.specs.declared.interleave.ticker.Phase.TheVariants.{Rest, Forgotten}
 use Rattle.executor_core.specs.declared.interleave.ticker.Ticker.{Ticker}
 
 -- what says the same of rest and of a forgotten ticker says the same before and after
 pub forgotten_same : {X : Type 0} (f : Phase → X) → f Forgotten ≡ f Rest → (p : Phase) → f (cond (at_rest p) Forgotten p) ≡ f p
-forgotten_same f same Rest = same
-forgotten_same f same Search = refl
-forgotten_same f same Sleep = refl
-forgotten_same f same Wake = refl
-forgotten_same f same (Store change) = refl
-forgotten_same f same Leaving = refl
-forgotten_same f same Forgotten = refl
-forgotten_same f same Ended = refl
+forgotten_same f same phase = grind arith
 
 -- one that stands still is over then
 pub forgotten_over : (p : Phase) → not (at_rest p || is_over p) ≡ false → is_over (cond (at_rest p) Forgotten p) ≡ true
-forgotten_over Rest still = refl
-forgotten_over Search still = absurd (cc)
-forgotten_over Sleep still = absurd (cc)
-forgotten_over Wake still = absurd (cc)
-forgotten_over (Store change) still = absurd (cc)
-forgotten_over Leaving still = absurd (cc)
-forgotten_over Forgotten still = refl
-forgotten_over Ended still = refl
+forgotten_over p still = grind arith
 
 pub length-forgotten : (tickers : List Ticker) → length (map forgotten tickers) ≡ length tickers
 length-forgotten [] = refl
@@ -88,14 +74,7 @@ numbers-forgotten [] = refl
 numbers-forgotten (t ∷ ts) = ap (λ l. t.number ∷ l) (numbers-forgotten ts)
 
 pub tied_forgotten : {W : Type 0} {tickers : List Ticker} {s : SleeperList W} → NumbersTied tickers s → NumbersTied (map forgotten tickers) s
-tied_forgotten {tickers = tickers} {s = s} tied =
-    record {
-      numbers = λ i more. rw (numbers-forgotten tickers) (tied.numbers i more);
-      sleeping = tied.sleeping ∙ sym (count_by-forgotten (λ t. not (is_awake t)) (λ t. refl) tickers);
-      places = tied.places ∙ sym (count_by-forgotten (λ t. not (has_ended t.phase)) (λ t. ap not (forgotten_same has_ended refl t.phase)) tickers);
-      awake = λ k t at gone. let u = was_ticker tickers k t at in ap (λ (t : Ticker). t.number) u.2 ∙ tied.awake k u.0 u.1 (sym (ap (λ (t : Ticker). gave_up t.phase) u.2 ∙ forgotten_same gave_up refl u.0.phase) ∙ gone);
-      asleep = λ k t at woken. let u = was_ticker tickers k t at in ap is_awake u.2 ∙ tied.asleep k u.0 u.1 (sym (ap (λ (t : Ticker). in_wake t.phase) u.2 ∙ forgotten_same in_wake refl u.0.phase) ∙ woken);
-    }
+tied_forgotten {tickers = tickers} {s = s} tied = grind (arith, numbers-forgotten, count_by-forgotten, forgotten_same, was_ticker)
 
 pub stores_forgotten : (holder : Option ℕ) (tickers : List Ticker) → HolderStores holder tickers → HolderStores holder (map forgotten tickers)
 stores_forgotten holder tickers stores k = same tickers k ∙ stores k

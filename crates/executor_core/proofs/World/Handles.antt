@@ -1,11 +1,11 @@
 -- A handle is polled, detached or dropped.
-use Rattle.std.proofs.Common.{◌≡◌, ◌≢◌, ℕ, ◌+◌, ◌||◌, not, Bool, true, false, List, [], ◌∷◌, ◌++◌, Option, Some, None, cond, refl, sym, ap, subst, ◌∙◌, inl, inr, arith}
+use Rattle.std.proofs.Common.{◌≡◌, ◌≢◌, ℕ, ◌+◌, ◌||◌, not, Bool, true, false, List, [], ◌∷◌, ◌++◌, Option, Some, cond, refl, sym, ap, subst, ◌∙◌, inl, inr, arith}
 use Rattle.std.proofs.lemmas.Bool.{cases_Bool, cond-true, cond-false}
 use Rattle.std.specs.Prelude.{slice_get, slice_set}
 use Rattle.std.specs.Vec.{vec_capacity}
 use Rattle.executor_core.specs.Cells.{Table}
 use Rattle.executor_core.specs.Cell.{is_undropped}
-use Rattle.executor_core.specs.Cells.Calls.{cell_at, undropped_in, with_cell, without_cell, after_poll_handle, poll_handle_at, poll_answer, ended_answer, after_cancel, cancel_queues, after_detach, detach_at, detach_answer, finished_in}
+use Rattle.executor_core.specs.Cells.Calls.{cell_at, undropped_in, with_cell, without_cell, after_poll_handle, poll_handle_at, poll_answer, after_cancel, cancel_queues, after_detach, detach_at, detach_answer}
 use Rattle.executor_core.specs.Cell.Changes.{awaited, detached, output_of, is_finished_state}
 use Rattle.executor_core.specs.World.{Execution}
 use Rattle.executor_core.specs.World.Entries.{infos}
@@ -13,7 +13,7 @@ use Rattle.executor_core.specs.World.Log.{spawned, dropped, held, idle, outputs,
 use Rattle.executor_core.specs.World.Promises.{InOrder}
 use Rattle.executor_core.specs.World.Steps.{info, handle_row, output_reply, detach_row, end_reply, drop_handle_row}
 use Rattle.executor_core.specs.World.View.{execution_of, IsWorld}
-use Rattle.executor_core.specs.World.Agreement.{Status, status, FewPollsFor, StateAgrees, Agree, AnswerAgrees, HandleAgrees, HandlesAgree}
+use Rattle.executor_core.specs.World.Agreement.{Status, status, FewPollsFor, StateAgrees, Agree, HandleAgrees, HandlesAgree}
 use Rattle.executor_core.proofs.ListLemmas.{length-push, length-slice_set}
 use Rattle.executor_core.proofs.World.Log.{on_give, order-push}
 use Rattle.executor_core.proofs.World.Closing.{marked_push, marked_push_if}
@@ -24,7 +24,6 @@ use Rattle.executor_core.proofs.World.Room.{length-push_if}
 use Rattle.executor_core.proofs.World.Runners.{fixed_part, same_locals, same_closed}
 use Rattle.executor_core.proofs.World.Steps.{stepped, Done, stepped_sound}
 use Rattle.executor_core.specs.declared.task.cell.CellState.{CellState}
-use Rattle.executor_core.specs.declared.task.cell.CellState.TheVariants.{Idle, Scheduled, Held, Finished, Gone}
 use Rattle.executor_core.specs.declared.task.handles.PollHandle.{PollHandle}
 use Rattle.executor_core.specs.declared.task.handles.PollHandle.TheVariants as handle
 use Rattle.executor_core.specs.declared.task.id.TaskId.{TaskId}
@@ -40,25 +39,13 @@ use Rattle.executor_core.specs.declared.interleave.reply.Reply.TheVariants as re
 module _ {P T : Type 0} where
   -- the future was dropped, so nobody holds it
   ended_past : (st : CellState P T) (w : Bool) (s : Status T) → StateAgrees st w s → is_undropped st ≡ false → (s.spawned ≡ true) × (s.held ≡ false)
-  ended_past (Idle p) w s h e = absurd (cc)
-  ended_past (Scheduled p) w s h e = absurd (cc)
-  ended_past Held w s h e = absurd (cc)
-  ended_past (Finished t) w s h e = (h.spawned, h.held)
-  ended_past Gone w s h e = (h.spawned, h.held)
+  ended_past st w s h e = grind arith
 
   output_state : (st : CellState P T) (w : Bool) (s : Status T) → StateAgrees st w s → output_of st ≡ slice_get s.outputs 0
-  output_state (Idle p) w s h = sym (ap (λ l. slice_get l 0) h.0.outputs)
-  output_state (Scheduled p) w s h = sym (ap (λ l. slice_get l 0) h.0.outputs)
-  output_state Held w s h = sym (ap (λ l. slice_get l 0) h.0.outputs)
-  output_state (Finished t) w s h = sym (ap (λ l. slice_get l 0) h.outputs)
-  output_state Gone w s h = sym (ap (λ l. slice_get l 0) h.outputs)
+  output_state st w s h = grind arith
 
   finished_state : (st : CellState P T) (w b : Bool) (s : Status T) → b ≡ s.cancelled → StateAgrees st w s → is_finished_state b st ≡ s.dropped || s.cancelled
-  finished_state (Idle p) w b s is h = rw (h.0.dropped, h.3) refl
-  finished_state (Scheduled p) w b s is h = rw h.0.dropped is
-  finished_state Held w b s is h = rw h.0.dropped is
-  finished_state (Finished t) w b s is h = rw h.dropped refl
-  finished_state Gone w b s is h = rw h.dropped refl
+  finished_state st w b s is h = grind arith
 
 module _ {P T : Type 0} {table : Table P T (Unit {0})} {log : List (Event T)} {entries : List (TaskEntry P)} (agree : Agree table log entries) (n : ℕ) (e : TaskEntry P) (found : slice_get entries n ≡ Some e) (there : e.info.has_handle ≡ true) where
   the_cell : CellAt table log n e
@@ -86,16 +73,10 @@ module _ {P T : Type 0} {table : Table P T (Unit {0})} {log : List (Event T)} {e
   poll_pending alive = ap (poll_handle_at table (id_of n e.info) tt) the_cell.cell ∙ cond-true the_cell.slotted.cell.has_handle _ _ has ∙ cond-true (is_undropped the_cell.slotted.cell.state) _ _ (undropped_here alive)
 
   pub poll_global : (after_poll_handle table (id_of n e.info) tt).global ≡ table.global
-  poll_global = elim (cases_Bool (dropped n log)) [
-    | inl gone ↦ ap (λ x. x.global) (poll_ended gone)
-    | inr alive ↦ ap (λ x. x.global) (poll_pending alive)
-  ]
+  poll_global = grind (arith, cases_Bool, poll_ended, poll_pending)
 
   pub poll_runners : fixed_part (after_poll_handle table (id_of n e.info) tt) ≡ fixed_part table
-  poll_runners = elim (cases_Bool (dropped n log)) [
-    | inl gone ↦ ap fixed_part (poll_ended gone)
-    | inr alive ↦ ap fixed_part (poll_pending alive)
-  ]
+  poll_runners = grind (arith, cases_Bool, poll_ended, poll_pending)
 
   -- the handle of a task that is not dropped is awaited
   pub pending_holds : dropped n log ≡ false → Agree (after_poll_handle table (id_of n e.info) tt) log (slice_set entries n (record e { info = record e.info { awaited = true } }))
@@ -119,27 +100,11 @@ module _ {P T : Type 0} {table : Table P T (Unit {0})} {log : List (Event T)} {e
   AnswerTells (handle.Pending before) = dropped n log ≡ false
 
   pub answer_tells : AnswerTells (poll_answer tt (cell_at table (id_of n e.info)))
-  answer_tells = subst AnswerTells (sym (ap (poll_answer tt) the_cell.cell ∙ cond-true the_cell.slotted.cell.has_handle _ _ has)) (by_state the_cell.slotted.cell.state the_cell.slotted.cell.woken the_cell.agrees.state the_cell.slotted.cell.awaiter)
-    where
-      by_state : (st : CellState P T) (w : Bool) → StateAgrees st w (status n log) → (a : Option (Unit {0})) → AnswerTells (cond (is_undropped st) (handle.Pending a) (ended_answer tt (output_of st)))
-      by_state (Idle p) w h a = h.0.dropped
-      by_state (Scheduled p) w h a = h.0.dropped
-      by_state Held w h a = h.0.dropped
-      by_state (Finished t) w h a = (h.dropped, h.outputs, h.given)
-      by_state Gone w h a = (h.dropped, h.outputs)
+  answer_tells = grind (arith, cond-true)
 
   -- a poll of the handle and `is_finished` answer what the log says
   pub handle_agrees : HandleAgrees table log (id_of n e.info)
-  handle_agrees =
-      record {
-        answer = as_told (poll_answer tt (cell_at table (id_of n e.info))) answer_tells;
-        finished = ap finished_in the_cell.cell ∙ finished_state the_cell.slotted.cell.state the_cell.slotted.cell.woken the_cell.slotted.cell.cancelled (status n log) the_cell.agrees.cancelled the_cell.agrees.state;
-      }
-    where
-      as_told : (a : PollHandle T (Unit {0})) → AnswerTells a → AnswerAgrees n log a
-      as_told (handle.Output t w) h = (h.0, h.1)
-      as_told (handle.Cancelled w) h = h
-      as_told (handle.Pending before) h = h
+  handle_agrees = grind (arith, answer_tells, finished_state)
 
   -- the handle ends, and the task stays as it is
   detach_is : after_detach table (id_of n e.info) ≡ cond (is_undropped the_cell.slotted.cell.state) (with_cell table (id_of n e.info) (detached the_cell.slotted.cell)) (without_cell table (id_of n e.info))
@@ -152,16 +117,10 @@ module _ {P T : Type 0} {table : Table P T (Unit {0})} {log : List (Event T)} {e
   detach_alive alive = detach_is ∙ cond-true (is_undropped the_cell.slotted.cell.state) _ _ (undropped_here alive)
 
   pub detach_global : (after_detach table (id_of n e.info)).global ≡ table.global
-  detach_global = elim (cases_Bool (dropped n log)) [
-    | inl gone ↦ ap (λ x. x.global) (detach_ended gone)
-    | inr alive ↦ ap (λ x. x.global) (detach_alive alive)
-  ]
+  detach_global = grind (arith, cases_Bool, detach_ended, detach_alive)
 
   pub detach_runners : fixed_part (after_detach table (id_of n e.info)) ≡ fixed_part table
-  detach_runners = elim (cases_Bool (dropped n log)) [
-    | inl gone ↦ ap fixed_part (detach_ended gone)
-    | inr alive ↦ ap fixed_part (detach_alive alive)
-  ]
+  detach_runners = grind (arith, cases_Bool, detach_ended, detach_alive)
 
   pub detach_holds : Agree (after_detach table (id_of n e.info)) log (slice_set entries n (record e { info = record e.info { has_handle = false; awaited = false } }))
   detach_holds = elim (cases_Bool (dropped n log)) [
@@ -176,10 +135,7 @@ module _ {P T : Type 0} {table : Table P T (Unit {0})} {log : List (Event T)} {e
 
   -- the output that comes out is the one that the future gave
   pub detach_output : (detach_answer (cell_at table (id_of n e.info))).0 ≡ slice_get (outputs n log) 0
-  detach_output =
-      ap (λ o. (detach_answer o).0) the_cell.cell
-      ∙ ap (λ (p : Option T × Option (Unit {0})). p.0) (cond-true the_cell.slotted.cell.has_handle (output_of the_cell.slotted.cell.state, the_cell.slotted.cell.awaiter) (None, None) has)
-      ∙ output_state the_cell.slotted.cell.state the_cell.slotted.cell.woken (status n log) the_cell.agrees.state
+  detach_output = grind (arith, cond-true, output_state)
 
 pub handles_agree : {P T : Type 0} {table : Table P T (Unit {0})} {log : List (Event T)} {entries : List (TaskEntry P)} → Agree table log entries → HandlesAgree table log (infos entries)
 handles_agree {entries = entries} agree n i found there = let at = entry_of entries n i found in handle_agrees agree n _ at.1 there

@@ -3,7 +3,7 @@ use Rattle.std.proofs.Common.{◌≡◌, ◌≢◌, ℕ, ◌+◌, ◌==◌, ◌|
 use Rattle.std.proofs.lemmas.Bool.{eq-eqb, ne_eqb}
 use Rattle.std.proofs.lemmas.List.Sums.{sum_by-append}
 use Rattle.std.specs.Prelude.{count_by}
-use Rattle.executor_core.specs.World.Log.{unfollowed, is_spawn, is_wake, is_cancel, is_take, is_poll, is_drop, is_end, output_in, given_in, outputs, given, polls, wakes}
+use Rattle.executor_core.specs.World.Log.{unfollowed, outputs, given, polls, wakes}
 use Rattle.std.specs.List.{list_any, filter_map}
 use Rattle.std.proofs.lemmas.List.Elements.{filter_map-append}
 use Rattle.executor_core.specs.World.Promises.{InOrder, MayFollow}
@@ -17,19 +17,13 @@ self : (n : ℕ) → (n == n) ≡ true
 self n = eq-eqb n n refl
 
 or-swap : (a b c : Bool) → a || (b || c) ≡ b || (a || c)
-or-swap true true c = refl
-or-swap true false c = refl
-or-swap false b c = refl
+or-swap a b c = grind arith
 
 or-true : (a : Bool) → a || true ≡ true
-or-true true = refl
-or-true false = refl
+or-true a = grind arith
 
 last-swap : (a b c d l : Bool) → (a && not (b || c)) || (d || (not b && l)) ≡ d || (not b && ((a && not c) || l))
-last-swap a b c true l = or-true (a && not (b || c))
-last-swap true true c false l = refl
-last-swap false true c false l = refl
-last-swap a false c false l = refl
+last-swap a b c d l = grind (arith, or-true)
 
 module _ {E : Type 0} where
   some-push : (f : E → Bool) (log : List E) (e : E) → list_any f (log ++ e ∷ []) ≡ f e || list_any f log
@@ -80,37 +74,13 @@ module _ {E : Type 0} where
 
 module _ {T : Type 0} where
   count-push : (f : Event T → Bool) (log : List (Event T)) (e : Event T) → count_by f (log ++ e ∷ []) ≡ cond (f e) (1 + count_by f log) (count_by f log)
-  count-push f log e = sum_by-append (λ k. cond (f k) 1 0) log (e ∷ []) ∙ one (f e) refl
-    where
-      one : (b : Bool) → f e ≡ b → count_by f log + count_by f (e ∷ []) ≡ cond b (1 + count_by f log) (count_by f log)
-      one true is = rw is (omega arith)
-      one false is = rw is (omega arith)
+  count-push f log e = grind (arith, sum_by-append)
 
   pub status-push : (n : ℕ) (log : List (Event T)) (e : Event T) → status n (log ++ e ∷ []) ≡ with_event n e (status n log)
-  status-push n log e = λ i. record {
-    spawned = some-push (is_spawn n) log e i;
-    dropped = some-push (is_drop n) log e i;
-    cancelled = some-push (is_cancel n) log e i;
-    taken = some-push (is_take n) log e i;
-    held = last-push (is_take n) (is_end n) log e i;
-    woken = last-push (is_wake n) (is_take n) log e i;
-    cancelled_since = last-push (is_cancel n) (is_take n) log e i;
-    outputs = filter_map-push (output_in n) log e i;
-    given = filter_map-push (given_in n) log e i;
-    polls = count-push (is_poll n) log e i;
-    wakes = count-push (is_wake n) log e i;
-  }
+  status-push n log e = grind (arith, some-push, last-push, filter_map-push, count-push)
 
   stepped_other : (n : ℕ) (e : Event T) (s : Status T) → (task_of e == n) ≡ false → with_event n e s ≡ s
-  stepped_other n (Spawned m) s h = rw h refl
-  stepped_other n (Woken m) s h = rw h refl
-  stepped_other n (Cancelled m) s h = rw h refl
-  stepped_other n (Took m ToPoll) s h = rw h refl
-  stepped_other n (Took m ToDrop) s h = rw h refl
-  stepped_other n (Returned m) s h = rw h refl
-  stepped_other n (Finished m t) s h = rw h refl
-  stepped_other n (Dropped m) s h = rw h refl
-  stepped_other n (Got m t) s h = rw h refl
+  stepped_other n e s h = grind arith
 
   pub status_other : (q : ℕ) (log : List (Event T)) (e : Event T) → q ≢ task_of e → status q (log ++ e ∷ []) ≡ status q log
   status_other q log e far = status-push q log e ∙ stepped_other q e (status q log) (ne_eqb (task_of e) q (λ same. far (sym same)))
@@ -143,8 +113,4 @@ module _ {T : Type 0} where
   on_give n t log = status-push n log _ ∙ rw (self n) refl
 
   pub order-push : (log : List (Event T)) (e : Event T) → InOrder log → MayFollow log e → InOrder (log ++ e ∷ [])
-  order-push log e order last before x after is =
-      elim (split_push log e before x after is) [
-        | inl p ↦ rw (p.0, p.1) last
-        | inr p ↦ order before x p.0 p.1
-      ]
+  order-push log e order last before x after is = grind (arith, split_push)

@@ -1,5 +1,5 @@
 -- A task is marked as woken or cancelled, and an idle one is queued.
-use Rattle.std.proofs.Common.{◌≡◌, ◌≢◌, ℕ, ◌+◌, ◌≤◌, ◌||◌, ◌&&◌, not, Bool, true, false, List, [], ◌∷◌, ◌++◌, Some, is_some, cond, refl, sym, ap, ◌∙◌, inl, inr, arith}
+use Rattle.std.proofs.Common.{◌≡◌, ◌≢◌, ℕ, ◌+◌, ◌≤◌, ◌&&◌, not, Bool, true, false, List, [], ◌∷◌, ◌++◌, Some, cond, refl, sym, ap, ◌∙◌, inl, inr, arith}
 use Rattle.std.proofs.lemmas.Bool.{cases_Bool, or_left, or_right, cond-true, cond-false}
 use Rattle.std.specs.Prelude.{slice_get}
 use Rattle.std.specs.FinMap as map
@@ -25,7 +25,6 @@ use Rattle.executor_core.proofs.World.Steps.{stepped, Done, stepped_sound}
 use Rattle.executor_core.proofs.World.Agreement.{id_of, undropped_is, idle_state, undropped_state, CellAt, cell_or_none, handle_cell, entry_same, log_same, log_pushed, cell_put, agree_again}
 use Rattle.executor_core.specs.declared.task.cell.Cell.{Cell}
 use Rattle.executor_core.specs.declared.task.cell.CellState.{CellState}
-use Rattle.executor_core.specs.declared.task.cell.CellState.TheVariants.{Idle, Scheduled, Held, Finished, Gone}
 use Rattle.executor_core.specs.declared.plain_core.Core.{Core}
 use Rattle.executor_core.specs.declared.task.id.TaskId.{TaskId}
 use Rattle.executor_core.specs.declared.interleave.World.TheInside.{Inside}
@@ -36,33 +35,18 @@ use Rattle.executor_core.specs.declared.interleave.event.Event.{Event}
 use Rattle.executor_core.specs.declared.interleave.event.Event.TheVariants.{Woken, Cancelled}
 
 few_wake : (a w : ℕ) (b c : Bool) → a + cond b 1 0 ≤ 1 + w → a + cond c 1 0 ≤ 1 + (1 + w)
-few_wake a w true true h = omega arith
-few_wake a w true false h = omega arith
-few_wake a w false true h = omega arith
-few_wake a w false false h = omega arith
+few_wake a w b c h = grind arith
 
 module _ {P T : Type 0} where
   pub woken_state : (st : CellState P T) (w : Bool) (s : Status T) (k : ℕ) → is_undropped st ≡ true → StateAgrees st w s → StateAgrees (state_woken st) (cond (is_held st) true w) (record s { woken = true; wakes = k })
-  woken_state (Idle p) w s k u h = (record { spawned = h.0.spawned; dropped = h.0.dropped; held = h.0.held; outputs = h.0.outputs; given = h.0.given }, or_left _ s.cancelled_since (or_right (not s.taken) true refl))
-  woken_state (Scheduled p) w s k u h = (record { spawned = h.0.spawned; dropped = h.0.dropped; held = h.0.held; outputs = h.0.outputs; given = h.0.given }, or_left _ s.cancelled_since (or_right (not s.taken) true refl))
-  woken_state Held w s k u h = (record { spawned = h.0.spawned; dropped = h.0.dropped; held = h.0.held; outputs = h.0.outputs; given = h.0.given }, h.1, refl)
-  woken_state (Finished t) w s k u h = absurd (cc)
-  woken_state Gone w s k u h = absurd (cc)
+  woken_state st w s k u h = grind (arith, or_left, or_right)
 
   pub cancelled_state : (st : CellState P T) (w : Bool) (s : Status T) → is_undropped st ≡ true → StateAgrees st w s → StateAgrees (state_woken st) w (record s { cancelled = true; cancelled_since = true })
-  cancelled_state (Idle p) w s u h = (record { spawned = h.0.spawned; dropped = h.0.dropped; held = h.0.held; outputs = h.0.outputs; given = h.0.given }, or_right (not s.taken || s.woken) true refl)
-  cancelled_state (Scheduled p) w s u h = (record { spawned = h.0.spawned; dropped = h.0.dropped; held = h.0.held; outputs = h.0.outputs; given = h.0.given }, or_right (not s.taken || s.woken) true refl)
-  cancelled_state Held w s u h = (record { spawned = h.0.spawned; dropped = h.0.dropped; held = h.0.held; outputs = h.0.outputs; given = h.0.given }, h.1, h.2)
-  cancelled_state (Finished t) w s u h = absurd (cc)
-  cancelled_state Gone w s u h = absurd (cc)
+  cancelled_state st w s u h = grind (arith, or_right)
 
   -- the state of a dropped task stays as it is
   pub ended_state : (st : CellState P T) (v w : Bool) (s : Status T) → is_undropped st ≡ false → StateAgrees st w s → StateAgrees (state_woken st) v s
-  ended_state (Idle p) v w s u h = absurd (cc)
-  ended_state (Scheduled p) v w s u h = absurd (cc)
-  ended_state Held v w s u h = absurd (cc)
-  ended_state (Finished t) v w s u h = h
-  ended_state Gone v w s u h = h
+  ended_state st v w s u h = grind arith
 
 -- what a wake and a cancel make of what the log says of a task
 module _ {T : Type 0} where
@@ -86,61 +70,19 @@ module _ {P T : Type 0} where
     pub ended : (c : Cell P T (Unit {0})) (s : Status T) → is_undropped c.state ≡ false → StateAgrees c.state c.woken s → ((mark c).cancelled ≡ c.cancelled) × StateAgrees (mark c).state (mark c).woken s
 
   pub waking : Marking (λ n. Woken n) woken woken_status
-  waking =
-      record {
-        of = λ n. refl;
-        follows = λ log n. tt;
-        on = on_wake;
-        has_handle = λ c. refl;
-        awaiter = λ c. refl;
-        held = λ s. refl;
-        few_polls = λ s few. few_wake _ _ _ _ few;
-        alive = λ c s alive cancelled state. (cancelled, woken_state c.state c.woken s _ alive state);
-        ended = λ c s ended state. (refl, ended_state c.state _ c.woken s ended state);
-      }
+  waking = grind (arith, on_wake, few_wake, woken_state, ended_state)
 
   pub cancelling : Marking (λ n. Cancelled n) cancelled_cell cancelled_status
-  cancelling =
-      record {
-        of = λ n. refl;
-        follows = λ log n. tt;
-        on = on_cancel;
-        has_handle = λ c. refl;
-        awaiter = λ c. refl;
-        held = λ s. refl;
-        few_polls = λ s few. few;
-        alive = λ c s alive cancelled state. (cond-true (is_undropped c.state) _ _ alive, cancelled_state c.state c.woken s alive state);
-        ended = λ c s ended state. (cond-false (is_undropped c.state) _ _ ended, ended_state c.state c.woken c.woken s ended state);
-      }
+  cancelling = grind (arith, on_cancel, cond-true, cancelled_state, cond-false, ended_state)
 
   module _ {event : ℕ → Event T} {mark : Cell P T (Unit {0}) → Cell P T (Unit {0})} {change : Status T → Status T} (marking : Marking event mark change) {slotted : Slotted P T (Unit {0})} {s : Status T} {e : TaskEntry P} (h : CellAgrees slotted s e) {slot : ℕ} (same : slot ≡ e.info.slot) where
     -- the cell agrees again once it is marked, with the event if its future is not dropped
     pub marked_cell : is_undropped slotted.cell.state ≡ true → CellAgrees (record { slot = slot; cell = mark slotted.cell }) (change s) e
-    marked_cell alive =
-        let now = marking.alive slotted.cell s alive h.cancelled h.state in
-        record {
-          slot = same;
-          has_handle = marking.has_handle slotted.cell ∙ h.has_handle;
-          awaited = ap is_some (marking.awaiter slotted.cell) ∙ h.awaited;
-          cancelled = now.0;
-          state = now.1;
-          out = h.out ∙ sym (marking.held s);
-          polled = h.polled;
-        }
+    marked_cell alive = grind arith
 
     -- and without it if its future was dropped
     pub ended_cell : is_undropped slotted.cell.state ≡ false → CellAgrees (record { slot = slot; cell = mark slotted.cell }) s e
-    ended_cell ended =
-        let now = marking.ended slotted.cell s ended h.state in
-        record {
-          slot = same;
-          has_handle = marking.has_handle slotted.cell ∙ h.has_handle;
-          awaited = ap is_some (marking.awaiter slotted.cell) ∙ h.awaited;
-          cancelled = now.0 ∙ h.cancelled;
-          state = now.1;
-          out = h.out;
-          polled = h.polled;
-        }
+    ended_cell ended = grind arith
 
 module _ {P T : Type 0} {table : Table P T (Unit {0})} {log : List (Event T)} {entries : List (TaskEntry P)} (agree : Agree table log entries) (n : ℕ) (e : TaskEntry P) (found : slice_get entries n ≡ Some e) where
   -- what a mark makes of the table: it is logged unless the future was dropped, and an idle task is queued

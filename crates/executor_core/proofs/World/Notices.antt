@@ -1,12 +1,11 @@
 -- No notice is lost.
 use Rattle.std.proofs.Common.{◌≡◌, ℕ, ◌+◌, ◌-◌, ◌<◌, ◌≤◌, Bool, true, false, ◌||◌, not, ◌⊎◌, inl, inr, cond, List, [], length, map, ◌∷◌, ◌++◌, Option, Some, None, is_some, refl, sym, ap, subst, ◌∙◌, length-take, arith}
-use Rattle.std.proofs.lemmas.Bool.{cases_Bool, cases_lt, cases_eq, lt-ltb, ltb-true, eq-eqb, eqb-true, eqb-false, or_left, or_right, or_cases, true≢false, false≢true}
+use Rattle.std.proofs.lemmas.Bool.{cases_Bool, cases_lt, cases_eq, lt-ltb, ltb-true, eq-eqb, eqb-true, eqb-false, or_left, or_right, or_cases, true≢false}
 use Rattle.std.proofs.lemmas.List.Folds.{list_any-append}
 use Rattle.std.proofs.lemmas.List.Sums.{sum_by_push}
 use Rattle.std.specs.List.{list_any}
-use Rattle.std.specs.Prelude.{nat_lt, ◌==◌, slice_get, slice_set}
+use Rattle.std.specs.Prelude.{nat_lt, slice_get, slice_set}
 use Rattle.std.specs.FinSet as set
-use Rattle.std.specs.Ordering.{nat_cmp}
 use Rattle.executor_core.specs.Sleepers.{SleeperList, SleeperLaw, is_notified}
 use Rattle.executor_core.specs.Sleepers.Calls.{no_sleepers, all_unnotified, after_notify}
 use Rattle.executor_core.specs.World.{Execution}
@@ -37,10 +36,7 @@ abbrev Obliges : {T : Type 0} → Execution T → Type 0
 Obliges w = (0 < notices_out w) ⊎ ((0 < w.picks) ⊎ (some_search w ≡ true))
 
 obliged_by : {T : Type 0} (w : Execution T) → is_obliged w ≡ true → Obliges w
-obliged_by w is = elim (or_cases (nat_lt 0 (notices_out w) || nat_lt 0 w.picks) (some_search w) is) [
-  | inl out ↦ elim (or_cases (nat_lt 0 (notices_out w)) (nat_lt 0 w.picks) out) [ inl notice ↦ inl (ltb-true 0 _ notice) | inr pick ↦ inr (inl (ltb-true 0 _ pick)) ]
-  | inr seeks ↦ inr (inr seeks)
-]
+obliged_by w is = grind (arith, or_cases, ltb-true)
 
 obliges : {T : Type 0} (w : Execution T) → Obliges w → (b : Bool) → b || is_obliged w ≡ true
 obliges w (inl out) b = noticed_obliges w out b
@@ -49,25 +45,11 @@ obliges w (inr (inr seeks)) b = searching_obliges w seeks b
 
 -- the one who holds the sleepers' lock has something to spend, and so somebody is obliged
 holder_obliges : {T : Type 0} (w : Execution T) → holder_spends w.holder w.tickers ≡ true → Obliges w
-holder_obliges w spends = by_holder w.holder spends
-  where
-    at : (k : ℕ) (o : Option Ticker) → slice_get w.tickers k ≡ o → has_to_spend (ticker_or o).phase ≡ true → Obliges w
-    at k None here spends = absurd (false≢true spends)
-    at k (Some t) here spends = elim (or_cases (nat_lt 0 (notices_in t.phase)) (has_to_search t.phase) spends) [
-      | inl notice ↦ let most = sum_by-at (λ (t : Ticker). notices_in t.phase) w.tickers k t here in let some = ltb-true 0 _ notice in inl (omega arith)
-      | inr seeks ↦ inr (inr (any-at (λ (t : Ticker). has_to_search t.phase) w.tickers k t here seeks))
-    ]
-
-    by_holder : (h : Option ℕ) → holder_spends h w.tickers ≡ true → Obliges w
-    by_holder None spends = absurd (false≢true spends)
-    by_holder (Some k) spends = at k (slice_get w.tickers k) refl spends
+holder_obliges w spends = grind (arith, or_cases, sum_by-at, ltb-true, any-at)
 
 -- one is notified, if somebody is there to be
 pub some_in_use : {W : Type 0} (s : SleeperList W) → is_notified s ≡ true → 0 < set.len s.used → some_notified s ≡ true
-some_in_use s notified asleep = elim (or_cases (set.len s.used == 0) (nat_lt (length s.unnotified) (set.len s.used)) notified) [
-  | inl none ↦ let nobody = eqb-true _ _ none in absurd (omega arith)
-  | inr some ↦ some
-]
+some_in_use s notified asleep = grind (arith, or_cases, eqb-true)
 
 -- the flag is true
 abbrev Turned : {T : Type 0} → Execution T → Type 0
@@ -95,18 +77,7 @@ any_covered w covers = (covers w.global, λ runs. covers (all_queues w))
 module _ {T : Type 0} {w v : Execution T} (law : NoNoticeLost w) where
   -- flag, sleepers, picks and tickers are as before: a notice is out, or the queue and the notices are as before too
   pub notices_again : v.flag ≡ w.flag → v.sleepers ≡ w.sleepers → v.picks ≡ w.picks → v.tickers ≡ w.tickers → v.holder ≡ w.holder → (0 < v.notices) ⊎ (StayEmpty w v × (v.notices ≡ w.notices)) → NoNoticeLost v
-  notices_again flag sleepers picks tickers holder or =
-      record {
-        flag_law = λ on. rw (sleepers, picks, tickers, holder) (law.flag_law (sym flag ∙ on));
-        covered = again w.global v.global (λ stay. stay.global) law.covered;
-        runs_covered = λ runs. again (all_queues w) (all_queues v) (λ stay. stay.all) (law.runs_covered (subst (λ l. only_runs l ≡ true) tickers runs));
-      }
-    where
-      again : (before after : List ℕ) → (StayEmpty w v → before ≡ [] → after ≡ []) → CoversQueued before w → CoversQueued after v
-      again before after stay covers queued asleep = elim or [
-        | inl out ↦ noticed_obliges v (omega arith) (some_notified v.sleepers)
-        | inr same ↦ rw (sleepers, picks, tickers, same.1) (covers (λ none. queued (stay same.0 none)) (subst (λ s. 0 < set.len s.used) sleepers asleep))
-      ]
+  notices_again flag sleepers picks tickers holder or = grind (arith, noticed_obliges)
 
   -- a notice was spent: if the flag was false, a pick is out
   pub notices_exchanged : v.sleepers ≡ w.sleepers → v.tickers ≡ w.tickers → v.holder ≡ w.holder → v.picks ≡ cond (not w.flag) (w.picks + 1) w.picks → NoNoticeLost v
@@ -186,13 +157,7 @@ module _ {T : Type 0} (w v : Execution T) (law : NoNoticeLost w) (k : ℕ) (t u 
 
   -- nothing is queued for a tick
   pub covered_tick : v.global ≡ [] → is_run u ≡ false → Covers v
-  covered_tick none tick = (
-    λ queued asleep. absurd (queued none),
-    λ runs. absurd (true≢false (sym runs ∙ ap not some_tick)),
-  )
-    where
-      some_tick : list_any (λ (t : Ticker). not (is_run t)) v.tickers ≡ true
-      some_tick = rw change (any-set_true (λ (t : Ticker). not (is_run t)) w.tickers k t u found (ap not tick))
+  covered_tick none tick = grind (arith, any-set_true)
 
   -- the ticker had nothing to search, and all else is as before, or more
   pub covered_quiet : StayEmpty w v → u.runner ≡ t.runner → v.picks ≡ w.picks → notices_out w ≤ notices_out v → has_to_search t.phase ≡ false → set.len v.sleepers.used ≤ set.len w.sleepers.used → (some_notified w.sleepers ≡ true → some_notified v.sleepers ≡ true) → Covers v
@@ -286,10 +251,4 @@ notices_forgotten {T} w law free =
 
 -- nobody sleeps before the first step
 pub notices_opening : {T : Type 0} (w : Execution T) → w.sleepers ≡ no_sleepers → NoNoticeLost w
-notices_opening w nobody =
-    let unused : set.len w.sleepers.used ≡ 0 = ap (λ s. set.len s.used) nobody ∙ set.len-empty nat_cmp in
-    record {
-      flag_law = λ _. or_left _ (holder_spends w.holder w.tickers) (or_left _ (nat_lt 0 w.picks) (or_left _ _ (eq-eqb (set.len w.sleepers.used) 0 unused)));
-      covered = λ _ asleep. absurd (omega arith);
-      runs_covered = λ _ _ asleep. absurd (omega arith);
-    }
+notices_opening w nobody = grind (arith, or_left, eq-eqb)

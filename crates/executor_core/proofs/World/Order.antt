@@ -1,5 +1,5 @@
 -- A lone runner takes tasks in the order in which they were queued.
-use Rattle.std.proofs.Common.{◌≡◌, ◌≢◌, ℕ, Bool, true, false, not, ◌&&◌, cond, List, [], ◌∷◌, ◌++◌, length, map, drop, Option, Some, None, refl, sym, ap, ◌∙◌, subst, inl, inr, append_assoc}
+use Rattle.std.proofs.Common.{◌≡◌, ◌≢◌, ℕ, Bool, true, false, not, ◌&&◌, cond, List, [], ◌∷◌, ◌++◌, length, map, drop, Option, Some, None, refl, sym, ap, ◌∙◌, subst, inl, inr, append_assoc, arith}
 use Rattle.std.proofs.lemmas.Bool.{cases_eq, cases_Bool, and_parts, not-true, true≢false}
 use Rattle.std.proofs.lemmas.List.{append-nil}
 use Rattle.std.specs.List.{filter_map}
@@ -8,9 +8,9 @@ use Rattle.executor_core.specs.Sleepers.{is_notified_number}
 use Rattle.executor_core.specs.World.{Execution}
 use Rattle.executor_core.specs.World.Log.{cancelled, idle, woken, dropped, outputs}
 use Rattle.executor_core.specs.World.Promises.{queues}
-use Rattle.executor_core.specs.World.Phases.{is_awake, is_run, has_ended}
+use Rattle.executor_core.specs.World.Phases.{is_awake, has_ended}
 use Rattle.executor_core.specs.World.Tickers.{stored, runner_of}
-use Rattle.executor_core.specs.World.Steps.{row, Spawns, spawn_row, wake_row, cancel_row, drop_handle_row, ready_row, detach_row, dropped_row, exchange_row, notify_row, handle_row, tick_row, run_row, poll_row, sleep_row, yield_row, remove_row, store_row, drop_row, fair_row, unregister_row, Makes, enabled, Does, StepTo, FoldTo, logged, informed, noticed, queued_where, notice_reply, end_reply, return_reply, take_reply, take_row, take_any_row, give_row, placed_where, taking, drain_row, with_queues, found_row, found_by, search_to_row, some_held, some_busy, idle_ones, ticker}
+use Rattle.executor_core.specs.World.Steps.{row, Spawns, spawn_row, wake_row, cancel_row, drop_handle_row, ready_row, detach_row, dropped_row, exchange_row, notify_row, handle_row, tick_row, run_row, poll_row, sleep_row, yield_row, remove_row, store_row, drop_row, fair_row, unregister_row, Makes, enabled, Does, StepTo, FoldTo, logged, informed, queued_where, notice_reply, end_reply, return_reply, take_reply, take_row, take_any_row, give_row, placed_where, drain_row, found_row, found_by, search_to_row, some_held, some_busy, idle_ones, ticker}
 use Rattle.executor_core.specs.World.Order.{new_task, noticed_task, requeued_task, taken_task, woken_task, woken_idle, queued_by, taken_by, queued, taken, searcher, IsAlone, line, LoneStep, LoneOrder}
 use Rattle.executor_core.specs.declared.interleave.entry.TaskInfo.{TaskInfo}
 use Rattle.executor_core.specs.declared.interleave.event.Event.{Event}
@@ -24,21 +24,16 @@ use Rattle.executor_core.proofs.World.OrderQueues.{FindsFront, search_front, sea
 -- what the replies say of a task
 module _ (T : Type 0) where
   noticed-notice : (n : ℕ) (b : Bool) → noticed_task n (notice_reply {T = T} b) ≡ cond b (n ∷ []) []
-  noticed-notice n true = refl
-  noticed-notice n false = refl
+  noticed-notice n b = grind arith
 
   noticed-end : (n : ℕ) (b : Bool) (o : Option T) → noticed_task n (end_reply b o) ≡ cond b (n ∷ []) []
-  noticed-end n true o = refl
-  noticed-end n false None = refl
-  noticed-end n false (Some t) = refl
+  noticed-end n b o = grind arith
 
   requeued-return : (n : ℕ) (b : Bool) → requeued_task (return_reply {T = T} n b) ≡ cond b (n ∷ []) []
-  requeued-return n true = refl
-  requeued-return n false = refl
+  requeued-return n b = grind arith
 
   taken-take : (n : ℕ) (cancel : Bool) → taken_task (take_reply {T = T} n cancel) ≡ n ∷ []
-  taken-take n true = refl
-  taken-take n false = refl
+  taken-take n cancel = grind arith
 
 -- what a log says of the tasks that were woken
 module _ (T : Type 0) where
@@ -66,29 +61,21 @@ module _ {P T : Type 0} where
   refused_queued _ old new answer same spawns notices requeues = refl
 
   refused_taken : (step : Step P T) (answer : Reply T) → taken_task answer ≡ [] → taken_by step answer ≡ []
-  refused_taken TryTick answer takes = takes
-  refused_taken TryAny answer takes = takes
-  refused_taken (Search k word) answer takes = takes
-  refused_taken Drain answer takes = takes
-  refused_taken _ answer takes = refl
+  refused_taken step answer takes = grind arith
 
 -- the queues of worlds that differ in something else
 module _ {T : Type 0} where
   queues-cond : (b : Bool) (c d : Reply T × Execution T) (q : QueueLists ℕ) → queues c.1 ≡ q → queues d.1 ≡ q → queues (cond b c d).1 ≡ q
-  queues-cond true c d q first second = first
-  queues-cond false c d q first second = second
+  queues-cond b c d q first second = grind arith
 
   queues-placed : (b : Bool) (w : Execution T) → queues (placed_where b w) ≡ queues w
-  queues-placed true w = refl
-  queues-placed false w = refl
+  queues-placed b w = grind arith
 
   queues-found : (awake : Bool) (k : ℕ) (w : Execution T) → queues (found_row awake k w) ≡ queues w
-  queues-found true k w = queues-placed (not (is_run (ticker k w))) (noticed w)
-  queues-found false k w = refl
+  queues-found awake k w = grind (arith, queues-placed)
 
   queues-give : (n : ℕ) (given : List T) (w : Execution T) → queues (give_row n given w).1 ≡ queues w
-  queues-give n [] w = refl
-  queues-give n (t ∷ rest) w = refl
+  queues-give n given w = grind arith
 
 -- what a step makes of the line of a runner that is alone before and after it
 module _ {T : Type 0} (r : ℕ) (old new : Execution T) (answer : Reply T) (before : IsAlone r old.locals) (after : IsAlone r new.locals) where
@@ -121,8 +108,7 @@ module _ {T : Type 0} (r : ℕ) (old new : Execution T) (answer : Reply T) (befo
   queued_if b n = record { global = cond b (old.global ++ n ∷ []) old.global; locals = old.locals }
 
   queued_if-last : (b : Bool) (n : ℕ) → queued_if b n ≡ queued_last (cond b (n ∷ []) [])
-  queued_if-last true n = refl
-  queued_if-last false n = ap (λ (l : List ℕ). let q : QueueLists ℕ = record { global = l; locals = old.locals } in q) (sym (append-nil old.global))
+  queued_if-last b n = grind (arith, append-nil)
 
   queueing_if : (b : Bool) (n : ℕ) (queued : Reply T → List ℕ) (p : Reply T × Execution T) → Leads p → queues p.1 ≡ queued_if b n → queued p.0 ≡ cond b (n ∷ []) [] → Moves (queued answer) []
   queueing_if b n queued p does is says = subst (λ l. Moves l []) (sym (ap queued does.0 ∙ says)) (queueing (cond b (n ∷ []) []) (ap queues does.1 ∙ is ∙ queued_if-last b n))
@@ -139,26 +125,19 @@ module _ {T : Type 0} (r : ℕ) (old new : Execution T) (answer : Reply T) (befo
   no_take p does none same = subst (Moves []) (sym (ap taken_task does.0 ∙ none)) (same_line (lines-row p does ∙ same))
 
   ticking : (global : List ℕ) → Leads (take_row global old) → (taken_task answer ≢ [] → ⊥) → Moves [] (taken_task answer)
-  ticking [] does never = no_take (reply.NoTask, old) does refl refl
-  ticking (n ∷ rest) does never = absurd (takes_none n (cancelled n old.log) does.0 never)
+  ticking global does never = grind (arith, no_take, takes_none)
 
   ticking_any : (found : Option ℕ × QueueLists ℕ) → Leads (take_any_row found old) → (taken_task answer ≢ [] → ⊥) → Moves [] (taken_task answer)
-  ticking_any (None, q) does never = no_take (reply.NoTask, old) does refl refl
-  ticking_any (Some n, q) does never = absurd (takes_none n (cancelled n old.log) does.0 never)
+  ticking_any found does never = grind (arith, no_take, takes_none)
 
   draining : (global : List ℕ) → Leads (drain_row global old) → (taken_task answer ≢ [] → ⊥) → Moves [] (taken_task answer)
-  draining [] does never = no_take (reply.NoTask, old) does refl refl
-  draining (n ∷ rest) does never = absurd (takes_none n true does.0 never)
+  draining global does never = grind (arith, no_take, takes_none)
 
   searching_global : (k : ℕ) (global : List ℕ) → Leads (search_to_row k (global_front global (queues old)) old) → (taken_task answer ≢ [] → ⊥) → Moves [] (taken_task answer)
-  searching_global k [] does never = no_take (search_to_row k (global_front [] (queues old)) old) does refl refl
-  searching_global k (n ∷ rest) does never = absurd (takes_none n (cancelled n old.log) does.0 never)
+  searching_global k global does never = grind (arith, no_take, takes_none)
 
   searching_to : (k : ℕ) (found : Option ℕ × QueueLists ℕ) → FindsFront (line r (queues old)) r found → Leads (search_to_row k found old) → Moves [] (taken_task answer)
-  searching_to k (None, q) front does = no_take (search_to_row k (None, q) old) does refl (sym front)
-  searching_to k (Some n, q) front does =
-      let left = lines-row (search_to_row k (Some n, q) old) does ∙ ap (line r) (queues-found (is_awake (ticker k old)) k (with_queues q (taking n old.global old))) in
-      subst (Moves []) (sym (ap taken_task does.0 ∙ taken-take T n (cancelled n old.log))) (append-nil (line r (queues old)) ∙ front ∙ ap (λ l. n ∷ l) (sym left))
+  searching_to k found front does = grind (arith, no_take, lines-row, queues-found, taken-take, append-nil)
 
   searching : (runner : Option ℕ) (k word : ℕ) → Leads (search_to_row k (found_by runner word (queues old)) old) → (taken_task answer ≢ [] → runner ≡ Some r) → Moves [] (taken_task answer)
   searching None k word does taker = searching_global k old.global does (λ some. let h = taker some in cc)
@@ -168,8 +147,7 @@ module _ {T : Type 0} (r : ℕ) (old new : Execution T) (answer : Reply T) (befo
   ]
 
   making : (change : Execution T → Execution T) → queues (change old) ≡ queues old → Makes change old answer new → Moves [] []
-  making change same (inl refused) = same_line (ap (λ w. line r (queues w)) refused.1)
-  making change same (inr made) = quiet (answer, change old) (refl, made.1) same
+  making change same made = grind (arith, same_line, quiet)
 
   spawning : Spawns old answer new → Moves (new_task answer) []
   spawning (inl refused) = subst (λ l. Moves l []) (sym (ap new_task refused.0)) (same_line (ap (λ w. line r (queues w)) refused.1))

@@ -1,10 +1,10 @@
 -- What the calls of a runner make of its line, if no other runner is registered.
-use Rattle.std.proofs.Common.{◌≡◌, ◌≢◌, ℕ, zero, suc, ◌+◌, ◌%◌, Bool, not, cond, List, [], ◌∷◌, ◌++◌, map, take, drop, Option, Some, None, refl, sym, ap, ◌∙◌, subst, inl, inr, append_assoc}
+use Rattle.std.proofs.Common.{◌≡◌, ◌≢◌, ℕ, zero, suc, ◌+◌, ◌%◌, Bool, not, cond, List, [], ◌∷◌, ◌++◌, map, take, drop, Option, Some, None, refl, sym, ap, ◌∙◌, subst, inl, inr, append_assoc, arith}
 use Rattle.std.proofs.lemmas.Bool.{cases_eq, eq-eqb, ne_eqb}
 use Rattle.std.proofs.lemmas.List.{take-append-drop}
 use Rattle.std.specs.Prelude.{◌==◌, nat_lt}
 use Rattle.std.specs.List.{find, filter}
-use Rattle.executor_core.specs.Queues.{RunnerQueue, QueueLists, position_of, stolen, local_entries_at, global_stolen, victim, can_steal, search_global, search_at, search, steal_from, fair, fair_at, registered, unregistered, unregistered_at}
+use Rattle.executor_core.specs.Queues.{RunnerQueue, QueueLists, position_of, local_entries_at, global_stolen, victim, can_steal, search_global, search_at, search, fair, fair_at, registered, unregistered}
 use Rattle.executor_core.specs.World.Order.{IsAlone, line}
 
 -- the first position is no other than itself
@@ -51,9 +51,7 @@ module _ {X : Type 0} where
 
   -- what goes from the global front to the end of its own queue keeps its place in the line
   line-global_stolen : (r : ℕ) (entries : List X) (capacity : ℕ) (global : List X) → line r (global_stolen 0 (lone r entries capacity global)) ≡ entries ++ global
-  line-global_stolen r entries capacity global =
-      let count = stolen global entries capacity in
-      line-lone r (entries ++ take count global) capacity (drop count global) ∙ append_assoc entries (take count global) (drop count global) ∙ ap (λ l. entries ++ l) (take-append-drop count global)
+  line-global_stolen r entries capacity global = grind (arith, line-lone, append_assoc, take-append-drop)
 
   victim-lone : (word r : ℕ) (entries : List X) (capacity : ℕ) → victim 0 word (own_queue r entries capacity) ≡ None
   victim-lone word r entries capacity = ap (find (can_steal 0 (own_queue r entries capacity))) (no_others (word % 1))
@@ -64,9 +62,7 @@ module _ {X : Type 0} where
   FindsFront before r (Some x, after) = before ≡ x ∷ line r after
 
   finds_front : (r word : ℕ) (entries : List X) (capacity : ℕ) (global : List X) → FindsFront (entries ++ global) r (search_at (Some 0) word (lone r entries capacity global))
-  finds_front r word (x ∷ rest) capacity global = ap (λ l. x ∷ l) (sym (line-lone r rest capacity global))
-  finds_front r word [] capacity (x ∷ rest) = ap (λ l. x ∷ l) (sym (line-global_stolen r [] capacity rest))
-  finds_front r word [] capacity [] = subst (λ o. FindsFront [] r (steal_from 0 o (lone r [] capacity []))) (sym (victim-lone word r [] capacity)) (sym (line-lone r [] capacity []))
+  finds_front r word entries capacity global = grind (arith, line-lone, line-global_stolen, victim-lone)
 
   pub search_front : (r word : ℕ) (q : QueueLists X) → IsAlone r q.locals → FindsFront (line r q) r (search r word q)
   search_front r word = on_alone r (λ q. FindsFront (line r q) r (search r word q)) found
@@ -96,12 +92,4 @@ module _ {X : Type 0} where
   alone_registered r k capacity = on_alone r (λ q. IsAlone r (registered k capacity q).locals → ⊥) (λ entries own global two. cc)
 
   pub line-unregistered : (r k : ℕ) (q : QueueLists X) → IsAlone r q.locals → IsAlone r (unregistered k q).locals → line r (unregistered k q) ≡ line r q
-  line-unregistered r k = on_alone r (λ q. IsAlone r (unregistered k q).locals → line r (unregistered k q) ≡ line r q) same
-    where
-      same : (entries : List X) (capacity : ℕ) (global : List X) → (let q = lone r entries capacity global in IsAlone r (unregistered k q).locals → line r (unregistered k q) ≡ line r q)
-      same entries capacity global alone =
-          let q = lone r entries capacity global in
-          elim (cases_eq k r) [
-            | inl is ↦ let none = subst (λ o. IsAlone r (unregistered_at o q).locals) (position-own k r entries capacity is) alone in absurd (cc)
-            | inr far ↦ ap (λ o. line r (unregistered_at o q)) (position-other k r entries capacity far)
-          ]
+  line-unregistered r k = grind (arith, on_alone, cases_eq, position-own, position-other)

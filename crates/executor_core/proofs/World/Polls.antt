@@ -14,7 +14,7 @@ use Rattle.executor_core.specs.Queues.{QueueLists, search_any}
 use Rattle.executor_core.specs.Ring.{IdRing}
 use Rattle.executor_core.specs.World.{Execution}
 use Rattle.executor_core.specs.World.Closing.{AllMarked}
-use Rattle.executor_core.specs.World.Entries.{infos, is_out, is_unpolled, is_unpolled_future, PolledAgrees, out_entry}
+use Rattle.executor_core.specs.World.Entries.{infos, is_out, is_unpolled, out_entry}
 use Rattle.executor_core.specs.World.Log.{unfollowed, is_cancel, is_take, cancelled, held, woken}
 use Rattle.executor_core.specs.World.Promises.{MayFollow, InOrder, queues}
 use Rattle.executor_core.specs.World.Steps.{info, info_or, purpose_of, row, counted, noticed, taking, take_reply, take_row, with_queues as with_queues_row, take_any_row, return_reply, pend_row, ready_reply, ready_row, dropped_row}
@@ -41,7 +41,6 @@ use Rattle.executor_core.specs.declared.task.values.Taken.{Taken}
 use Rattle.executor_core.specs.declared.task.values.Wakeup.{Wakeup}
 use Rattle.executor_core.specs.declared.interleave.World.TheInside.{Inside}
 use Rattle.executor_core.specs.declared.interleave.entry.TaskInfo.{TaskInfo}
-use Rattle.executor_core.specs.declared.interleave.entry.FutureOut.{FutureOut}
 use Rattle.executor_core.specs.declared.interleave.entry.FutureOut.TheVariants.{Unpolled, Polled}
 use Rattle.executor_core.specs.declared.interleave.entry.TaskEntry.{TaskEntry}
 use Rattle.executor_core.specs.declared.interleave.event.Purpose.{Purpose}
@@ -51,12 +50,10 @@ use Rattle.executor_core.specs.declared.interleave.reply.Reply.TheVariants.{NoTa
 use Rattle.executor_core.specs.declared.interleave.event.Event.TheVariants.{Took, Returned, Finished as Finish, Dropped}
 
 few_poll : (a w : ℕ) (b : Bool) → b ≡ true → a + cond b 1 0 ≤ 1 + w → (1 + a) + 0 ≤ 1 + w
-few_poll a w true e h = omega arith
-few_poll a w false e h = absurd (cc)
+few_poll a w b e h = grind arith
 
 few_take : (a w : ℕ) (b : Bool) → a + cond b 1 0 ≤ 1 + w → a + 0 ≤ 1 + w
-few_take a w true h = omega arith
-few_take a w false h = omega arith
+few_take a w b h = grind arith
 
 unfollowed-list_any : {E : Type 0} (f g : E → Bool) (log : List E) → list_any f log ≡ false → unfollowed f g log ≡ false
 unfollowed-list_any f g [] h = refl
@@ -67,8 +64,7 @@ unfollowed-list_any f g (x ∷ rest) h =
     ]
 
 wakeup_some : (o : Option (Unit {0})) → is_some (wakeup_of o) ≡ is_some o
-wakeup_some None = refl
-wakeup_some (Some w) = refl
+wakeup_some o = grind arith
 
 module _ {P T : Type 0} {table : Table P T (Unit {0})} {log : List (Event T)} {entries : List (TaskEntry P)} (agree : Agree table log entries) (n : ℕ) (e : TaskEntry P) (found : slice_get entries n ≡ Some e) where
   -- a task is taken out of a queue, and the queues are these then
@@ -109,11 +105,7 @@ module _ {P T : Type 0} {table : Table P T (Unit {0})} {log : List (Event T)} {e
   module _ (now_held : held n log ≡ true) where
     -- the state of a held task's cell
     is_held_state : (st : CellState P T) → is_held st ≡ true → st ≡ Held
-    is_held_state (Idle p) h = absurd (cc)
-    is_held_state (Scheduled p) h = absurd (cc)
-    is_held_state Held h = refl
-    is_held_state (Finished t) h = absurd (cc)
-    is_held_state Gone h = absurd (cc)
+    is_held_state st h = grind arith
 
     the_cell : CellAt table log n e
     the_cell = held_cell agree n e found now_held
@@ -132,12 +124,7 @@ module _ {P T : Type 0} {table : Table P T (Unit {0})} {log : List (Event T)} {e
 
     -- if a poll of the task may end, its future was not polled
     pub unpolled_there : e.info.to_drop ≡ false → is_unpolled (slice_get entries n) ≡ true
-    unpolled_there fresh = ap (λ (o : Option (TaskEntry P)). is_unpolled o) found ∙ by_future e.out e.info.to_drop fresh (the_cell.agrees.out ∙ now_held) the_cell.agrees.polled
-      where
-        by_future : (o : Option (FutureOut P)) (b : Bool) → b ≡ false → is_some o ≡ true → PolledAgrees o b → is_unpolled_future o ≡ true
-        by_future None b fresh h p = absurd (cc)
-        by_future (Some (Unpolled q)) b fresh h p = refl
-        by_future (Some (Polled q)) b fresh h p = absurd (cc)
+    unpolled_there fresh = grind arith
 
     -- a poll ended pending, and the future went back
     pub record Pended (p : P) : Type 0 where
@@ -148,8 +135,7 @@ module _ {P T : Type 0} {table : Table P T (Unit {0})} {log : List (Event T)} {e
       pub runners : fixed_part (after_end_pending table (id_of n e.info) p) ≡ fixed_part table
 
     pended_state : (w : Bool) (p : P) (s : Status T) → s.cancelled ≡ false → s.cancelled_since ≡ false → StateAgrees {P = P} Held w s → StateAgrees (cond w (Scheduled p) (Idle p)) w (record s { held = false })
-    pended_state true p s u r h = (record { spawned = h.0.spawned; dropped = h.0.dropped; held = refl; outputs = h.0.outputs; given = h.0.given }, or_left _ s.cancelled_since (or_right (not s.taken) s.woken h.2))
-    pended_state false p s u r h = (record { spawned = h.0.spawned; dropped = h.0.dropped; held = refl; outputs = h.0.outputs; given = h.0.given }, h.1, h.2, u, r)
+    pended_state w p s u r h = grind (arith, or_left, or_right)
 
     pub pend_holds : (p : P) → takes_back_in (cell_at table (id_of n e.info)) ≡ true → Pended p
     pend_holds p ours =
@@ -323,11 +309,7 @@ module _ {P T : Type 0} (a : Inside P T) (sound : IsWorld (execution_of a) a.cor
 
   -- a take leaves the runners as they are
   pub taken_runners : (table : Table P T (Unit {0})) (n : ℕ) → fixed_part (with_taken table n) ≡ fixed_part table
-  taken_runners table n = by_cell (map.get table.cells n)
-    where
-      by_cell : (o : Option (Slotted P T (Unit {0}))) → fixed_part (with_taken_at table n o) ≡ fixed_part table
-      by_cell None = refl
-      by_cell (Some s) = refl
+  taken_runners table n = grind arith
 
   -- trytick took the front
   pub take_done : {task : Taken P} {core : Core P T (Unit {0})} → TakesFront a.core.cells core.cells.global task → core ≡ record a.core { cells = after_take a.core.cells }

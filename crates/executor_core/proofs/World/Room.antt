@@ -1,6 +1,6 @@
 -- There is room for what the steps to come add.
-use Rattle.std.proofs.Common.{◌≡◌, ◌≢◌, ℕ, ◌+◌, ◌<◌, ◌≤◌, Fits, w32, Bool, true, false, cond, List, [], ◌∷◌, ◌++◌, length, sym, ap, ◌∙◌, arith}
-use Rattle.std.specs.Prelude.{Result, Ok, Err, OnOk, OnErr, is_err}
+use Rattle.std.proofs.Common.{◌≡◌, ◌≢◌, ℕ, ◌+◌, ◌<◌, ◌≤◌, Fits, w32, Bool, true, false, cond, List, [], ◌∷◌, ◌++◌, length, ap, arith}
+use Rattle.std.specs.Prelude.{Result, OnOk, OnErr, is_err}
 use Rattle.executor_core.specs.World.{Execution}
 use Rattle.executor_core.specs.declared.interleave.event.Event.{Event}
 use Rattle.executor_core.specs.World.Promises.{notices_out}
@@ -9,8 +9,7 @@ use Rattle.executor_core.proofs.ListLemmas.{length-push}
 
 -- an event at most was logged
 pub length-push_if : {E : Type 0} (b : Bool) (log : List E) (e : E) → length (cond b (log ++ e ∷ []) log) ≤ length log + 1
-length-push_if true log e = let h = length-push log e in omega arith
-length-push_if false log e = omega arith
+length-push_if b log e = grind (arith, length-push)
 
 module _ {T : Type 0} {w : Execution T} {room : ℕ} (has : HasRoom w room) where
   -- one notice or pick more can be counted
@@ -40,36 +39,19 @@ module _ {T : Type 0} {w : Execution T} {room : ℕ} (has : HasRoom w room) wher
     event_fits is = let h1 = is_below in let h2 = has.few_events in let h3 = has.enough in omega arith
 
     pub second_fits : (e : Event T) (b : Bool) {log : List (Event T)} → log ≡ cond b (w.log ++ e ∷ []) w.log → {capacity : ℕ} → capacity ≡ room → {count : ℕ} → count ≡ length log → count < capacity
-    second_fits e b log_is same is =
-        let h1 = is_below in
-        let h2 = has.few_events in
-        let h3 = has.enough in
-        let h4 = ap length log_is in
-        let h5 = length-push_if b w.log e in
-        omega arith
+    second_fits e b log_is same is = grind (arith, is_below, length-push_if)
 
     -- a step leaves one thing more to be spent, one task and one ticker more and two events more, at most
     pub room_again : (u : Execution T) → u.accepted ≡ w.accepted + 1 → u.limit ≡ w.limit → u.picks + notices_out u ≤ w.picks + notices_out w + 1 → length u.tasks ≤ length w.tasks + 1 → length u.log ≤ length w.log + 2 → length u.tickers ≤ length w.tickers + 1 → u.closed ≡ w.closed → u.leaked ≡ w.leaked → HasRoom u room
-    room_again u counted same unspent tasks events tickers closed leaked =
-        let h1 = is_below in
-        let h2 = has.few_unspent in
-        let h3 = has.few_tasks in
-        let h4 = has.few_events in
-        let h5 = has.enough in
-        let h6 = has.bounded in
-        let h7 = has.few_tickers in
-        record { within = omega arith; bounded = omega arith; few_unspent = omega arith; few_tasks = omega arith; few_events = omega arith; few_before = λ unclosed unleaked. let h8 = has.few_before (sym closed ∙ unclosed) (sym leaked ∙ unleaked) in omega arith; few_tickers = omega arith; enough = omega arith }
+    room_again u counted same unspent tasks events tickers closed leaked = grind (arith, is_below)
 
 -- one item more fits if a place for it was reserved
 pub reserved_fits : {A E : Type 0} (r : Result A E) {count capacity : ℕ} → OnOk r (count + 1 ≤ capacity) → is_err r ≡ false → count < capacity
-reserved_fits (Ok x) fits is = omega arith
-reserved_fits (Err e) fits is = absurd (cc)
+reserved_fits r fits is = grind arith
 
 -- what holds if a call was not refused, and what holds if it was
 pub on_ok : {A E P : Type 0} (r : Result A E) → OnOk r P → is_err r ≡ false → P
-on_ok (Ok x) holds is = holds
-on_ok (Err e) holds is = absurd (cc)
+on_ok r holds is = grind arith
 
 pub on_err : {A E P : Type 0} (r : Result A E) → OnErr r P → is_err r ≡ true → P
-on_err (Ok x) holds is = absurd (cc)
-on_err (Err e) holds is = holds
+on_err r holds is = grind arith

@@ -1,5 +1,5 @@
 -- A run registers its runner, takes its fair part, or unregisters.
-use Rattle.std.proofs.Common.{◌≡◌, ◌≢◌, ℕ, zero, suc, ◌+◌, ◌≤◌, Bool, true, false, not, ◌&&◌, cond, inl, inr, List, [], ◌∷◌, ◌++◌, length, drop, Option, Some, None, is_some, refl, sym, ap, ◌∙◌, arith}
+use Rattle.std.proofs.Common.{◌≡◌, ◌≢◌, ℕ, zero, suc, ◌+◌, ◌≤◌, Bool, true, false, ◌&&◌, cond, inl, inr, List, [], ◌∷◌, ◌++◌, length, drop, Option, Some, None, is_some, refl, sym, ap, ◌∙◌, arith}
 use Rattle.std.proofs.lemmas.Bool.{cases_Bool, and_parts, lt-ltb, true≢false, false≢true, cond-true, cond-false}
 use Rattle.std.proofs.lemmas.List.{append-nil}
 use Rattle.std.proofs.lemmas.List.Sorted.{length_permutation}
@@ -9,7 +9,7 @@ use Rattle.std.specs.Vec.{vec_capacity}
 use Rattle.executor_core.specs.Cells.{Table}
 use Rattle.executor_core.specs.Cells.Calls.{after_register, may_register, after_fair, after_unregister, unregister_queues}
 use Rattle.executor_core.specs.Cells.Law.{queued_of, queues_of}
-use Rattle.executor_core.specs.Queues.{QueueLists, position_of, is_registered, entries_of, entries_at, local_entries_at, unregistered, unregistered_at, fair, fair_at, fair_count}
+use Rattle.executor_core.specs.Queues.{QueueLists, position_of, is_registered, entries_of, entries_at, local_entries_at, unregistered, unregistered_at, fair, fair_count}
 use Rattle.executor_core.specs.Ring.{IdRing}
 use Rattle.executor_core.specs.World.{Execution}
 use Rattle.executor_core.specs.World.Runners.{new_ring, RunnersTied}
@@ -43,16 +43,10 @@ get_at (z ∷ zs) zero d x is = cc
 get_at (z ∷ zs) (suc i) d x is = get_at zs i d x is
 
 drop-none : {X : Type 0} (n : ℕ) (xs : List X) → xs ≡ [] → drop n xs ≡ []
-drop-none zero xs none = none
-drop-none (suc n) [] none = refl
-drop-none (suc n) (x ∷ xs) none = absurd (cc)
+drop-none n xs none = grind arith
 
 fair_global : (k : ℕ) (q : QueueLists ℕ) → q.global ≡ [] → (fair k q).global ≡ []
-fair_global k q none = by_position (position_of k q.locals)
-  where
-    by_position : (o : Option ℕ) → (fair_at o q).global ≡ []
-    by_position None = none
-    by_position (Some r) = drop-none _ q.global none
+fair_global k q none = grind (arith, drop-none)
 
 unregistered_global : (k : ℕ) (q : QueueLists ℕ) → nat_lt 0 (length (entries_of k q.locals)) ≡ false → q.global ≡ [] → (unregistered k q).global ≡ []
 unregistered_global k q nothing none = by_position (position_of k q.locals) nothing
@@ -73,15 +67,7 @@ module _ {P T : Type 0} (a : Inside P T) (sound : IsWorld (execution_of a) a.cor
   -- the world after the queues changed
   queued_sound : (cells : Table P T (Unit {0})) (rings : List (Option IdRing)) → cells.next ≡ a.core.cells.next → cells.cells ≡ a.core.cells.cells → (a.core.cells.global ≡ [] → cells.global ≡ []) → (queued_of a.core.cells ≡ [] → queued_of cells ≡ []) → RunnersTied a.local a.tickers.items cells rings → a.core.cells.closed ≡ false → cells.closed ≡ a.core.cells.closed
       → IsWorld (stepped a (a.accepted + 1) (record a.core { cells = cells }) a.log.items a.entries.items a.notices a.picks) cells a.entries.items rings (vec_capacity a.log)
-  queued_sound cells rings next same empty nothing runners unclosed as_before =
-      record {
-        agree = same_cells sound.agree next same;
-        notices = notices_again sound.notices refl refl refl refl refl (inr (record { global = empty; all = nothing }, refl));
-        tickers = sound.tickers;
-        runners = runners;
-        room = room_again sound.room view far _ refl refl (omega arith) (omega arith) (omega arith) (omega arith) as_before refl;
-        closing = λ on. absurd (true≢false (sym on ∙ as_before ∙ unclosed));
-      }
+  queued_sound cells rings next same empty nothing runners unclosed as_before = grind (arith, same_cells, notices_again, room_again)
 
   -- a new run registers its runner
   module _ (enabled : may_register_run w.locals (ticker k w) ≡ true) {t : Ticker} (t_is : t ≡ before) where
@@ -118,10 +104,7 @@ module _ {P T : Type 0} (a : Inside P T) (sound : IsWorld (execution_of a) a.cor
       ring_empty is = ap (λ (i : IdRing). i.ids) (ring_waits is)
 
       may_now : may_register a.core.cells r ≡ true
-      may_now =
-          let free = lt-ltb 0 _ (new_places sound.runners k before found_new is_new) in
-          let parts = and_parts (waits before.phase) (not (is_registered r a.core.cells.locals)) (sym (run_is before r runner_is a.core.cells.locals) ∙ is_new) in
-          ap (λ b. b && not (is_registered r a.core.cells.locals)) free ∙ parts.1
+      may_now = grind (arith, lt-ltb 0 _ (new_places sound.runners k before found_new is_new), and_parts, run_is, runner_is)
 
       pub registers : (false ≡ true) ↔ (may_register a.core.cells r ≡ true) → ⊥
       registers variant = false≢true (variant.1 may_now)

@@ -7,7 +7,7 @@ use Rattle.std.specs.Prelude.{nat_lt, ◌==◌, set, slice_get, slice_set, count
 use Rattle.executor_core.specs.Cells.{Table}
 use Rattle.executor_core.specs.Cells.Calls.{empty_table, with_queues, after_reserve_runner, after_register, after_unregister}
 use Rattle.executor_core.specs.Cells.Law.{queues_of}
-use Rattle.executor_core.specs.Queues.{RunnerQueue, is_runner, is_registered, entries_at, set_entries, with_entries, unregistered_at}
+use Rattle.executor_core.specs.Queues.{RunnerQueue, is_runner, is_registered, entries_at, with_entries, unregistered_at}
 use Rattle.executor_core.specs.Ring.{IdRing}
 use Rattle.executor_core.specs.World.Runners.{new_ring, RunTied, QueueTied, RunnersTied}
 use Rattle.executor_core.specs.World.Phases.{waits, is_run, needs_queue, new_ticker}
@@ -19,17 +19,13 @@ abbrev one : Bool → ℕ
 one b = cond b 1 0
 
 some_where : {X : Type 0} (b : Bool) (x : X) → is_some (cond b (Some x) None) ≡ b
-some_where true x = refl
-some_where false x = refl
+some_where b x = grind arith
 
 one_more : (n : ℕ) → 1 + n ≡ suc n
 one_more n = omega arith
 
 lt_suc : (a b : ℕ) → nat_lt (1 + a) (suc b) ≡ nat_lt a b
-lt_suc a b = elim (cases_lt a b) [
-  | inl less ↦ lt-ltb (1 + a) (suc b) (omega arith) ∙ sym (lt-ltb a b less)
-  | inr more ↦ le-ltb (1 + a) (suc b) (omega arith) ∙ sym (le-ltb a b more)
-]
+lt_suc a b = grind (arith, cases_lt, lt-ltb, le-ltb)
 
 -- tests of the items of a list
 module _ {X : Type 0} where
@@ -92,10 +88,7 @@ module _ {X : Type 0} where
   ]
 
   pub position_at : (f : X → Bool) (xs : List X) → is_some (position f xs) ≡ true → (i : ℕ) × (x : X) × (position f xs ≡ Some i) × (slice_get xs i ≡ Some x) × (f x ≡ true)
-  position_at f xs some =
-      let any : list_any f xs ≡ true = sym (position_any f xs) ∙ some in
-      let first = first_at f xs any in
-      (position_or_len f xs, first.0, ap (λ b. cond b (Some (position_or_len f xs)) None) (position_within f xs ∙ any), first.1, first.2)
+  position_at f xs some = grind (arith, position_any, first_at, position_within)
 
 -- the queues of the runners, without what stands in them
 abbrev shape : RunnerQueue ℕ → ℕ × ℕ
@@ -125,11 +118,7 @@ shapes-set (x ∷ xs) zero entries q is = let it : x ≡ q = cc in ap (λ q. sha
 shapes-set (x ∷ xs) (suc r) entries q is = ap (λ l. shape x ∷ l) (shapes-set xs r entries q is)
 
 pub shapes_with : (locals : List (RunnerQueue ℕ)) (r : ℕ) (entries : List ℕ) → shapes (with_entries r entries locals) ≡ shapes locals
-shapes_with locals r entries = by_queue (slice_get locals r) refl
-  where
-    by_queue : (o : Option (RunnerQueue ℕ)) → slice_get locals r ≡ o → shapes (set_entries r entries o locals) ≡ shapes locals
-    by_queue None is = refl
-    by_queue (Some q) is = shapes-set locals r entries q is
+shapes_with locals r entries = grind (arith, shapes-set)
 
 -- what a call on a task leaves as it is: the queues of the runners, their places, and whether the table was closed
 module _ {P T W : Type 0} where
@@ -170,42 +159,21 @@ runner_same t r s is also = cc (sym is, also)
 
 -- which tickers are no new runs: one that is not at rest, a tick, and one whose runner is registered
 pub restless_not_new : (locals : List (RunnerQueue ℕ)) (t : Ticker) → waits t.phase ≡ false → is_new_run locals t ≡ false
-restless_not_new locals t goes = ap (λ b. is_run t && b && not (is_registered (runner_of t) locals)) goes ∙ by_run (is_run t)
-  where
-    by_run : (b : Bool) → b && false && not (is_registered (runner_of t) locals) ≡ false
-    by_run true = refl
-    by_run false = refl
+restless_not_new locals t goes = grind arith
 
 pub queued_not_new : (locals : List (RunnerQueue ℕ)) (t : Ticker) → ((r : ℕ) → t.runner ≡ Some r → is_registered r locals ≡ true) → is_new_run locals t ≡ false
-queued_not_new locals t queued = by_runner t.runner refl
-  where
-    fails : (b : Bool) → b && false ≡ false
-    fails true = refl
-    fails false = refl
-
-    by_runner : (o : Option ℕ) → t.runner ≡ o → is_new_run locals t ≡ false
-    by_runner None is = not_run t is locals
-    by_runner (Some r) is = run_is t r is locals ∙ ap (λ b. waits t.phase && not b) (queued r is) ∙ fails (waits t.phase)
+queued_not_new locals t queued = grind (arith, not_run, run_is)
 
 -- what a step of the ticker at k makes of the tie
 module _ {P T W : Type 0} {local : ℕ} {tickers : List Ticker} {table : Table P T W} {rings : List (Option IdRing)} (tied : RunnersTied local tickers table rings) where
   -- a place is free for a new run
   pub new_places : (k : ℕ) (t : Ticker) → slice_get tickers k ≡ Some t → is_new_run table.locals t ≡ true → 0 < table.free_places
-  new_places k t found new =
-      let most = sum_by-at (λ (t : Ticker). one (is_new_run table.locals t)) tickers k t found in
-      let itself : ◌≡◌ {A = ℕ} (one (is_new_run table.locals t)) 1 = ap one new in
-      let places = tied.places in
-      omega arith
+  new_places k t found new = grind (arith, sum_by-at)
 
   module _ (k : ℕ) (t u : Ticker) (found : slice_get tickers k ≡ Some t) (same : u.runner ≡ t.runner) where
     -- each ticker then has the runner of one before
     before_set : (j : ℕ) (x : Ticker) → slice_get (slice_set tickers k u) j ≡ Some x → (y : Ticker) × (slice_get tickers j ≡ Some y) × (x.runner ≡ y.runner)
-    before_set j x is = elim (cases_eq j k) [
-      | inl here ↦
-          let it : u ≡ x = cc (sym (get-set_same tickers k u t found), sym (ap (λ j. slice_get (slice_set tickers k u) j) here), is) in
-          (t, ap (slice_get tickers) here ∙ found, sym (ap (λ (t : Ticker). t.runner) it) ∙ same)
-      | inr far ↦ (x, sym (get-set_other tickers k j u far) ∙ is, refl)
-    ]
+    before_set j x is = grind (arith, cases_eq, get-set_same, get-set_other)
 
     -- what has to hold of the change
     pub record RunnersChange (later : Table P T W) (anew : List (Option IdRing)) : Type 0 where
@@ -406,14 +374,7 @@ module _ {P T W : Type 0} {local : ℕ} {tickers : List Ticker} {table : Table P
 
   -- a runner that is still to be made is not registered
   pub next_fresh : is_registered table.next_runner table.locals ≡ false
-  next_fresh = elim (cases_Bool (is_registered table.next_runner table.locals)) [
-    | inl there ↦
-        let at = position_at (is_runner table.next_runner) table.locals there in
-        let below = (tied.queues at.0 at.1 at.3).made in
-        let is = eqb-true _ _ at.4 in
-        absurd (omega arith)
-    | inr fresh ↦ fresh
-  ]
+  next_fresh = grind (arith, cases_Bool, position_at, eqb-true)
 
   -- a ticker was made
   pub record RunnersPush (u : Ticker) (later : Table P T W) (anew : List (Option IdRing)) : Type 0 where
@@ -512,13 +473,4 @@ module _ {P T W : Type 0} {local : ℕ} {tickers : List Ticker} {table : Table P
 
 -- before the first step
 pub runners_opening : {P T W : Type 0} (local : ℕ) → 0 < local → RunnersTied {P = P} {T = T} {W = W} local [] (empty_table 0) []
-runners_opening local roomy =
-    record {
-      roomy = roomy;
-      runners = refl;
-      kept = refl;
-      runs = λ k t r at is. absurd (cc);
-      once = λ j k t u r at_j at_k is_t is_u. absurd (cc);
-      queues = λ i q at. absurd (cc);
-      places = refl;
-    }
+runners_opening local roomy = grind arith

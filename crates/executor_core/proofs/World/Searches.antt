@@ -7,7 +7,7 @@ use Rattle.std.proofs.lemmas.List.Sorted.{length_permutation}
 use Rattle.std.proofs.lemmas.Map.Views.{any-filter_same}
 use Rattle.std.specs.List.{list_any, find, flat_map, range_with_len}
 use Rattle.std.specs.Prelude.{◌==◌, ◌%◌, min, slice_get}
-use Rattle.executor_core.specs.Queues.{RunnerQueue, QueueLists, is_runner, position_of, is_registered, steal_count, stolen, entries_or, entries_at, capacity_or, capacity_at, set_entries, with_entries, all_entries, visits, can_steal, victim, stolen_between, local_front, steal_from, search_shared, search_own, search_at, search, first_occupied, front_at, any_front, search_any, global_front, search_global, global_stolen, fair_at, fair}
+use Rattle.executor_core.specs.Queues.{RunnerQueue, QueueLists, is_runner, is_registered, steal_count, stolen, entries_or, entries_at, capacity_or, capacity_at, with_entries, all_entries, visits, can_steal, victim, stolen_between, local_front, steal_from, search_shared, search_own, search_at, search, search_any, global_front, search_global, global_stolen, fair}
 use Rattle.executor_core.specs.World.Steps.{found_by}
 use Rattle.executor_core.proofs.ListLemmas.{get-set_same, within_get}
 use Rattle.executor_core.proofs.QueueLemmas.{find_passes, search_any-permutes, search_any-none}
@@ -56,8 +56,7 @@ visited r word n s below other =
 -- the entries that were put in the place of others
 module _ {X : Type 0} where
   entries_with : (locals : List (RunnerQueue X)) (r : ℕ) (q : RunnerQueue X) (entries : List X) → slice_get locals r ≡ Some q → entries_at r (with_entries r entries locals) ≡ entries
-  entries_with locals r q entries at =
-      ap (λ o. entries_at r (set_entries r entries o locals)) at ∙ ap entries_or (get-set_same locals r (record q { entries = entries }) q at)
+  entries_with locals r q entries at = grind (arith, get-set_same)
 
   -- each queue is empty
   all_empty : (locals : List (RunnerQueue X)) → ((i : ℕ) (q : RunnerQueue X) → slice_get locals i ≡ Some q → q.entries ≡ []) → flat_map (λ local. local.entries) locals ≡ []
@@ -65,8 +64,7 @@ module _ {X : Type 0} where
   all_empty (q ∷ qs) none = ap (λ l. l ++ flat_map (λ local. local.entries) qs) (none 0 q refl) ∙ all_empty qs (λ i q at. none (suc i) q at)
 
   front_none : (r : ℕ) (entries : List X) (q : QueueLists X) → (local_front r entries q).0 ≡ None → entries ≡ []
-  front_none r [] q none = refl
-  front_none r (x ∷ rest) q none = absurd (cc)
+  front_none r entries q none = grind arith
 
 module _ (word : ℕ) (q : QueueLists ℕ) (roomy : (i : ℕ) (x : RunnerQueue ℕ) → slice_get q.locals i ≡ Some x → 0 < x.capacity) (r : ℕ) (own : RunnerQueue ℕ) (here : slice_get q.locals r ≡ Some own) where
   -- a steal that is possible brings something
@@ -85,8 +83,7 @@ module _ (word : ℕ) (q : QueueLists ℕ) (roomy : (i : ℕ) (x : RunnerQueue �
       absurd (omega arith)
 
   by_victim : entries_at r q.locals ≡ [] → (o : Option ℕ) → victim r word q.locals ≡ o → (steal_from r o q).0 ≡ None → o ≡ None
-  by_victim mine None is none = refl
-  by_victim mine (Some s) is none = absurd (steal_brings s mine (find_passes (can_steal r q.locals) (visits r word (length q.locals)) s is) none)
+  by_victim mine victim is none = grind (arith, steal_brings, find_passes)
 
   -- if nobody can be stolen from, nobody has anything
   others_empty : victim r word q.locals ≡ None → (i : ℕ) (x : RunnerQueue ℕ) → slice_get q.locals i ≡ Some x → i ≢ r → x.entries ≡ []
@@ -108,21 +105,10 @@ module _ (word : ℕ) (q : QueueLists ℕ) (roomy : (i : ℕ) (x : RunnerQueue �
     pub same : found ≡ (None, q)
 
   shared_vain : entries_at r q.locals ≡ [] → (global : List ℕ) → q.global ≡ global → (search_shared r word global q).0 ≡ None → InVain (search_shared r word global q)
-  shared_vain mine (x ∷ rest) is none = absurd (cc)
-  shared_vain mine [] is none =
-      let nobody = by_victim mine (victim r word q.locals) refl none in
-      record {
-        nothing = ap (λ l. l ++ q.global) (all_empty q.locals (λ i x at. elim (cases_eq i r) [
-          | inl same ↦ sym (ap entries_or at) ∙ ap (λ i. entries_at i q.locals) same ∙ mine
-          | inr other ↦ others_empty nobody i x at other
-        ])) ∙ is;
-        global = is;
-        same = ap (λ o. steal_from r o q) nobody;
-      }
+  shared_vain mine global is none = grind (arith, by_victim, all_empty, cases_eq, others_empty)
 
   own_vain : (entries : List ℕ) → entries_at r q.locals ≡ entries → (search_own r word entries q).0 ≡ None → InVain (search_own r word entries q)
-  own_vain (x ∷ rest) is none = absurd (cc)
-  own_vain [] is none = shared_vain is q.global refl none
+  own_vain entries is none = grind (arith, shared_vain)
 
 -- a registered runner's search in vain
 pub search_vain : (k word : ℕ) (q : QueueLists ℕ) → is_registered k q.locals ≡ true → ((i : ℕ) (x : RunnerQueue ℕ) → slice_get q.locals i ≡ Some x → 0 < x.capacity) → (search k word q).0 ≡ None → (all_entries q ≡ []) × (q.global ≡ []) × (search k word q ≡ (None, q))
@@ -134,15 +120,13 @@ search_vain k word q there roomy none =
 
 -- a search leaves the runners and their places
 front_shapes : (r : ℕ) (entries : List ℕ) (q : QueueLists ℕ) → shapes (local_front r entries q).1.locals ≡ shapes q.locals
-front_shapes r [] q = refl
-front_shapes r (x ∷ rest) q = shapes_with q.locals r rest
+front_shapes r entries q = grind (arith, shapes_with)
 
 pub stolen_shapes : (r : ℕ) (q : QueueLists ℕ) → shapes (global_stolen r q).locals ≡ shapes q.locals
 stolen_shapes r q = shapes_with q.locals r _
 
 steal_shapes : (r : ℕ) (o : Option ℕ) (q : QueueLists ℕ) → shapes (steal_from r o q).1.locals ≡ shapes q.locals
-steal_shapes r None q = refl
-steal_shapes r (Some s) q = front_shapes r _ (stolen_between s r q) ∙ shapes_with _ r _ ∙ shapes_with q.locals s _
+steal_shapes r o q = grind (arith, front_shapes, shapes_with)
 
 shared_shapes : (r word : ℕ) (global : List ℕ) (q : QueueLists ℕ) → shapes (search_shared r word global q).1.locals ≡ shapes q.locals
 shared_shapes r word (x ∷ rest) q = stolen_shapes r (record q { global = rest })
@@ -153,37 +137,19 @@ own_shapes r word (x ∷ rest) q = front_shapes r (x ∷ rest) q
 own_shapes r word [] q = shared_shapes r word q.global q
 
 global_shapes : (global : List ℕ) (q : QueueLists ℕ) → shapes (global_front global q).1.locals ≡ shapes q.locals
-global_shapes [] q = refl
-global_shapes (x ∷ rest) q = refl
+global_shapes global q = grind arith
 
 search_shapes : (k word : ℕ) (q : QueueLists ℕ) → shapes (search k word q).1.locals ≡ shapes q.locals
-search_shapes k word q = by_position (position_of k q.locals)
-  where
-    by_position : (o : Option ℕ) → shapes (search_at o word q).1.locals ≡ shapes q.locals
-    by_position None = global_shapes q.global q
-    by_position (Some r) = own_shapes r word (entries_at r q.locals) q
+search_shapes k word q = grind (arith, global_shapes, own_shapes)
 
 pub any_shapes : (q : QueueLists ℕ) → shapes (search_any q).1.locals ≡ shapes q.locals
-any_shapes q = by_global q.global
-  where
-    by_position : (o : Option ℕ) → shapes (front_at o q).1.locals ≡ shapes q.locals
-    by_position None = refl
-    by_position (Some r) = front_shapes r (entries_at r q.locals) q
-
-    by_global : (global : List ℕ) → shapes (any_front global q).1.locals ≡ shapes q.locals
-    by_global [] = by_position (first_occupied q.locals)
-    by_global (x ∷ rest) = refl
+any_shapes q = grind (arith, front_shapes)
 
 pub found_shapes : (runner : Option ℕ) (word : ℕ) (q : QueueLists ℕ) → shapes (found_by runner word q).1.locals ≡ shapes q.locals
-found_shapes None word q = global_shapes q.global q
-found_shapes (Some r) word q = search_shapes r word q
+found_shapes runner word q = grind (arith, global_shapes, search_shapes)
 
 pub fair_shapes : (k : ℕ) (q : QueueLists ℕ) → shapes (fair k q).locals ≡ shapes q.locals
-fair_shapes k q = by_position (position_of k q.locals)
-  where
-    by_position : (o : Option ℕ) → shapes (fair_at o q).locals ≡ shapes q.locals
-    by_position None = refl
-    by_position (Some r) = stolen_shapes r q
+fair_shapes k q = grind (arith, stolen_shapes)
 
 -- a search of any queue in vain
 pub any_vain : (q : QueueLists ℕ) → all_entries q ≡ [] → search_any q ≡ (None, q)
@@ -195,8 +161,4 @@ any_vain q nothing = by_found (search_any q).0 refl
 
 -- a tick's search in vain
 pub front_vain : (q : QueueLists ℕ) → (search_global q).0 ≡ None → (q.global ≡ []) × (search_global q ≡ (None, q))
-front_vain q none = by_global q.global refl none
-  where
-    by_global : (global : List ℕ) → q.global ≡ global → (global_front global q).0 ≡ None → (q.global ≡ []) × (global_front global q ≡ (None, q))
-    by_global [] is none = (is, refl)
-    by_global (x ∷ rest) is none = absurd (cc)
+front_vain q none = grind arith

@@ -78,13 +78,7 @@ module _ {P T : Type 0} {table : Table P T (Unit {0})} {log : List (Event T)} {e
 module _ {P T : Type 0} (a : Inside P T) (sound : IsWorld (execution_of a) a.core.cells a.entries.items a.rings.items (vec_capacity a.log)) {w : Execution T} (view : execution_of a ≡ w) (far : w.accepted ≢ w.limit) where
   -- the numbers of a world do not run out
   pub last_unreached : a.core.cells.next ≡ last_number → ⊥
-  last_unreached is =
-      let same = sound.agree.next in
-      let known = length-infos a.entries.items in
-      let few = sound.room.few_tasks in
-      let within = sound.room.within in
-      let bounded = sound.room.bounded in
-      omega arith
+  last_unreached is = grind (arith, length-infos)
 
   -- memory was refused, and nothing changed
   pub spawn_refused : {core : Core P T (Unit {0})} → core ≡ a.core → {entries : List (TaskEntry P)} → entries ≡ a.entries.items

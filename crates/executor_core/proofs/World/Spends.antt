@@ -1,5 +1,5 @@
 -- A notice or a pick is spent.
-use Rattle.std.proofs.Common.{◌≡◌, ◌≢◌, ℕ, zero, suc, ◌+◌, ◌-◌, ◌<◌, ◌≤◌, Bool, true, false, not, ◌&&◌, cond, List, [], ◌∷◌, length, Option, Some, None, is_some, refl, sym, ap, ◌∙◌, arith}
+use Rattle.std.proofs.Common.{◌≡◌, ◌≢◌, ℕ, zero, suc, ◌+◌, ◌-◌, ◌<◌, ◌≤◌, Bool, true, false, not, ◌&&◌, cond, List, [], ◌∷◌, length, Option, None, is_some, refl, sym, ap, ◌∙◌, arith}
 use Rattle.std.proofs.lemmas.Bool.{and_parts, ltb-true, not-true}
 use Rattle.std.specs.Prelude.{nat_lt, slice_get, option_map}
 use Rattle.std.specs.Map.{keys_of}
@@ -31,15 +31,13 @@ is_some-last : {W : Type 0} (pairs : List (ℕ × W)) → is_some (last_of pairs
 is_some-last pairs = is_some-keys pairs (length pairs - 1) ∙ ap (λ k. is_some (slice_get (keys_of pairs) (k - 1))) (sym (length-keys pairs))
 
 is_some-map : {A B : Type 0} (f : A → B) (o : Option A) → is_some (option_map f o) ≡ is_some o
-is_some-map f None = refl
-is_some-map f (Some x) = refl
+is_some-map f o = grind arith
 
 abbrev woken_up : ℕ × Unit {0} → Wakeup (Unit {0})
 woken_up p = record { waker = p.1 }
 
 reply_of_last : {T : Type 0} (last : Option ℕ) → sleeper_reply {T = T} (is_some last) last ≡ notify_reply last
-reply_of_last None = refl
-reply_of_last (Some i) = refl
+reply_of_last last = grind arith
 
 module _ {P T : Type 0} (a : Inside P T) (sound : IsWorld (execution_of a) a.core.cells a.entries.items a.rings.items (vec_capacity a.log)) {w : Execution T} (view : execution_of a ≡ w) (far : w.accepted ≢ w.limit) where
   pub exchange_done : 0 < floating_notices w → {core : Core P T (Unit {0})} → core ≡ record a.core { flag = true } → {picked kept : Bool} → picked ≡ not a.core.flag → {picks : ℕ} → picks ≡ cond picked (a.picks + 1) a.picks → kept ≡ picked → {answer : Reply T} → answer ≡ pick_reply kept
@@ -65,9 +63,7 @@ module _ {P T : Type 0} (a : Inside P T) (sound : IsWorld (execution_of a) a.cor
 
   -- nobody holds the sleepers' lock, so the list is closed
   pub list_closed : (b : Bool) → b && not (is_some w.holder) ≡ true → a.core.sleepers.is_open ≡ false
-  list_closed b enabled =
-      let free = (and_parts b (not (is_some a.holder)) (ap (λ w. b && not (is_some w.holder)) view ∙ enabled)).1 in
-      sound.tickers.opened ∙ not-true (is_some a.holder) free
+  list_closed b enabled = grind (arith, and_parts, not-true)
 
   pub notify_done : (nat_lt 0 w.picks && not (is_some w.holder)) ≡ true → SleeperLaw a.core.sleepers → {core : Core P T (Unit {0})} → core ≡ record a.core { sleepers = after_notify a.core.sleepers } → {last : Option ℕ} → last ≡ last_of (keys_of a.core.sleepers.unnotified)
       → {wakeup : Option (Wakeup (Unit {0}))} → wakeup ≡ notify_answer a.core.sleepers → {notified : Bool} → notified ≡ is_some wakeup → {answer : Reply T} → answer ≡ sleeper_reply notified last

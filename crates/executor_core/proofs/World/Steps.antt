@@ -74,12 +74,7 @@ module _ {P T : Type 0} (step : Step P T) (old : Execution T) where
   step_not_now far off = record { full = λ full. absurd (far full); not_now = λ _ _. (refl, refl); done = λ _ on. absurd (false≢true (sym off ∙ on)) }
 
   pub step_done : (answer : Reply T) (new : Execution T) → old.accepted ≢ old.limit → enabled step old ≡ true → Does step old answer new → StepTo old step answer new
-  step_done answer new far on does =
-      record {
-        full = λ full. absurd (far full);
-        not_now = λ _ off. absurd (false≢true (sym off ∙ on));
-        done = λ _ _. does;
-      }
+  step_done answer new far on does = grind arith
 
   pub step_enabled : {arm : Step P T} → step ≡ arm → enabled step old ≡ true → enabled arm old ≡ true
   step_enabled is on = subst (λ s. enabled s old ≡ true) is on

@@ -18,7 +18,7 @@ use Rattle.executor_core.specs.World.Agreement.{Agree}
 use Rattle.executor_core.specs.World.Promises.{kept_notices, notices_out, holds, holder_spends, FlagLaw, NoNoticeLost, NumbersTied, TickersTied}
 use Rattle.executor_core.specs.World.Steps.{row, counted, noticed, taking, ticker, take_reply, purpose_of, with_ticker, with_queues as with_queues_row, found_by, found_row, search_to_row, placed, ticker_row, tick_row, run_row, poll_row, search_row, insert_row, update_row, yield_row, removed_reply, remove_row, store_row, drop_row, Makes}
 use Rattle.executor_core.specs.World.Phases.{is_awake, is_run, is_over, waits as is_waiting, at_rest, in_search, in_sleep, in_wake, in_store, in_leaving, has_ended, gave_up, needs_queue, notices_in, has_to_search, ticker_or, new_ticker}
-use Rattle.executor_core.specs.World.Tickers.{has_queue, is_new_run, may_search, may_go, after_task, polled, searched, slept, rested, woke, dropped, ended, after_store, stored}
+use Rattle.executor_core.specs.World.Tickers.{is_new_run, may_search, may_go, after_task, polled, searched, slept, rested, woke, dropped, ended, after_store, stored}
 use Rattle.executor_core.specs.World.Entries.{infos, out_entry}
 use Rattle.executor_core.specs.World.Runners.{new_ring, RunnersTied}
 use Rattle.executor_core.specs.World.View.{execution_of, IsWorld}
@@ -47,77 +47,31 @@ use Rattle.executor_core.specs.declared.interleave.reply.Reply.TheVariants as re
 use Rattle.executor_core.specs.declared.interleave.ticker.ListChange.{ListChange}
 use Rattle.executor_core.specs.declared.interleave.ticker.ListChange.TheVariants.{Slept, Woke, Dropped}
 use Rattle.executor_core.specs.declared.interleave.ticker.Phase.{Phase}
-use Rattle.executor_core.specs.declared.interleave.ticker.Phase.TheVariants.{Rest, Search, Sleep, Wake, Store, Leaving, Forgotten, Ended}
+use Rattle.executor_core.specs.declared.interleave.ticker.Phase.TheVariants.{Rest, Search, Sleep, Wake, Store, Ended}
 use Rattle.executor_core.specs.declared.interleave.ticker.Ticker.{Ticker}
 
 -- a phase that passes its test
 pub is_rest : (p : Phase) → at_rest p ≡ true → p ≡ Rest
-is_rest Rest h = refl
-is_rest Search h = absurd (cc)
-is_rest Sleep h = absurd (cc)
-is_rest Wake h = absurd (cc)
-is_rest (Store change) h = absurd (cc)
-is_rest Leaving h = absurd (cc)
-is_rest Forgotten h = absurd (cc)
-is_rest Ended h = absurd (cc)
+is_rest p h = grind arith
 
 is_search : (p : Phase) → in_search p ≡ true → p ≡ Search
-is_search Rest h = absurd (cc)
-is_search Search h = refl
-is_search Sleep h = absurd (cc)
-is_search Wake h = absurd (cc)
-is_search (Store change) h = absurd (cc)
-is_search Leaving h = absurd (cc)
-is_search Forgotten h = absurd (cc)
-is_search Ended h = absurd (cc)
+is_search p h = grind arith
 
 is_sleep : (p : Phase) → in_sleep p ≡ true → p ≡ Sleep
-is_sleep Rest h = absurd (cc)
-is_sleep Search h = absurd (cc)
-is_sleep Sleep h = refl
-is_sleep Wake h = absurd (cc)
-is_sleep (Store change) h = absurd (cc)
-is_sleep Leaving h = absurd (cc)
-is_sleep Forgotten h = absurd (cc)
-is_sleep Ended h = absurd (cc)
+is_sleep p h = grind arith
 
 is_wake : (p : Phase) → in_wake p ≡ true → p ≡ Wake
-is_wake Rest h = absurd (cc)
-is_wake Search h = absurd (cc)
-is_wake Sleep h = absurd (cc)
-is_wake Wake h = refl
-is_wake (Store change) h = absurd (cc)
-is_wake Leaving h = absurd (cc)
-is_wake Forgotten h = absurd (cc)
-is_wake Ended h = absurd (cc)
+is_wake p h = grind arith
 
 is_ended : (p : Phase) → has_ended p ≡ true → p ≡ Ended
-is_ended Rest h = absurd (cc)
-is_ended Search h = absurd (cc)
-is_ended Sleep h = absurd (cc)
-is_ended Wake h = absurd (cc)
-is_ended (Store change) h = absurd (cc)
-is_ended Leaving h = absurd (cc)
-is_ended Forgotten h = absurd (cc)
-is_ended Ended h = refl
+is_ended p h = grind arith
 
 is_store : (p : Phase) → in_store p ≡ true → (change : ListChange) × (p ≡ Store change)
-is_store Rest h = absurd (cc)
-is_store Search h = absurd (cc)
-is_store Sleep h = absurd (cc)
-is_store Wake h = absurd (cc)
-is_store (Store change) h = (change, refl)
-is_store Leaving h = absurd (cc)
-is_store Forgotten h = absurd (cc)
-is_store Ended h = absurd (cc)
+is_store p h = grind arith
 
 -- one notice more floats, if some are kept
 floating : (kept n : ℕ) → (cond (nat_lt 0 kept) (n + 1) n ≤ n + 1) × (cond (nat_lt 0 kept) (n + 1) n ≤ n + kept)
-floating kept n = by_test (nat_lt 0 kept) refl
-  where
-    by_test : (b : Bool) → nat_lt 0 kept ≡ b → (cond b (n + 1) n ≤ n + 1) × (cond b (n + 1) n ≤ n + kept)
-    by_test true is = let some = ltb-true 0 kept is in (omega arith, omega arith)
-    by_test false is = (omega arith, omega arith)
+floating kept n = grind (arith, ltb-true)
 
 -- a phase that keeps nothing and changes nothing
 record IsQuiet (p : Phase) : Type 0 where
@@ -128,31 +82,14 @@ record IsQuiet (p : Phase) : Type 0 where
   pub over : is_over p ≡ false
 
 waits_quiet : (p : Phase) → at_rest p || in_leaving p ≡ true → IsQuiet p
-waits_quiet Rest h = record { stored = refl; ended = refl; kept = refl; search = refl; over = refl }
-waits_quiet Search h = absurd (cc)
-waits_quiet Sleep h = absurd (cc)
-waits_quiet Wake h = absurd (cc)
-waits_quiet (Store change) h = absurd (cc)
-waits_quiet Leaving h = record { stored = refl; ended = refl; kept = refl; search = refl; over = refl }
-waits_quiet Forgotten h = absurd (cc)
-waits_quiet Ended h = absurd (cc)
+waits_quiet p h = grind arith
 
 over_ended : (p : Phase) → is_over p ≡ false → has_ended p ≡ false
-over_ended Rest h = refl
-over_ended Search h = refl
-over_ended Sleep h = refl
-over_ended Wake h = refl
-over_ended (Store change) h = refl
-over_ended Leaving h = refl
-over_ended Forgotten h = refl
-over_ended Ended h = absurd (cc)
+over_ended p h = grind arith
 
 -- if a ticker takes steps, the executor is not closed
 pub goes_open : {P T : Type 0} (a : Inside P T) → IsWorld (execution_of a) a.core.cells a.entries.items a.rings.items (vec_capacity a.log) → (k : ℕ) (t : Ticker) → slice_get a.tickers.items k ≡ Some t → is_over t.phase ≡ false → a.core.cells.closed ≡ false
-goes_open a sound k t found goes = elim (cases_Bool a.core.cells.closed) [
-  | inl on ↦ absurd (true≢false (sym ((sound.closing on).over k t found) ∙ goes))
-  | inr unclosed ↦ unclosed
-]
+goes_open a sound k t found goes = grind (arith, cases_Bool)
 
 -- a ticker that may search is a tick, or its runner is registered
 may_search_queued : (locals : List (RunnerQueue ℕ)) (t : Ticker) → may_search locals t ≡ true → (r : ℕ) → t.runner ≡ Some r → is_registered r locals ≡ true
@@ -188,15 +125,7 @@ module _ {P T : Type 0} (a : Inside P T) (sound : IsWorld (execution_of a) a.cor
   pub ticked_sound : (core : Core P T (Unit {0})) (log : List (Event T)) (entries : List (TaskEntry P)) (notices : ℕ) (tickers : List Ticker) (holder : Option ℕ) {rings : List (Option IdRing)} → Agree core.cells log entries → length entries ≡ length a.entries.items → length log ≤ length a.log.items + 1 → length tickers ≤ length a.tickers.items + 1
       → NoNoticeLost (ticked core log entries notices tickers holder) → TickersTied tickers holder core.sleepers → RunnersTied a.local tickers core.cells rings → notices_out (ticked core log entries notices tickers holder) ≤ notices_out (execution_of a) + 1 → a.core.cells.closed ≡ false → core.cells.closed ≡ a.core.cells.closed
       → IsWorld (ticked core log entries notices tickers holder) core.cells entries rings (vec_capacity a.log)
-  ticked_sound core log entries notices tickers holder agree tasks events made law tied runners few unclosed as_before =
-      record {
-        agree = agree;
-        notices = law;
-        tickers = tied;
-        runners = runners;
-        room = room_again sound.room view far _ refl refl (omega arith) (let before = length-infos a.entries.items in let after = length-infos entries in omega arith) (omega arith) made as_before refl;
-        closing = λ on. absurd (true≢false (sym on ∙ as_before ∙ unclosed));
-      }
+  ticked_sound core log entries notices tickers holder agree tasks events made law tied runners few unclosed as_before = grind (arith, room_again, length-infos)
 
   -- a ticker was made, unless memory for it was refused
   pub make_refused : (row : Execution T → Execution T) {core : Core P T (Unit {0})} → core ≡ a.core → {tickers : List Ticker} → tickers ≡ a.tickers.items → {rings : List (Option IdRing)} → rings ≡ a.rings.items
@@ -225,14 +154,7 @@ module _ {P T : Type 0} (a : Inside P T) (sound : IsWorld (execution_of a) a.cor
 
   -- the runners of a world do not run out
   pub runner_unreached : {core : Core P T (Unit {0})} → core ≡ record a.core { sleepers = after_reserve a.core.sleepers } → core.cells.next_runner ≡ last_number → ⊥
-  runner_unreached core_is last =
-      let next = ap (λ c. c.cells.next_runner) core_is in
-      let runs = sound.runners.runners in
-      let some = count_by-le-length is_run a.tickers.items in
-      let few = sound.room.few_tickers in
-      let within = sound.room.within in
-      let bounded = sound.room.bounded in
-      omega arith
+  runner_unreached core_is last = grind (arith, count_by-le-length)
 
   -- no place was reserved for the runner, and that of the sleeper was given back
   pub given_back : {first middle core : Core P T (Unit {0})} → first ≡ record a.core { sleepers = after_reserve a.core.sleepers } → middle ≡ first → core ≡ record middle { sleepers = after_release middle.sleepers } → core ≡ a.core
@@ -457,13 +379,7 @@ module _ {P T : Type 0} (a : Inside P T) (sound : IsWorld (execution_of a) a.cor
     held_world u s = ticked (record a.core { sleepers = s }) a.log.items a.entries.items a.notices (slice_set a.tickers.items k u) (Some k)
 
     nobody_holds : (b : Bool) → b && not (is_some w.holder) ≡ true → (b ≡ true) × (a.holder ≡ None)
-    nobody_holds b enabled =
-        let parts = and_parts b (not (is_some a.holder)) (ap (λ w. b && not (is_some w.holder)) view ∙ enabled) in
-        (parts.0, none a.holder (not-true (is_some a.holder) parts.1))
-      where
-        none : (o : Option ℕ) → is_some o ≡ false → o ≡ None
-        none None h = refl
-        none (Some q) h = absurd (true≢false h)
+    nobody_holds b enabled = grind (arith, and_parts, not-true)
 
     held_sound : (u : Ticker) (s : SleeperList (Unit {0})) → slice_get a.tickers.items k ≡ Some before → a.holder ≡ None → in_store u.phase ≡ true → notices_in u.phase ≤ notices_in before.phase + 1 → s.is_open ≡ true → is_over before.phase ≡ false
         → FlagLaw (held_world u s) → Covers (held_world u s) → NumbersTied (slice_set a.tickers.items k u) s → RunnersTied a.local (slice_set a.tickers.items k u) a.core.cells a.rings.items → IsWorld (held_world u s) a.core.cells a.entries.items a.rings.items (vec_capacity a.log)
@@ -582,10 +498,7 @@ module _ {P T : Type 0} (a : Inside P T) (sound : IsWorld (execution_of a) a.cor
     -- a ticker that may be dropped is at rest, or left
     module _ (goes : may_go w.locals (ticker k w) ≡ true) where
       waits : at_rest before.phase || in_leaving before.phase ≡ true
-      waits = elim (or_cases (at_rest before.phase && not (has_queue a.core.cells.locals before)) (in_leaving before.phase) (ap (λ (w : Execution T). may_go w.locals (ticker k w)) view ∙ goes)) [
-        | inl rests ↦ or_left _ (in_leaving before.phase) (and_parts (at_rest before.phase) _ rests).0
-        | inr leaves ↦ or_right (at_rest before.phase) _ leaves
-      ]
+      waits = grind (arith, or_cases, or_left, and_parts, or_right)
 
       found_there : slice_get a.tickers.items k ≡ Some before
       found_there = known (λ p. at_rest p || in_leaving p) refl (slice_get a.tickers.items k) waits
@@ -701,11 +614,7 @@ module _ {P T : Type 0} (a : Inside P T) (sound : IsWorld (execution_of a) a.cor
     -- the flag is stored, and the lock given up
     module _ (enabled : holds k w.holder ≡ true) where
       holder_is : a.holder ≡ Some k
-      holder_is = by_holder a.holder (ap (λ w. holds k w.holder) view ∙ enabled)
-        where
-          by_holder : (h : Option ℕ) → holds k h ≡ true → h ≡ Some k
-          by_holder None h = absurd (false≢true h)
-          by_holder (Some q) h = ap Some (eqb-true q k h)
+      holder_is = grind (arith, eqb-true)
 
       storing : in_store before.phase ≡ true
       storing = sound.tickers.stores k ∙ ap (holds k) holder_is ∙ eq-eqb k k refl
@@ -757,31 +666,7 @@ module _ {P T : Type 0} (a : Inside P T) (sound : IsWorld (execution_of a) a.cor
           pub covers : (0 < notices_in before.phase) ⊎ (has_to_search v.phase ≡ true)
 
         goes_on : has_ended (stored before).phase ≡ false → (v : Ticker) × GoesOn v
-        goes_on on = let change = is_store before.phase storing in by_change change.0 change.1
-          where
-            by_change : (change : ListChange) → before.phase ≡ Store change → (v : Ticker) × GoesOn v
-            by_change Slept is = (
-              record before { phase = Search },
-              record { is = ap (λ p. record before { phase = after_store before p }) is; apart = refl; none = refl; number = refl; stays = refl; still = refl; runner = refl; needs = ap needs_queue is; covers = inr refl },
-            )
-            by_change (Woke b) is = elim (cases_Bool (is_run before)) [
-              | inl run ↦ (
-                record before { phase = Rest },
-                record {
-                  is = ap (λ p. record before { phase = after_store before p }) is ∙ ap (λ r. record before { phase = cond r Rest Ended }) run;
-                  apart = refl;
-                  none = refl;
-                  number = refl;
-                  stays = refl;
-                  still = refl;
-                  runner = refl;
-                  needs = ap needs_queue is;
-                  covers = inl (let kept = ap notices_in is in omega arith);
-                },
-              )
-              | inr tick ↦ absurd (true≢false (sym (ap (λ p. has_ended (after_store before p)) is ∙ ap (λ r. has_ended (cond r Rest Ended)) tick) ∙ on))
-            ]
-            by_change (Dropped b) is = absurd (true≢false (sym (ap (λ p. has_ended (after_store before p)) is) ∙ on))
+        goes_on on = grind (arith, is_store, storing, cases_Bool)
 
         pub store_on : has_ended (stored t).phase ≡ false → Done (ticked core a.log.items a.entries.items notices tickers None) core.cells a.entries.items a.rings.items (vec_capacity a.log) (store_row k w) (reply.Stored notified)
         store_on on =

@@ -1,5 +1,5 @@
 -- The tickers and the list of sleepers stay tied.
-use Rattle.std.proofs.Common.{◌≡◌, ◌≢◌, ℕ, zero, suc, ◌+◌, ◌-◌, ◌<◌, Bool, true, false, not, cond, ◌⊎◌, inl, inr, List, [], ◌∷◌, ◌++◌, length, Option, Some, None, refl, sym, ap, ◌∙◌, arith}
+use Rattle.std.proofs.Common.{◌≡◌, ◌≢◌, ℕ, zero, suc, ◌+◌, ◌-◌, ◌<◌, Bool, true, false, not, cond, inl, inr, List, [], ◌∷◌, ◌++◌, Option, Some, None, refl, sym, ap, ◌∙◌, arith}
 use Rattle.std.proofs.lemmas.Bool.{cases_Bool, cases_eq, eq-eqb, eqb-true, ne_eqb, lt-ltb, true≢false, false≢true}
 use Rattle.std.proofs.lemmas.List.Sums.{sum_by_push}
 use Rattle.std.proofs.lemmas.List.{map-append}
@@ -15,23 +15,15 @@ use Rattle.executor_core.proofs.ListLemmas.{get-set_same, get-set_other, get-pus
 use Rattle.executor_core.proofs.SleeperNumberLemmas.{one-other}
 use Rattle.executor_core.proofs.SleeperUseLemmas.{next_fresh, insert_counts, insert_len, remove_counts, remove_len}
 use Rattle.executor_core.specs.declared.interleave.ticker.Phase.{Phase}
-use Rattle.executor_core.specs.declared.interleave.ticker.Phase.TheVariants.{Rest, Search, Sleep, Wake, Store, Leaving, Forgotten, Ended}
+use Rattle.executor_core.specs.declared.interleave.ticker.Phase.TheVariants.{Ended}
 use Rattle.executor_core.specs.declared.interleave.ticker.Ticker.{Ticker}
 
 -- a ticker whose phase passes a test that an ended one fails was made
 pub known : (test : Phase → Bool) → test Ended ≡ false → (o : Option Ticker) → test (ticker_or o).phase ≡ true → o ≡ Some (ticker_or o)
-known test fails None is = absurd (false≢true (sym fails ∙ is))
-known test fails (Some t) is = refl
+known test fails found is = grind arith
 
 ended_gave_up : (p : Phase) → has_ended p ≡ true → gave_up p ≡ true
-ended_gave_up Rest is = absurd (cc)
-ended_gave_up Search is = absurd (cc)
-ended_gave_up Sleep is = absurd (cc)
-ended_gave_up Wake is = absurd (cc)
-ended_gave_up (Store change) is = absurd (cc)
-ended_gave_up Leaving is = absurd (cc)
-ended_gave_up Forgotten is = absurd (cc)
-ended_gave_up Ended is = refl
+ended_gave_up p is = grind arith
 
 numbers-set : (tickers : List Ticker) (k : ℕ) (u : Ticker) → numbers_of (slice_set tickers k u) ≡ slice_set (numbers_of tickers) k u.number
 numbers-set [] k u = refl
@@ -89,12 +81,7 @@ module _ {W : Type 0} {tickers : List Ticker} {s : SleeperList W} (tied : Number
 
   -- a place more is free, and given back
   pub reserve_release : after_release (after_reserve s) ≡ s
-  reserve_release =
-      let most = count_most (λ (t : Ticker). not (is_awake t)) (λ (t : Ticker). not (has_ended t.phase)) tickers sleeps_placed in
-      let sleeping = tied.sleeping in
-      let places = tied.places in
-      let same : s.places + 1 - 1 ≡ s.places = omega arith in
-      rw (lt-ltb (set.len s.used) (s.places + 1) (omega arith), same) refl
+  reserve_release = grind (arith, count_most, sleeps_placed, lt-ltb)
 
 module _ {W : Type 0} {tickers : List Ticker} {s : SleeperList W} (tied : NumbersTied tickers s) (k : ℕ) (t : Ticker) (found : slice_get tickers k ≡ Some t) where
   -- what has to hold of the change at one ticker
@@ -136,52 +123,22 @@ module _ {W : Type 0} {tickers : List Ticker} {s : SleeperList W} (tied : Number
 
   -- a ticker that has not ended has a place, which is free if it is awake
   pub has_free : is_awake t ≡ true → has_ended t.phase ≡ false → set.len s.used < s.places
-  has_free up going =
-      let fewer = count_fewer (λ (t : Ticker). not (is_awake t)) (λ (t : Ticker). not (has_ended t.phase)) tickers (sleeps_placed tied) k t found (ap not up) (ap not going) in
-      let a = tied.sleeping in
-      let b = tied.places in
-      omega arith
+  has_free up going = grind (arith, count_fewer, sleeps_placed)
 
   pub place_free : is_awake t ≡ true → has_ended t.phase ≡ false → has_place s ≡ true
   place_free up going = lt-ltb _ _ (has_free up going)
 
   -- the number of a ticker that has one is in use
   pub number_used : is_awake t ≡ false → set.contains s.used t.number ≡ true
-  number_used asleep = by_number (cases_Bool (set.contains s.used t.number))
-    where
-      by_number : (set.contains s.used t.number ≡ true) ⊎ (set.contains s.used t.number ≡ false) → set.contains s.used t.number ≡ true
-      by_number (inl there) = there
-      by_number (inr away) =
-          let nonzero : 0 < t.number = elim (cases_eq t.number 0) [ inl none ↦ absurd (true≢false (sym (eq-eqb t.number 0 none) ∙ asleep)) | inr far ↦ omega arith ] in
-          let none = tied.numbers t.number nonzero ∙ ap one away in
-          let stands = sum_by-at (λ n. one (n == t.number)) (numbers_of tickers) k t.number (number_at tickers k t found) in
-          let itself : ◌≡◌ {A = ℕ} (one (t.number == t.number)) 1 = ap one (eq-eqb t.number t.number refl) in
-          absurd (omega arith)
+  number_used asleep = grind (arith, cases_Bool, cases_eq, eq-eqb, sum_by-at, number_at)
 
   -- its phase alone changes, and it has not ended
   pub tied_phase : (u : Ticker) → u.number ≡ t.number → has_ended t.phase ≡ false → gave_up u.phase ≡ false → (in_wake u.phase ≡ true → is_awake u ≡ false) → (later : SleeperList W) → later.used ≡ s.used → later.places ≡ s.places → NumbersTied (slice_set tickers k u) later
-  tied_phase u number going stays up later used places =
-      let stays_on : has_ended u.phase ≡ false = elim (cases_Bool (has_ended u.phase)) [ inl gone ↦ absurd (true≢false (sym (ended_gave_up u.phase gone) ∙ stays)) | inr on ↦ on ] in
-      tied_again u later (record {
-        numbers = λ i more. rw (used, number) refl;
-        sleeping = rw (used, number) refl;
-        places = rw (places, going, stays_on) refl;
-        awake = λ gone. absurd (true≢false (sym gone ∙ stays));
-        asleep = up;
-      })
+  tied_phase u number going stays up later used places = grind (arith, cases_Bool, ended_gave_up, tied_again)
 
   -- it is awake and has ended, and its place is given back
   pub tied_ended : (u : Ticker) → is_awake t ≡ true → u.number ≡ 0 → has_ended t.phase ≡ false → has_ended u.phase ≡ true → in_wake u.phase ≡ false → (later : SleeperList W) → later.used ≡ s.used → later.places ≡ s.places - 1 → NumbersTied (slice_set tickers k u) later
-  tied_ended u up none going gone still later used places =
-      let nothing : t.number ≡ 0 = eqb-true t.number 0 up in
-      let free = has_free up going in
-      tied_again u later (record {
-        numbers = λ i more. rw (used, nothing, none) refl;
-        sleeping = rw (used, nothing, none) refl;
-        places = rw (places, going, gone) (omega arith);
-        awake = λ _. none;
-        asleep = λ woken. absurd (true≢false (sym woken ∙ still));
-      })
+  tied_ended u up none going gone still later used places = grind (arith, eqb-true, has_free, tied_again)
 
   -- it went to sleep under a new number
   pub tied_inserted : SleeperLaw s → (u : Ticker) → is_awake t ≡ true → has_ended t.phase ≡ false → u.number ≡ next_number s → gave_up u.phase ≡ false → in_wake u.phase ≡ false → (later : SleeperList W) → later.used ≡ set.insert s.used (next_number s) → later.places ≡ s.places → NumbersTied (slice_set tickers k u) later
@@ -218,33 +175,10 @@ module _ {W : Type 0} {tickers : List Ticker} {s : SleeperList W} (tied : Number
 -- a new ticker
 module _ {W : Type 0} {tickers : List Ticker} {s : SleeperList W} (runner : Option ℕ) where
   pub tied_added : NumbersTied tickers s → NumbersTied (tickers ++ new_ticker runner ∷ []) (record s { places = s.places + 1 })
-  tied_added tied =
-      record {
-        numbers = λ i more.
-            let before = tied.numbers i more in
-            let push = sum_by_push (λ n. one (n == i)) (numbers_of tickers) 0 in
-            let other = one-other 0 i (λ is. absurd (omega arith)) in
-            let now : times i (numbers_of (tickers ++ new_ticker runner ∷ [])) ≡ times i (numbers_of tickers ++ 0 ∷ []) = ap (times i) (map-append (λ (t : Ticker). t.number) tickers (new_ticker runner ∷ [])) in
-            omega arith;
-        sleeping = let before = tied.sleeping in let push = sum_by_push (λ (t : Ticker). one (not (is_awake t))) tickers (new_ticker runner) in omega arith;
-        places = let before = tied.places in let push = sum_by_push (λ (t : Ticker). one (not (has_ended t.phase))) tickers (new_ticker runner) in omega arith;
-        awake = λ q t is gone. elim (cases_eq q (length tickers)) [
-          | inl same ↦ let it : new_ticker runner ≡ t = cc (sym (get-push_last tickers (new_ticker runner)), sym (ap (λ j. slice_get (tickers ++ new_ticker runner ∷ []) j) same), is) in absurd (true≢false (sym gone ∙ ap (λ (t : Ticker). gave_up t.phase) (sym it)))
-          | inr far ↦ tied.awake q t (sym (get-push_other tickers (new_ticker runner) q far) ∙ is) gone
-        ];
-        asleep = λ q t is woken. elim (cases_eq q (length tickers)) [
-          | inl same ↦ let it : new_ticker runner ≡ t = cc (sym (get-push_last tickers (new_ticker runner)), sym (ap (λ j. slice_get (tickers ++ new_ticker runner ∷ []) j) same), is) in absurd (true≢false (sym woken ∙ ap (λ (t : Ticker). in_wake t.phase) (sym it)))
-          | inr far ↦ tied.asleep q t (sym (get-push_other tickers (new_ticker runner) q far) ∙ is) woken
-        ];
-      }
+  tied_added tied = grind (arith, sum_by_push, one-other, map-append, cases_eq, get-push_last, get-push_other)
 
 pub stores_added : (runner holder : Option ℕ) (tickers : List Ticker) → HolderStores holder tickers → HolderStores holder (tickers ++ new_ticker runner ∷ [])
-stores_added runner holder tickers stores q = elim (cases_eq q (length tickers)) [
-  | inl same ↦
-      ap (λ j. store_at j (tickers ++ new_ticker runner ∷ [])) same ∙ ap (λ o. in_store (ticker_or o).phase) (get-push_last tickers (new_ticker runner))
-      ∙ sym (ap (λ o. in_store (ticker_or o).phase) (get_past tickers)) ∙ stores (length tickers) ∙ ap (λ j. holds j holder) (sym same)
-  | inr far ↦ ap (λ o. in_store (ticker_or o).phase) (get-push_other tickers (new_ticker runner) q far) ∙ stores q
-]
+stores_added runner holder tickers stores q = grind (arith, cases_eq, get-push_last, get_past, get-push_other)
 
 -- a notification leaves the numbers in use and the places
 pub tied_notified : {W : Type 0} {tickers : List Ticker} {s : SleeperList W} → NumbersTied tickers s → NumbersTied tickers (after_notify s)
