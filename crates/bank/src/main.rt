@@ -121,26 +121,18 @@ impl<R: Wait + Clone + Drop> Bank<R> {
     }
 }
 
-/// Adds up the transfers that were refused.
-fn count_refused<R>(rt: &R, alloc: Global, tasks: Vec<Visitor<R>>) -> io::Result<u64>
-where
-    R: Wait + Clone + Drop,
-{
-    let waker = ThreadWaker::new(alloc)?;
-    let mut refused = 0u64;
-    for task in tasks {
-        refused = refused.saturating_add(waker.block_on(rt, task)?);
-    }
-    Ok(refused)
-}
-
+/// Simulates all visits, and prints what came of them.
 fn simulate<R>(rt: &R, alloc: Global, bank: &Bank<R>) -> io::Result<()>
 where
     R: Wait + Print + Clone + Drop,
 {
     let tasks = bank.spawn_customers(alloc)?;
     bank.run(rt)?;
-    let refused = count_refused(rt, alloc, tasks)?;
+    let waker = ThreadWaker::new(alloc)?;
+    let mut refused = 0u64;
+    for task in tasks {
+        refused = refused.saturating_add(waker.block_on(rt, task)?);
+    }
     let minutes = bank.time.get().as_secs() / 60;
     let total = bank.accounts.try_borrow()?.total();
     println!(rt; "{minutes} minutes, {refused} transfers refused, {total} in all accounts")
