@@ -1,5 +1,5 @@
 -- What a change of every cell keeps, and what is then seen.
-use Rattle.std.proofs.Common.{◌≡◌, ℕ, zero, suc, ◌+◌, ◌<◌, ◌||◌, ◌==◌, Bool, true, false, List, [], ◌∷◌, ◌++◌, length, map, get_or, Option, Some, None, cond, refl, sym, ap, subst, ◌∙◌, inl, inr, length-append, append_assoc, arith}
+use Rattle.std.proofs.Common.{◌≡◌, ℕ, zero, suc, ◌+◌, ◌<◌, ◌||◌, ◌==◌, Bool, true, false, List, [], ◌∷◌, ◌++◌, length, map, get_or, Option, Some, None, cond, refl, sym, ap, subst, ◌∙◌, length-append, append_assoc, arith}
 use Rattle.std.specs.Prelude.{option_map, nat_lt, count_by}
 use Rattle.std.specs.List.{All, cons_option, flat_map}
 use Rattle.std.specs.Ordering.{nat_cmp}
@@ -38,16 +38,7 @@ module _ {P T W : Type 0} (change : Cell P T W → Cell P T W) where
 
   find-changed : (q : ℕ) (es : List (ℕ × Slotted P T W)) → find nat_cmp q (map (λ e. (e.0, changed e.1)) es) ≡ option_map changed (find nat_cmp q es)
   find-changed q [] = refl
-  find-changed q (e ∷ rest) =
-      elim (cases_eq q e.0) [
-        | inl same ↦
-            ap (λ b. cond b (Some (changed e.1)) (find nat_cmp q (map (λ x. (x.0, changed x.1)) rest))) (tied q e.0 same)
-            ∙ sym (ap (λ b. option_map changed (cond b (Some e.1) (find nat_cmp q rest))) (tied q e.0 same))
-        | inr far ↦
-            ap (λ b. cond b (Some (changed e.1)) (find nat_cmp q (map (λ x. (x.0, changed x.1)) rest))) (apart q e.0 far)
-            ∙ find-changed q rest
-            ∙ sym (ap (λ b. option_map changed (cond b (Some e.1) (find nat_cmp q rest))) (apart q e.0 far))
-      ]
+  find-changed q (e ∷ rest) = grind (arith, find-changed q rest, cases_eq, tied, apart)
 
   -- what each number has then
   pub get-each_changed : (cells : fin_map.FinMap nat_cmp (Slotted P T W)) (q : ℕ) → fin_map.get (each_changed change cells) q ≡ option_map changed (fin_map.get cells q)

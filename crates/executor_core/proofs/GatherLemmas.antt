@@ -58,9 +58,7 @@ module _ {X : Type 0} where
   entries_below-next : (n : ℕ) (locals : List (RunnerQueue X)) (q : RunnerQueue X) → slice_get locals n ≡ Some q → entries_below (suc n) locals ≡ entries_below n locals ++ q.entries
   entries_below-next zero [] q there = absurd (cc)
   entries_below-next (suc n) [] q there = absurd (cc)
-  entries_below-next zero (p ∷ rest) q there =
-      let same : p ≡ q = cc in
-      ap (λ l. p.entries ++ l) (entries_below-start rest) ∙ append-nil p.entries ∙ ap (λ l. l.entries) same
+  entries_below-next zero (p ∷ rest) q there = grind (arith, entries_below-start, append-nil)
   entries_below-next (suc n) (p ∷ rest) q there =
       ap (λ l. p.entries ++ l) (entries_below-next n rest q there) ∙ sym (append_assoc p.entries (entries_below n rest) q.entries)
 
@@ -69,9 +67,7 @@ module _ {X : Type 0} where
   pub entries_parts : (n : ℕ) (locals : List (RunnerQueue X)) → (rest : List X) × (local_entries locals ≡ entries_below n locals ++ rest)
   entries_parts n [] = ([], refl)
   entries_parts zero (q ∷ rest) = (local_entries (q ∷ rest), refl)
-  entries_parts (suc n) (q ∷ rest) =
-      let later = entries_parts n rest in
-      (later.0, ap (λ l. q.entries ++ l) later.1 ∙ sym (append_assoc q.entries (entries_below n rest) later.0))
+  entries_parts (suc n) (q ∷ rest) = grind (arith, entries_parts n rest, append_assoc)
 
 -- one more queue is moved
 module _ (n : ℕ) (first : List (RunnerQueue TaskId)) (locals : List LocalQueue) (l : LocalQueue) (moved : map local_of locals ≡ emptied_below n first) (there : slice_get locals n ≡ Some l) where

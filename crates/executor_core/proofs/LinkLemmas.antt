@@ -132,10 +132,7 @@ module _ {P T W : Type 0} where
   -- a chain does not meet an empty slot
   unmet : (slots : List (Option (Slot P T W))) (key : ℕ) → get_or slots key None ≡ None → (ids : List TaskId) (at : ℕ) → Chain slots ids at → Beside key ids
   unmet slots key none [] at chain = All-nil (λ (id : TaskId). id.slot ≢ key)
-  unmet slots key none (id ∷ rest) at chain =
-      All-cons (λ (other : TaskId). other.slot ≢ key) id rest
-      (λ same. absurd (cc (ap (λ k. get_or slots k None) (sym chain.0 ∙ same), chain.2, none)))
-      (unmet slots key none rest chain.1.next chain.4)
+  unmet slots key none (id ∷ rest) at chain = grind (arith, unmet slots key none rest chain.1.next chain.4)
 
   -- one slot changes, which the chain does not meet
   chain_beside : (old new : List (Option (Slot P T W))) (key : ℕ) (slot : Option (Slot P T W)) → Changes old new key slot → (ids : List TaskId) (at : ℕ) → Beside key ids → Chain old ids at → Chain new ids at
@@ -147,23 +144,13 @@ module _ {P T W : Type 0} where
   -- one slot changes, and keeps its number and its link
   chain_kept : (old new : List (Option (Slot P T W))) (key : ℕ) (s t : Slot P T W) → get_or old key None ≡ Some s → Changes old new key (Some t) → t.entry.number ≡ s.entry.number → t.next ≡ s.next → (ids : List TaskId) (at : ℕ) → Chain old ids at → Chain new ids at
   chain_kept old new key s t there changes number link [] at chain = chain
-  chain_kept old new key s t there changes number link (id ∷ rest) at chain =
-      let later = chain_kept old new key s t there changes number link rest chain.1.next chain.4 in
-      elim (cases_eq at key) [
-        | inl here ↦
-            let same : chain.1 ≡ s = cc (ap (λ k. get_or old k None) here, chain.2, there) in
-            (chain.0, t, ap (λ k. get_or new k None) here ∙ changes.changed, number ∙ ap (λ (x : Slot P T W). x.entry.number) (sym same) ∙ chain.3, subst (Chain new rest) (ap (λ (x : Slot P T W). x.next) same ∙ sym link) later)
-        | inr far ↦ (chain.0, chain.1, changes.others at far ∙ chain.2, chain.3, later)
-      ]
+  chain_kept old new key s t there changes number link (id ∷ rest) at chain = grind (arith, chain_kept old new key s t there changes number link rest chain.1.next chain.4, cases_eq)
 
   -- the link of the last slot changes, and leads to one more
   chain_push : (old new : List (Option (Slot P T W))) (last : ℕ) (s t : Slot P T W) (id : TaskId) → get_or old last None ≡ Some s → Changes old new last (Some t) → t.entry.number ≡ s.entry.number → Chain new (id ∷ []) t.next
       → (ids : List TaskId) (at : ℕ) → length ids ≢ 0 → EndsAt last ids → SlotsApart ids → Chain old ids at → Chain new (ids ++ id ∷ []) at
   chain_push old new last s t id there changes number alone [] at some ends apart chain = absurd (some refl)
-  chain_push old new last s t id there changes number alone (x ∷ []) at some ends apart chain =
-      let here : at ≡ last = sym chain.0 ∙ ends in
-      let same : chain.1 ≡ s = cc (ap (λ k. get_or old k None) here, chain.2, there) in
-      (chain.0, t, ap (λ k. get_or new k None) here ∙ changes.changed, number ∙ ap (λ (x : Slot P T W). x.entry.number) (sym same) ∙ chain.3, alone)
+  chain_push old new last s t id there changes number alone (x ∷ []) at some ends apart chain = grind arith
   chain_push old new last s t id there changes number alone (x ∷ y ∷ rest) at some ends apart chain =
       let far : at ≢ last = λ same. at_last (λ k. k ≢ x.slot) (y ∷ rest) last (omega arith) apart.0 ends (sym same ∙ sym chain.0) in
       (chain.0, chain.1, changes.others at far ∙ chain.2, chain.3, chain_push old new last s t id there changes number alone (y ∷ rest) chain.1.next (omega arith) ends apart.1 chain.4)
@@ -313,10 +300,5 @@ module _ {P T W : Type 0} where
 
   pub step_at : (slots : List (Option (Slot P T W))) (ids : List TaskId) (k at : ℕ) → Chain slots (drop k ids) at → k < length ids → StepAt slots ids k at
   step_at slots [] k at chain within = absurd (omega arith)
-  step_at slots (id ∷ rest) zero at chain within =
-      let here : id ≡ record { number = chain.1.entry.number; slot = at } = λ i. record { number = sym chain.3 i; slot = chain.0 i } in
-      record { slot = chain.1; there = chain.2; later = chain.4; is = ap Some here }
-  step_at slots (id ∷ rest) (suc k) at chain within =
-      let later = step_at slots rest k at chain (omega arith) in
-      let same : suc (k + 1) ≡ suc k + 1 = omega arith in
-      record { slot = later.slot; there = later.there; later = subst (λ n. Chain slots (drop n (id ∷ rest)) later.slot.next) same later.later; is = later.is }
+  step_at slots (id ∷ rest) zero at chain within = grind arith
+  step_at slots (id ∷ rest) (suc k) at chain within = grind (arith, step_at slots rest k at chain (omega arith))

@@ -81,25 +81,12 @@ count_step a b c d gives most = grind arith
 module _ {X : Type 0} where
   pub sum_by-set : (f : X → ℕ) (xs : List X) (k : ℕ) (x y : X) → slice_get xs k ≡ Some x → sum_by f (slice_set xs k y) + f x ≡ sum_by f xs + f y
   sum_by-set f [] k x y is = absurd (cc)
-  sum_by-set f (z ∷ zs) zero x y is =
-      let same : z ≡ x = cc in
-      let item : f z ≡ f x = ap f same in
-      let before = sum_by-cons f z zs in
-      let after = sum_by-cons f y zs in
-      omega arith
-  sum_by-set f (z ∷ zs) (suc k) x y is =
-      let inner = sum_by-set f zs k x y is in
-      let before = sum_by-cons f z zs in
-      let after = sum_by-cons f z (slice_set zs k y) in
-      omega arith
+  sum_by-set f (z ∷ zs) zero x y is = grind (arith, sum_by-cons)
+  sum_by-set f (z ∷ zs) (suc k) x y is = grind (arith, sum_by-set f zs k x y is, sum_by-cons)
 
   pub sum_by-at : (f : X → ℕ) (xs : List X) (k : ℕ) (x : X) → slice_get xs k ≡ Some x → f x ≤ sum_by f xs
   sum_by-at f [] k x is = absurd (cc)
-  sum_by-at f (z ∷ zs) zero x is =
-      let same : z ≡ x = cc in
-      let item : f z ≡ f x = ap f same in
-      let all = sum_by-cons f z zs in
-      omega arith
+  sum_by-at f (z ∷ zs) zero x is = grind (arith, sum_by-cons)
   sum_by-at f (z ∷ zs) (suc k) x is = let inner = sum_by-at f zs k x is in let all = sum_by-cons f z zs in omega arith
 
   pub any-at : (f : X → Bool) (xs : List X) (k : ℕ) (x : X) → slice_get xs k ≡ Some x → f x ≡ true → list_any f xs ≡ true

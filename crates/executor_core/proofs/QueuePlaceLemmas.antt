@@ -20,10 +20,7 @@ is_there numbers n i is =
 
 is_absent : (numbers : List ℕ) (n start i : ℕ) → position_from (λ m. m == n) start numbers ≡ None → slice_get numbers i ≢ Some n
 is_absent [] n start i none is = absurd (cc)
-is_absent (m ∷ rest) n start zero none is =
-    let same : m ≡ n = cc in
-    let here : cond (m == n) (Some start) (position_from (λ l. l == n) (start + 1) rest) ≡ Some start = ap (λ b. cond b (Some start) (position_from (λ l. l == n) (start + 1) rest)) (eq-eqb m n same) in
-    absurd (cc)
+is_absent (m ∷ rest) n start zero none is = grind (arith, eq-eqb)
 is_absent (m ∷ rest) n start (suc i) none is =
     elim (cases_eq m n) [
       | inl same ↦

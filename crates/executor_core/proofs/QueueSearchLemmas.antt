@@ -26,17 +26,9 @@ find_none-range p a (suc n) fails =
     ap (λ b. cond b (Some a) (find p (range_with_len (a + 1) n))) (fails a (omega arith) (omega arith)) ∙ find_none-range p (a + 1) n (λ k le lt. fails k (omega arith) (omega arith))
 
 drop-range : (k a n : ℕ) → drop k (range_with_len a n) ≡ range_with_len (a + k) (n - k)
-drop-range zero a n =
-    let start : a ≡ a + 0 = omega arith in
-    let count : n ≡ n - 0 = omega arith in
-    ap (λ b. range_with_len b n) start ∙ ap (range_with_len (a + 0)) count
-drop-range (suc k) a zero =
-    let none : 0 ≡ 0 - suc k = omega arith in
-    ap (range_with_len (a + suc k)) none
-drop-range (suc k) a (suc n) =
-    let start : (a + 1) + k ≡ a + suc k = omega arith in
-    let count : n - k ≡ suc n - suc k = omega arith in
-    drop-range k (a + 1) n ∙ ap (λ b. range_with_len b (n - k)) start ∙ ap (range_with_len (a + suc k)) count
+drop-range zero a n = grind arith
+drop-range (suc k) a zero = grind arith
+drop-range (suc k) a (suc n) = grind (arith, drop-range k (a + 1) n)
 
 take-range : (k a n : ℕ) → k ≤ n → take k (range_with_len a n) ≡ range_with_len a k
 take-range zero a n le = refl

@@ -1,14 +1,12 @@
 -- The order by rising slot.
 use Rattle.std.proofs.Common.{◌≡◌, ◌≢◌, ℕ, zero, suc, ◌+◌, ◌<◌, ◌≤◌, ◌==◌, ◌&&◌, Bool, true, false, not, List, [], ◌∷◌, length, Option, Some, None, cond, refl, sym, ap, subst, ◌∙◌, inl, inr, arith}
-use Rattle.std.specs.Prelude.{nat_lt, T as Holds, count_by, slice_get, option_map, map as list_map}
+use Rattle.std.specs.Prelude.{nat_lt, T as Holds, count_by, slice_get, map as list_map}
 use Rattle.std.specs.List.{filter, filter_map, cons_option}
 use Rattle.std.specs.Ordering.{nat_cmp, is_lt}
 use Rattle.std.specs.Cmp.{nat_cmp_total}
 use Rattle.std.proofs.lemmas.Cmp.{tied_itself}
 use Rattle.std.specs.FinMap as map
-use Rattle.std.specs.FinMap.Entries.{find, put, by_order, is_sorted, below_all}
-use Rattle.std.specs.declared.cmp.Ordering.{Ordering}
-use Rattle.std.specs.declared.cmp.Ordering.TheVariants.{Less, Equal, Greater}
+use Rattle.std.specs.FinMap.Entries.{find, put, is_sorted, below_all}
 use Rattle.std.proofs.lemmas.Bool.{cases_eq, cases_Bool, eq-eqb, ne_eqb, ltb-true, ltb-false, lt-ltb, le-ltb}
 use Rattle.std.proofs.lemmas.List.Sums.{sum_by-cons}
 use Rattle.executor_core.specs.Numbers.{times}
@@ -152,25 +150,11 @@ module _ {P T W : Type 0} where
 
   Apart-put : (j k : ℕ) (v : Slotted P T W) (es : List (ℕ × Slotted P T W)) → j ≢ v.slot → Apart j es → Apart j (put nat_cmp k v es)
   Apart-put j k v [] far others = (far, tt)
-  Apart-put j k v (e ∷ rest) far others =
-      elim (nat_cmp k e.0) as (λ o. Apart j (by_order o ((k, v) ∷ e ∷ rest) ((e.0, v) ∷ rest) (e ∷ put nat_cmp k v rest))) [
-        | Less ↦ (far, others)
-        | Equal ↦ (far, others.1)
-        | Greater ↦ (others.0, Apart-put j k v rest far others.1)
-      ]
+  Apart-put j k v (e ∷ rest) far others = grind (arith, Apart-put j k v rest far others.1)
 
   by_slot-put : (k : ℕ) (v : Slotted P T W) (es : List (ℕ × Slotted P T W)) → find nat_cmp k es ≡ None → Apart v.slot es → by_slot (put nat_cmp k v es) ≡ insert_by_slot (k, v) (by_slot es)
   by_slot-put k v [] none far = refl
-  by_slot-put k v (e ∷ rest) none far = by (by_slot-put k v rest) (nat_cmp k e.0) refl
-    where
-      by : (find nat_cmp k rest ≡ None → Apart v.slot rest → by_slot (put nat_cmp k v rest) ≡ insert_by_slot (k, v) (by_slot rest)) → (o : Ordering) → nat_cmp k e.0 ≡ o → by_slot (put nat_cmp k v (e ∷ rest)) ≡ insert_by_slot (k, v) (by_slot (e ∷ rest))
-      by inner Less is = rw is refl
-      by inner Equal is =
-          let there : find nat_cmp k (e ∷ rest) ≡ Some e.1 = rw is refl in
-          absurd (cc (there, none))
-      by inner Greater is =
-          let here : find nat_cmp k (e ∷ rest) ≡ find nat_cmp k rest = rw is refl in
-          rw is (ap (insert_by_slot e) (inner (sym here ∙ none) far.1) ∙ commutes e (k, v) (by_slot rest) (λ same. far.0 (sym same)))
+  by_slot-put k v (e ∷ rest) none far = grind (arith, by_slot-put k v rest, commutes)
 
   apart_from : (j first : ℕ) (slots : List (Option (Numbered (Cell P T W)))) → j < first → Apart j (map.entries (map.from_entries {R = nat_cmp} (by_number first slots)))
   apart_from j first [] below = subst (Apart j) (sym (no_entries (map.entries (map.empty {X = Slotted P T W} {R = nat_cmp})) (sym (map.len-entries (map.empty {X = Slotted P T W} {R = nat_cmp})) ∙ map.len-empty nat_cmp (Slotted P T W)))) tt
@@ -204,12 +188,7 @@ module _ {P T W : Type 0} where
   numbers_rising : (first : ℕ) (slots : List (Option (Numbered (Cell P T W)))) → numbers_of (idle_ids first slots) ≡ list_map (λ e. e.0) (filter (λ e. is_idle e.1.cell.state) (by_number first slots))
   numbers_rising first [] = refl
   numbers_rising first (None ∷ rest) = numbers_rising (first + 1) rest
-  numbers_rising first (Some e ∷ rest) = by (is_idle e.cell.state) (numbers_rising (first + 1) rest)
-    where
-      by : (b : Bool) → numbers_of (idle_ids (first + 1) rest) ≡ list_map (λ x. x.0) (filter (λ x. is_idle x.1.cell.state) (by_number (first + 1) rest))
-          → numbers_of (cons_option (cond b (Some (record { number = e.number; slot = first })) None) (idle_ids (first + 1) rest)) ≡ list_map (λ x. x.0) (cond b ((e.number, seen first e.cell) ∷ filter (λ x. is_idle x.1.cell.state) (by_number (first + 1) rest)) (filter (λ x. is_idle x.1.cell.state) (by_number (first + 1) rest)))
-      by true inner = ap (λ l. e.number ∷ l) inner
-      by false inner = inner
+  numbers_rising first (Some e ∷ rest) = grind (arith, numbers_rising (first + 1) rest)
 
   -- a walk over the slots finds the idle tasks in that order
   pub idle_rising : (slots : List (Option (Numbered (Cell P T W)))) → Distinct slots → numbers_of (idle_ids 0 slots) ≡ rising (λ c. is_idle c.state) (cells_of slots)
@@ -223,12 +202,7 @@ module _ {P T W : Type 0} where
   undropped_by_number : (first : ℕ) (slots : List (Option (Numbered (Cell P T W)))) → undropped_numbers slots ≡ list_map (λ e. e.0) (filter (λ e. is_undropped e.1.cell.state) (by_number first slots))
   undropped_by_number first [] = refl
   undropped_by_number first (None ∷ rest) = undropped_by_number (first + 1) rest
-  undropped_by_number first (Some e ∷ rest) = by (is_undropped e.cell.state) (undropped_by_number (first + 1) rest)
-    where
-      by : (b : Bool) → undropped_numbers rest ≡ list_map (λ x. x.0) (filter (λ x. is_undropped x.1.cell.state) (by_number (first + 1) rest))
-          → cons_option (cond b (Some e.number) None) (undropped_numbers rest) ≡ list_map (λ x. x.0) (cond b ((e.number, seen first e.cell) ∷ filter (λ x. is_undropped x.1.cell.state) (by_number (first + 1) rest)) (filter (λ x. is_undropped x.1.cell.state) (by_number (first + 1) rest)))
-      by true inner = ap (λ l. e.number ∷ l) inner
-      by false inner = inner
+  undropped_by_number first (Some e ∷ rest) = grind (arith, undropped_by_number (first + 1) rest)
 
   pub undropped_rising : (slots : List (Option (Numbered (Cell P T W)))) → Distinct slots → undropped_numbers slots ≡ rising (λ c. is_undropped c.state) (cells_of slots)
   undropped_rising slots distinct = undropped_by_number 0 slots ∙ sym (rising_is (λ c. is_undropped c.state) slots distinct)
@@ -269,19 +243,11 @@ module _ {P T W : Type 0} (cells : map.FinMap nat_cmp (Slotted P T W)) where
   -- what holds of each entry holds of each once one is put in its place
   Inside-insert : (e : ℕ × Slotted P T W) (es : List (ℕ × Slotted P T W)) → map.get cells e.0 ≡ Some e.1 → Inside es → Inside (insert_by_slot e es)
   Inside-insert e [] here inside = (here, tt)
-  Inside-insert e (f ∷ rest) here inside =
-      elim (nat_lt e.1.slot f.1.slot) as (λ b. Inside (cond b (e ∷ f ∷ rest) (f ∷ insert_by_slot e rest))) [
-        | true ↦ (here, inside)
-        | false ↦ (inside.0, Inside-insert e rest here inside.1)
-      ]
+  Inside-insert e (f ∷ rest) here inside = grind (arith, Inside-insert e rest here inside.1)
 
   Above-insert : (k : ℕ) (e : ℕ × Slotted P T W) (es : List (ℕ × Slotted P T W)) → k ≤ e.1.slot → Above k es → Above k (insert_by_slot e es)
   Above-insert k e [] here above = (here, tt)
-  Above-insert k e (f ∷ rest) here above =
-      elim (nat_lt e.1.slot f.1.slot) as (λ b. Above k (cond b (e ∷ f ∷ rest) (f ∷ insert_by_slot e rest))) [
-        | true ↦ (here, above)
-        | false ↦ (above.0, Above-insert k e rest here above.1)
-      ]
+  Above-insert k e (f ∷ rest) here above = grind (arith, Above-insert k e rest here above.1)
 
   Ascends-insert : (e : ℕ × Slotted P T W) (es : List (ℕ × Slotted P T W)) → Ascends es → Ascends (insert_by_slot e es)
   Ascends-insert e [] ascends = (tt, tt)
@@ -339,10 +305,7 @@ module _ {P T W : Type 0} (cells : map.FinMap nat_cmp (Slotted P T W)) where
   -- the slot at a place is that of the number there
   slot_at : (es : List (ℕ × Slotted P T W)) → Inside es → (i n : ℕ) (s : Slotted P T W) → slice_get (list_map (λ e. e.0) es) i ≡ Some n → map.get cells n ≡ Some s → slice_get (list_map (λ e. e.1.slot) es) i ≡ Some s.slot
   slot_at [] inside i n s at found = absurd (cc)
-  slot_at (e ∷ rest) inside zero n s at found =
-      let number : e.0 ≡ n = cc in
-      let is : Some e.1 ≡ Some s = sym inside.0 ∙ ap (map.get cells) number ∙ found in
-      ap (option_map (λ x. x.slot)) is
+  slot_at (e ∷ rest) inside zero n s at found = grind arith
   slot_at (e ∷ rest) inside (suc i) n s at found = slot_at rest inside.1 i n s at found
 
   above_at : (k : ℕ) (es : List (ℕ × Slotted P T W)) → Above k es → (j b : ℕ) → slice_get (list_map (λ e. e.1.slot) es) j ≡ Some b → k ≤ b

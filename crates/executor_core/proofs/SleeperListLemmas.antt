@@ -6,7 +6,7 @@ use Rattle.std.specs.Ordering.{nat_cmp, eq_by_cmp}
 use Rattle.std.specs.FinSet as set
 use Rattle.std.specs.FinSet.{contains-items}
 use Rattle.std.specs.Map.{keys_of}
-use Rattle.std.proofs.lemmas.Bool.{eqb-true, eq-eqb, lt-ltb, ltb-true, le-ltb, ltb-false, and_parts, and_from, not-true, not_from_false, or_right, true≢false}
+use Rattle.std.proofs.lemmas.Bool.{eqb-true, eq-eqb, lt-ltb, ltb-true, le-ltb, ltb-false, and_parts, and_from, not-true, not_from_false, or_right}
 use Rattle.std.proofs.lemmas.Bool.Decides.{nat_tests}
 use Rattle.executor_core.specs.Numbers.{times}
 use Rattle.executor_core.specs.Sleepers.{SleeperLaw, is_notified, is_notified_number, notified_number}
@@ -102,18 +102,7 @@ module _ {W : Type 0} where
 -- the first that passes, if one alone does
 first_passing : (p : ℕ → Bool) (m : ℕ) → ((n : ℕ) → p n ≡ true → n ≡ m) → p m ≡ true → (xs : List ℕ) → list_any (eq_by_cmp nat_cmp m) xs ≡ true → slice_index (filter p xs) 0 ≡ m
 first_passing p m only passes [] there = absurd (cc)
-first_passing p m only passes (x ∷ xs) there = at (first_passing p m only passes xs) (p x) refl there
-  where
-    tied : eq_by_cmp nat_cmp m x ≡ true → m ≡ x
-    tied is = grind (arith, nat_tests)
-
-    at : (list_any (eq_by_cmp nat_cmp m) xs ≡ true → slice_index (filter p xs) 0 ≡ m) → (t : Bool) → p x ≡ t → (eq_by_cmp nat_cmp m x || list_any (eq_by_cmp nat_cmp m) xs) ≡ true → slice_index (cond t (x ∷ filter p xs) (filter p xs)) 0 ≡ m
-    at rest true is there = only x is
-    at rest false is there = rest (later (eq_by_cmp nat_cmp m x) refl there)
-      where
-        later : (t : Bool) → eq_by_cmp nat_cmp m x ≡ t → (t || list_any (eq_by_cmp nat_cmp m) xs) ≡ true → list_any (eq_by_cmp nat_cmp m) xs ≡ true
-        later true same there = absurd (true≢false (sym passes ∙ ap p (tied same) ∙ is))
-        later false other there = there
+first_passing p m only passes (x ∷ xs) there = grind (arith, first_passing p m only passes xs, nat_tests)
 
 none_passing : (p : ℕ → Bool) → ((n : ℕ) → p n ≡ false) → (xs : List ℕ) → slice_index (filter p xs) 0 ≡ 0
 none_passing p never [] = refl

@@ -1,6 +1,6 @@
 -- Pairs of numbers and wakers: where a number stands, and what is read and written there.
 use Rattle.std.proofs.Common.{◌≡◌, ◌≢◌, ℕ, suc, ◌+◌, ◌<◌, Bool, true, false, cond, List, [], ◌∷◌, ◌++◌, length, take, drop, get_or, set, Option, Some, None, refl, sym, ap, ◌∙◌, arith}
-use Rattle.std.specs.Prelude.{◌==◌, is_some, position, ◌||◌}
+use Rattle.std.specs.Prelude.{◌==◌, is_some, position}
 use Rattle.std.specs.List.{list_any, position_from}
 use Rattle.std.specs.Map.{keys_of, lookup, remove_entry, set_value}
 use Rattle.std.proofs.lemmas.Bool.{eqb-true}
@@ -42,17 +42,7 @@ module _ {W : Type 0} where
 
   nowhere_from : (id i : ℕ) (pairs : List (ℕ × W)) → position_from (λ p. p.0 == id) i pairs ≡ None → StandsNowhere pairs id
   nowhere_from id i [] is = record { removed = refl; found = refl; written = λ w. refl }
-  nowhere_from id i (p ∷ ps) is = at (nowhere_from id (i + 1) ps) (p.0 == id) refl is
-    where
-      at : (position_from (λ p. p.0 == id) (i + 1) ps ≡ None → StandsNowhere ps id) → (b : Bool) → (p.0 == id) ≡ b → cond b (Some i) (position_from (λ p. p.0 == id) (i + 1) ps) ≡ None → StandsNowhere (p ∷ ps) id
-      at next true here is = absurd (cc)
-      at next false other is =
-          let rest = next is in
-          record {
-            removed = rw other (ap (λ l. p ∷ l) rest.removed);
-            found = rw other rest.found;
-            written = λ w. rw other (ap (λ l. p ∷ l) (rest.written w));
-          }
+  nowhere_from id i (p ∷ ps) is = grind (arith, nowhere_from id (i + 1) ps)
 
   pub stands_nowhere : {pairs items : List (ℕ × W)} (id : ℕ) {r : Option ℕ} → items ≡ pairs → r ≡ position (λ p. p.0 == id) items → r ≡ None → StandsNowhere pairs id
   stands_nowhere {pairs} {items} id {r} same is none = grind (arith, position_from-zero, nowhere_from)
@@ -66,36 +56,20 @@ module _ {W : Type 0} where
 
   pub keys-set_value : (id : ℕ) (pairs : List (ℕ × W)) (w : W) → keys_of (set_value (λ k. k == id) pairs w) ≡ keys_of pairs
   keys-set_value id [] w = refl
-  keys-set_value id (p ∷ ps) w = at (keys-set_value id ps w) (p.0 == id)
-    where
-      at : keys_of (set_value (λ k. k == id) ps w) ≡ keys_of ps → (b : Bool) → keys_of (cond b ((p.0, w) ∷ ps) (p ∷ set_value (λ k. k == id) ps w)) ≡ p.0 ∷ keys_of ps
-      at rest true = refl
-      at rest false = ap (λ l. p.0 ∷ l) rest
+  keys-set_value id (p ∷ ps) w = grind (arith, keys-set_value id ps w)
 
   -- a number stands in the list if and only if a waker is found
   pub any-lookup : (id : ℕ) (pairs : List (ℕ × W)) → list_any (λ k. k == id) (keys_of pairs) ≡ is_some (lookup (λ k. k == id) pairs)
   any-lookup id [] = refl
-  any-lookup id (p ∷ ps) = at (any-lookup id ps) (p.0 == id)
-    where
-      at : list_any (λ k. k == id) (keys_of ps) ≡ is_some (lookup (λ k. k == id) ps) → (b : Bool) → (b || list_any (λ k. k == id) (keys_of ps)) ≡ is_some (cond b (Some p.1) (lookup (λ k. k == id) ps))
-      at rest true = refl
-      at rest false = rest
+  any-lookup id (p ∷ ps) = grind (arith, any-lookup id ps)
 
   pub remove-absent : (id : ℕ) (pairs : List (ℕ × W)) → lookup (λ k. k == id) pairs ≡ None → remove_entry (λ k. k == id) pairs ≡ pairs
   remove-absent id [] none = refl
-  remove-absent id (p ∷ ps) none = at (remove-absent id ps) (p.0 == id) none
-    where
-      at : (lookup (λ k. k == id) ps ≡ None → remove_entry (λ k. k == id) ps ≡ ps) → (b : Bool) → cond b (Some p.1) (lookup (λ k. k == id) ps) ≡ None → cond b ps (p ∷ remove_entry (λ k. k == id) ps) ≡ p ∷ ps
-      at rest true none = absurd (cc)
-      at rest false none = ap (λ l. p ∷ l) (rest none)
+  remove-absent id (p ∷ ps) none = grind (arith, remove-absent id ps)
 
   pub set_value-absent : (id : ℕ) (pairs : List (ℕ × W)) (w : W) → lookup (λ k. k == id) pairs ≡ None → set_value (λ k. k == id) pairs w ≡ pairs
   set_value-absent id [] w none = refl
-  set_value-absent id (p ∷ ps) w none = at (set_value-absent id ps w) (p.0 == id) none
-    where
-      at : (lookup (λ k. k == id) ps ≡ None → set_value (λ k. k == id) ps w ≡ ps) → (b : Bool) → cond b (Some p.1) (lookup (λ k. k == id) ps) ≡ None → cond b ((p.0, w) ∷ ps) (p ∷ set_value (λ k. k == id) ps w) ≡ p ∷ ps
-      at rest true none = absurd (cc)
-      at rest false none = ap (λ l. p ∷ l) (rest none)
+  set_value-absent id (p ∷ ps) w none = grind (arith, set_value-absent id ps w)
 
   -- how often a number stands in the list without a pair
   pub times-remove_other : (id n : ℕ) (pairs : List (ℕ × W)) → n ≢ id → times n (keys_of (remove_entry (λ k. k == id) pairs)) ≡ times n (keys_of pairs)
@@ -131,8 +105,4 @@ module _ {W : Type 0} where
 
   pub length-remove : (id : ℕ) (pairs : List (ℕ × W)) (w : W) → lookup (λ k. k == id) pairs ≡ Some w → length pairs ≡ length (remove_entry (λ k. k == id) pairs) + 1
   length-remove id [] w found = absurd (cc)
-  length-remove id (p ∷ ps) w found = at (length-remove id ps w) (p.0 == id) found
-    where
-      at : (lookup (λ k. k == id) ps ≡ Some w → length ps ≡ length (remove_entry (λ k. k == id) ps) + 1) → (b : Bool) → cond b (Some p.1) (lookup (λ k. k == id) ps) ≡ Some w → length (p ∷ ps) ≡ length (cond b ps (p ∷ remove_entry (λ k. k == id) ps)) + 1
-      at rest true found = omega arith
-      at rest false found = let before = rest found in omega arith
+  length-remove id (p ∷ ps) w found = grind (arith, length-remove id ps w)

@@ -84,14 +84,8 @@ module _ {P T W : Type 0} where
   finds first [] at c e = absurd (cc)
   finds first (None ∷ rest) zero c e = absurd (cc)
   finds first (None ∷ rest) (suc at) c e = finds (first + 1) rest at c e
-  finds first (Some d ∷ rest) zero c e =
-      let same : d ≡ c = cc in
-      ap (λ b. is_some (cond b (Some (seen first d.cell)) (find nat_cmp c.number (by_number (first + 1) rest)))) (tied c.number d.number (ap (λ x. x.number) (sym same)))
-  finds first (Some d ∷ rest) (suc at) c e =
-      elim (eq_by_cmp nat_cmp c.number d.number) as (λ b. is_some (cond b (Some (seen first d.cell)) (find nat_cmp c.number (by_number (first + 1) rest))) ≡ true) [
-        | true ↦ refl
-        | false ↦ finds (first + 1) rest at c e
-      ]
+  finds first (Some d ∷ rest) zero c e = grind (arith, tied)
+  finds first (Some d ∷ rest) (suc at) c e = grind (arith, finds (first + 1) rest at c e)
 
   pub get-cells_of : (slots : List (Option (Numbered (Cell P T W)))) (q : ℕ) → map.get (cells_of slots) q ≡ find nat_cmp q (by_number 0 slots)
   unfolding cells_of

@@ -86,13 +86,7 @@ module _ {X : Type 0} where
 
   sum_by_plus : (f g h : X → ℕ) (xs : List X) → ((x : X) → f x ≡ g x + h x) → sum_by f xs ≡ sum_by g xs + sum_by h xs
   sum_by_plus f g h [] each = refl
-  sum_by_plus f g h (x ∷ xs) each =
-      let inner = sum_by_plus f g h xs each in
-      let here = each x in
-      let one = sum_by-cons f x xs in
-      let two = sum_by-cons g x xs in
-      let three = sum_by-cons h x xs in
-      omega arith
+  sum_by_plus f g h (x ∷ xs) each = grind (arith, sum_by_plus f g h xs each, sum_by-cons)
 
   -- one place alone counts
   sum_by_one : (f : X → ℕ) (d : X) (xs : List X) (k : ℕ) → f d ≡ 0 → f (get_or xs k d) ≡ 1 → ((i : ℕ) → i ≢ k → f (get_or xs i d) ≡ 0) → sum_by f xs ≡ 1
@@ -138,10 +132,7 @@ module _ {P T W : Type 0} where
 
   count-by_number : (first : ℕ) (slots : List (Option (Numbered (Cell P T W)))) → count_by (λ s. is_undropped s.cell.state) (list_map (λ x. x.1) (by_number first slots)) ≡ count_by undropped_slot slots
   count-by_number first [] = refl
-  count-by_number first (None ∷ rest) =
-      let inner = count-by_number (first + 1) rest in
-      let one = sum_by-cons (λ s. cond (undropped_slot s) 1 0) None rest in
-      omega arith
+  count-by_number first (None ∷ rest) = grind (arith, count-by_number (first + 1) rest, sum_by-cons)
   count-by_number first (Some e ∷ rest) =
       let inner = count-by_number (first + 1) rest in
       let one = sum_by-cons (λ s. cond (undropped_slot s) 1 0) (Some e) rest in

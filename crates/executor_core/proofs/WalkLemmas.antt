@@ -66,21 +66,14 @@ module _ {P T W : Type 0} where
   pub idle_below-next : (first n : ℕ) (slots : List (Option (Numbered (Cell P T W)))) → idle_below first (suc n) slots ≡ idle_below first n slots ++ cons_option (idle_id (first + n) (get_or slots n None)) []
   idle_below-next first zero [] = refl
   idle_below-next first (suc n) [] = refl
-  idle_below-next first zero (s ∷ rest) =
-      let same : first + 0 ≡ first = omega arith in
-      ap (cons_option (idle_id first s)) (idle_below-start (first + 1) rest) ∙ ap (λ k. cons_option (idle_id k s) []) (sym same)
-  idle_below-next first (suc n) (s ∷ rest) =
-      let same : first + 1 + n ≡ first + suc n = omega arith in
-      ap (cons_option (idle_id first s)) (idle_below-next (first + 1) n rest ∙ ap (λ k. idle_below (first + 1) n rest ++ cons_option (idle_id k (get_or rest n None)) []) same)
-      ∙ cons_append (idle_id first s) _ _
+  idle_below-next first zero (s ∷ rest) = grind (arith, idle_below-start)
+  idle_below-next first (suc n) (s ∷ rest) = grind (arith, idle_below-next (first + 1) n rest, cons_append)
 
   -- what was visited, and what was not
   pub idle_parts : (first n : ℕ) (slots : List (Option (Numbered (Cell P T W)))) → (rest : List TaskId) × (idle_ids first slots ≡ idle_below first n slots ++ rest)
   idle_parts first n [] = ([], refl)
   idle_parts first zero (s ∷ rest) = (idle_ids first (s ∷ rest), refl)
-  idle_parts first (suc n) (s ∷ rest) =
-      let later = idle_parts (first + 1) n rest in
-      (later.0, ap (cons_option (idle_id first s)) later.1 ∙ cons_append (idle_id first s) (idle_below (first + 1) n rest) later.0)
+  idle_parts first (suc n) (s ∷ rest) = grind (arith, idle_parts (first + 1) n rest, cons_append)
 
 -- nothing is queued
 pub no_push : (q : QueueState) → with_lists (pushed_all [] q.lists) q ≡ q

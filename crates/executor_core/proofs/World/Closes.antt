@@ -95,11 +95,7 @@ runners_forgotten {tickers = tickers} {table = table} {rings = rings} tied =
 -- each ticker that is neither at rest nor over is busy
 still_at : (tickers : List Ticker) (k : ℕ) (t : Ticker) → list_any (λ (t : Ticker). not (at_rest t.phase || is_over t.phase)) tickers ≡ false → slice_get tickers k ≡ Some t → not (at_rest t.phase || is_over t.phase) ≡ false
 still_at [] k t none at = absurd (cc)
-still_at (x ∷ xs) zero t none at = let it : x ≡ t = cc in ap (λ (t : Ticker). not (at_rest t.phase || is_over t.phase)) (sym it) ∙ first (not (at_rest x.phase || is_over x.phase)) _ none
-  where
-    first : (a b : Bool) → a || b ≡ false → a ≡ false
-    first true b is = absurd (true≢false is)
-    first false b is = refl
+still_at (x ∷ xs) zero t none at = grind arith
 still_at (x ∷ xs) (suc k) t none at = still_at xs k t (rest (not (at_rest x.phase || is_over x.phase)) _ none) at
   where
     rest : (a b : Bool) → a || b ≡ false → b ≡ false

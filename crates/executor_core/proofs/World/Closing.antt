@@ -51,14 +51,7 @@ module _ {T : Type 0} (n : ℕ) {log : List (Event T)} (order : InOrder log) whe
   -- none is dropped after a drop
   no_more : (rest before : List (Event T)) → log ≡ before ++ rest → dropped n before ≡ true → drops n rest ≡ 0
   no_more [] before is was = refl
-  no_more (e ∷ rest) before is was = elim (cases_Bool (is_drop n e)) [
-    | inl drop ↦ absurd (true≢false (sym was ∙ may_drop before e rest is drop))
-    | inr other ↦
-        let inner = no_more rest (before ++ e ∷ []) (further before e rest is) (dropped_push before e ∙ or_right (is_drop n e) (dropped n before) was) in
-        let one = sum_by-cons (λ x. cond (is_drop n x) 1 0) e rest in
-        let none : ◌≡◌ {A = ℕ} (cond (is_drop n e) 1 0) 0 = ap (λ b. cond {A = ℕ} b 1 0) other in
-        omega arith
-  ]
+  no_more (e ∷ rest) before is was = grind (arith, no_more rest (before ++ e ∷ []) (further before e rest is) (dropped_push before e ∙ or_right (is_drop n e) (dropped n before) was), cases_Bool, may_drop, further, dropped_push, or_right, sum_by-cons)
 
   counted_drops : (rest before : List (Event T)) → log ≡ before ++ rest → dropped n before ≡ false → dropped n rest ≡ true → drops n rest ≡ 1
   counted_drops [] before is fresh now = absurd (false≢true now)

@@ -31,17 +31,8 @@ module _ {E : Type 0} where
   some-push f (x ∷ rest) e = ap (λ b. f x || b) (some-push f rest e) ∙ or-swap (f x) (f e) (list_any f rest)
 
   last-push : (f g : E → Bool) (log : List E) (e : E) → unfollowed f g (log ++ e ∷ []) ≡ f e || (not (g e) && unfollowed f g log)
-  last-push f g [] e = elim (f e) as (λ b. (b && true) || false ≡ b || (not (g e) && false)) [
-    | true ↦ refl
-    | false ↦ elim (g e) as (λ b. false ≡ not b && false) [
-      | true ↦ refl
-      | false ↦ refl
-    ]
-  ]
-  last-push f g (x ∷ rest) e =
-      ap (λ b. (f x && not b) || unfollowed f g (rest ++ e ∷ [])) (some-push g rest e)
-      ∙ ap (λ b. (f x && not (g e || list_any g rest)) || b) (last-push f g rest e)
-      ∙ last-swap (f x) (g e) (list_any g rest) (f e) (unfollowed f g rest)
+  last-push f g [] e = grind arith
+  last-push f g (x ∷ rest) e = grind (arith, last-push f g rest e, some-push, last-swap)
 
   -- the last element, or one before it
   pub split_push : (log : List E) (e : E) (before : List E) (x : E) (after : List E) → log ++ e ∷ [] ≡ before ++ x ∷ after

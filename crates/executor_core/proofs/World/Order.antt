@@ -1,6 +1,6 @@
 -- A lone runner takes tasks in the order in which they were queued.
-use Rattle.std.proofs.Common.{◌≡◌, ◌≢◌, ℕ, Bool, true, false, not, ◌&&◌, cond, List, [], ◌∷◌, ◌++◌, length, map, drop, Option, Some, None, refl, sym, ap, ◌∙◌, subst, inl, inr, append_assoc, arith}
-use Rattle.std.proofs.lemmas.Bool.{cases_eq, cases_Bool, and_parts, not-true, true≢false}
+use Rattle.std.proofs.Common.{◌≡◌, ◌≢◌, ℕ, Bool, true, false, cond, List, [], ◌∷◌, ◌++◌, length, map, drop, Option, Some, None, refl, sym, ap, ◌∙◌, subst, inl, inr, append_assoc, arith}
+use Rattle.std.proofs.lemmas.Bool.{cases_eq, cases_Bool, and_parts, not-true}
 use Rattle.std.proofs.lemmas.List.{append-nil}
 use Rattle.std.specs.List.{filter_map}
 use Rattle.executor_core.specs.Queues.{QueueLists, entries_of, search, search_any, global_front}
@@ -10,7 +10,7 @@ use Rattle.executor_core.specs.World.Log.{cancelled, idle, woken, dropped, outpu
 use Rattle.executor_core.specs.World.Promises.{queues}
 use Rattle.executor_core.specs.World.Phases.{is_awake, has_ended}
 use Rattle.executor_core.specs.World.Tickers.{stored, runner_of}
-use Rattle.executor_core.specs.World.Steps.{row, Spawns, spawn_row, wake_row, cancel_row, drop_handle_row, ready_row, detach_row, dropped_row, exchange_row, notify_row, handle_row, tick_row, run_row, poll_row, sleep_row, yield_row, remove_row, store_row, drop_row, fair_row, unregister_row, Makes, enabled, Does, StepTo, FoldTo, logged, informed, queued_where, notice_reply, end_reply, return_reply, take_reply, take_row, take_any_row, give_row, placed_where, drain_row, found_row, found_by, search_to_row, some_held, some_busy, idle_ones, ticker}
+use Rattle.executor_core.specs.World.Steps.{row, Spawns, spawn_row, wake_row, cancel_row, drop_handle_row, ready_row, detach_row, dropped_row, exchange_row, notify_row, handle_row, tick_row, run_row, poll_row, sleep_row, yield_row, remove_row, store_row, drop_row, fair_row, unregister_row, Makes, enabled, Does, StepTo, FoldTo, logged, informed, queued_where, notice_reply, end_reply, return_reply, take_reply, take_row, take_any_row, give_row, placed_where, drain_row, found_row, found_by, search_to_row, idle_ones, ticker}
 use Rattle.executor_core.specs.World.Order.{new_task, noticed_task, requeued_task, taken_task, woken_task, woken_idle, queued_by, taken_by, queued, taken, searcher, IsAlone, line, LoneStep, LoneOrder}
 use Rattle.executor_core.specs.declared.interleave.entry.TaskInfo.{TaskInfo}
 use Rattle.executor_core.specs.declared.interleave.event.Event.{Event}
@@ -181,10 +181,7 @@ module _ {T : Type 0} (r : ℕ) (old new : Execution T) (answer : Reply T) (befo
   done (Store k) on goes_on does taker = quiet (store_row k old) does (queues-placed (has_ended (stored (ticker k old)).phase) _)
   done Drain on goes_on does taker = draining old.global does (λ some. let h = taker some in cc)
   done Leak on goes_on does taker = let order = does.0 in subst (λ l. Moves l []) (sym (woken_now old new order (ap (λ (w : Execution T). w.log) does.2.1))) (queueing (idle_ones order old) (ap queues does.2.1))
-  done Close on goes_on does taker =
-      let unclosed : old.closed ≡ false = not-true old.closed (and_parts (not old.closed) (not old.leaked) (and_parts (not old.closed && not old.leaked) (not (some_held old)) (and_parts (not old.closed && not old.leaked && not (some_held old)) (not (some_busy old)) on).0).0).0 in
-      let shut : new.closed ≡ true = ap (λ (w : Execution T). w.closed) does.2.1 in
-      absurd (true≢false (sym shut ∙ goes_on ∙ unclosed))
+  done Close on goes_on does taker = grind (arith, not-true, and_parts)
   done (Drop k) on goes_on does taker = quiet (drop_row k old) does (queues-cond (is_awake (ticker k old)) _ _ (queues old) refl refl)
 
   refused : {P : Type 0} (step : Step P T) (a : Reply T) → (answer ≡ a) × (new ≡ old) → queued_by step old a new ≡ [] → taken_by step a ≡ [] → Moves (queued_by step old answer new) (taken_by step answer)

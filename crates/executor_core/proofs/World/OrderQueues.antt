@@ -1,5 +1,5 @@
 -- What the calls of a runner make of its line, if no other runner is registered.
-use Rattle.std.proofs.Common.{◌≡◌, ◌≢◌, ℕ, zero, suc, ◌+◌, ◌%◌, Bool, not, cond, List, [], ◌∷◌, ◌++◌, map, take, drop, Option, Some, None, refl, sym, ap, ◌∙◌, subst, inl, inr, append_assoc, arith}
+use Rattle.std.proofs.Common.{◌≡◌, ◌≢◌, ℕ, zero, suc, ◌+◌, ◌%◌, Bool, not, cond, List, [], ◌∷◌, ◌++◌, take, drop, Option, Some, None, refl, sym, ap, ◌∙◌, subst, inl, inr, append_assoc, arith}
 use Rattle.std.proofs.lemmas.Bool.{cases_eq, eq-eqb, ne_eqb}
 use Rattle.std.proofs.lemmas.List.{take-append-drop}
 use Rattle.std.specs.Prelude.{◌==◌, nat_lt}
@@ -30,10 +30,7 @@ module _ {X : Type 0} where
   alone_own r (q ∷ []) alone =
       let same : q.runner ≡ r = cc in
       (q.entries, q.capacity, ap (λ k. own_queue k q.entries q.capacity) same)
-  alone_own r (p ∷ (q ∷ rest)) alone = absurd (no_second (cc))
-    where
-      no_second : q.runner ∷ map (λ (l : RunnerQueue X). l.runner) rest ≡ [] → ⊥
-      no_second h = cc
+  alone_own r (p ∷ (q ∷ rest)) alone = grind arith
 
   on_alone : (r : ℕ) (P : QueueLists X → Type 0) → ((entries : List X) (capacity : ℕ) (global : List X) → P (lone r entries capacity global)) → (q : QueueLists X) → IsAlone r q.locals → P q
   on_alone r P holds q alone =

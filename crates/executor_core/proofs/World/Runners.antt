@@ -72,10 +72,7 @@ module _ {X : Type 0} where
   -- the first item that passes
   position_within : (f : X → Bool) (xs : List X) → nat_lt (position_or_len f xs) (length xs) ≡ list_any f xs
   position_within f [] = refl
-  position_within f (z ∷ zs) = elim (cases_Bool (f z)) [
-    | inl passes ↦ rw passes (lt-ltb 0 (suc (length zs)) (omega arith))
-    | inr fails ↦ rw fails (lt_suc (position_or_len f zs) (length zs) ∙ position_within f zs)
-  ]
+  position_within f (z ∷ zs) = grind (arith, position_within f zs, cases_Bool, lt-ltb, lt_suc)
 
   pub position_any : (f : X → Bool) (xs : List X) → is_some (position f xs) ≡ list_any f xs
   position_any f xs = some_where (nat_lt (position_or_len f xs) (length xs)) (position_or_len f xs) ∙ position_within f xs
