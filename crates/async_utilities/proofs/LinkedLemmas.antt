@@ -27,24 +27,14 @@ length-keys chain len = length-walk (next_of chain) len end
 module _ (old new : Chain) (keys : List ℕ) (linked : Linked old keys) where
   -- more room
   pub grown_linked : vec_len old.links ≤ vec_len new.links → ((at : ℕ) → IsLink old at → next_of new at ≡ next_of old at) → ((at : ℕ) → IsLink old at → previous_of new at ≡ previous_of old at) → Linked new keys
-  grown_linked grows nexts prevs = record {
-    chained =
-        chain_kept (next_of old) (previous_of old) (next_of new) (previous_of new) end keys end linked.chained
-        (λ at on. nexts at (on_link old keys linked at on)) (λ at on. prevs at (on_link old keys linked at on));
-    apart = linked.apart;
-    within = λ key found. let below = linked.within key found in omega arith;
-  }
+  grown_linked grows nexts prevs = grind (arith, chain_kept, on_link)
 
   -- the last one
   pub last_link : IsLink old (previous_of old end)
   last_link = on_link old keys linked _ (end_on (next_of old) (previous_of old) end keys end linked.chained)
 
   pub not_last : (key : ℕ) → key < vec_len old.links → vec_len old.links < 2 ^ 63 → ¬ IsIn key keys → key ≢ previous_of old end
-  not_last key below short absent same =
-      elim (end_on (next_of old) (previous_of old) end keys end linked.chained) [
-        | inl here ↦ let is : key ≡ end = same ∙ sym here in omega arith
-        | inr there ↦ absent (subst (λ k. IsIn k keys) (sym same) there)
-      ]
+  not_last key below short absent same = grind (arith, end_on)
 
   pub pushed_linked : (key : ℕ) → key < vec_len old.links → vec_len new.links ≡ vec_len old.links → vec_len old.links < 2 ^ 63 → ¬ IsIn key keys → Inserts old new key → Linked new (keys ++ key ∷ [])
   pushed_linked key below same short absent inserts =

@@ -1,13 +1,12 @@
 -- The first of those who wait, when one place changes.
-use Rattle.std.proofs.Common.{◌≡◌, ◌≢◌, ℕ, List, [], ◌∷◌, Bool, false, true, not, Some, None, refl, sym, ap, ◌∙◌, inl, inr}
+use Rattle.std.proofs.Common.{◌≡◌, ◌≢◌, ℕ, List, [], ◌∷◌, Bool, false, true, not, Some, None, sym, ap, ◌∙◌, inl, inr, arith}
 use Rattle.std.proofs.lemmas.Bool.{cases_eq}
 use Rattle.std.proofs.lemmas.Option.{none-some}
 use Rattle.async_utilities.specs.Links.{without}
 use Rattle.async_utilities.specs.WaitQueue.{Moves, Waiters, first_waker, place_at, waker_first, waker_of}
 
 pub is_not_false : (b : Bool) → not b ≡ false → b ≡ true
-is_not_false true is = refl
-is_not_false false is = absurd (cc)
+is_not_false b is = grind arith
 
 module _ {W : Type 0} (old new : Waiters W) (place : ℕ) (others : (other : ℕ) → other ≢ place → place_at new other ≡ place_at old other) where
   -- one that is free now is not the first one

@@ -20,12 +20,10 @@ module _ {X : Type 0} (f : Option X → ℕ) (none : f None ≡ 0) where
   tail (x ∷ xs) = xs
 
   tail_at : (xs : List (Option X)) (k : ℕ) → get_or (tail xs) k None ≡ get_or xs (suc k) None
-  tail_at [] k = refl
-  tail_at (x ∷ xs) k = refl
+  tail_at xs k = grind arith
 
   split : (xs : List (Option X)) → sum_by f xs ≡ f (get_or xs 0 None) + sum_by f (tail xs)
-  split [] = let nothing : f (get_or {A = Option X} [] 0 None) ≡ 0 = none in omega arith
-  split (x ∷ xs) = sum_by-cons f x xs
+  split xs = grind (arith, sum_by-cons)
 
   same_sum : (old new : List (Option X)) → ((k : ℕ) → get_or new k None ≡ get_or old k None) → sum_by f new ≡ sum_by f old
   same_sum [] [] same = refl
@@ -76,16 +74,11 @@ module _ {W : Type 0} where
 
   -- a write of a place that is taken
   pub set_updates : (places : Slab (Place W)) (key : ℕ) (old new : Place W) → get places key ≡ Some old → Updates places (with_value places key new) key (Some new)
-  set_updates places key old new there =
-      let below : key < length places.slots = elim (cases_lt key (length places.slots)) [ inl within ↦ within | inr past ↦ absurd (none-some old (sym (get_or_past places.slots key None past) ∙ there)) ] in
-      record { changed = get_or-set_same places.slots key (Some new) None below; others = λ other differs. get_or-set_other places.slots key other (Some new) None differs }
+  set_updates places key old new there = grind (arith, cases_lt, none-some, get_or_past, get_or-set_same, get_or-set_other)
 
   module _ (places places' : Slab (Place W)) (order order' : Order) (notified notified' key : ℕ) (now : Option (Place W)) (queue : IsQueue places order notified) (updates : Updates places places' key now) where
     counts : notified' + cond (is_notified (get places key)) 1 0 ≡ notified + cond (is_notified now) 1 0 → notified' ≡ count_by is_notified places'.slots
-    counts counted =
-        let sum = changed_sum (λ place. cond (is_notified place) 1 0) refl key places.slots places'.slots now updates.changed updates.others in
-        let was = queue.counted in
-        omega arith
+    counts counted = grind (arith, changed_sum)
 
     here_or : (P : ℕ → Type 0) (place : ℕ) → (place ≡ key → P place) → (place ≢ key → P place) → P place
     here_or P place here there = elim (cases_eq place key) [ inl same ↦ here same | inr differs ↦ there differs ]
@@ -114,47 +107,19 @@ module _ {W : Type 0} where
 
     -- one enters
     pub entered_queue : order' ≡ record order { keys = order.keys ++ key ∷ [] } → is_some (get places key) ≡ true → is_waiting (get places key) ≡ false → is_waiting now ≡ true → notified' + cond (is_notified (get places key)) 1 0 ≡ notified + cond (is_notified now) 1 0 → IsQueue places' order' notified'
-    entered_queue is taken idle waiting counted =
-        let keys : order'.keys ≡ order.keys ++ key ∷ [] = ap (λ o. o.keys) is in
-        let limit : order'.limit ≡ order.limit = ap (λ o. o.limit) is in
-        let below = queue.within key taken in
-        changed_queue (omega arith) (λ _. omega arith)
-        (λ place differs found. elim (in_push key place order.keys (subst (IsIn place) keys found)) [ inl old ↦ old | inr new ↦ absurd (differs (sym new)) ])
-        (λ place differs found. subst (IsIn place) (sym keys) (stays_push key place order.keys found))
-        (λ found. waiting) (λ is. subst (IsIn key) (sym keys) (last_in key order.keys))
-        (subst IsApart (sym keys) (apart_push key order.keys queue.apart (absent idle))) counted
+    entered_queue is taken idle waiting counted = grind (arith, changed_queue, in_push, stays_push, last_in, apart_push, absent)
 
     -- one that waited does so no longer
     pub gone_queue : order' ≡ record order { keys = without key order.keys } → (is_some now ≡ true → is_some (get places key) ≡ true) → is_waiting now ≡ false → notified' + cond (is_notified (get places key)) 1 0 ≡ notified + cond (is_notified now) 1 0 → IsQueue places' order' notified'
-    gone_queue is taken idle counted =
-        let keys : order'.keys ≡ without key order.keys = ap (λ o. o.keys) is in
-        let limit : order'.limit ≡ order.limit = ap (λ o. o.limit) is in
-        changed_queue (omega arith) (λ some. let below = queue.within key (taken some) in omega arith)
-        (λ place differs found. in_without key place order.keys (subst (IsIn place) keys found))
-        (λ place differs found. subst (IsIn place) (sym keys) (stays_without key place order.keys found differs))
-        (λ found. absurd (not_in_without key order.keys queue.apart (subst (IsIn key) keys found)))
-        (λ is. absurd (cc))
-        (subst IsApart (sym keys) (apart_without key order.keys queue.apart)) counted
+    gone_queue is taken idle counted = grind (arith, changed_queue, in_without, stays_without, not_in_without, apart_without)
 
     -- one that did not wait does not wait now
     pub beside_queue : order'.keys ≡ order.keys → order.limit ≤ order'.limit → (is_some now ≡ true → key < order'.limit) → is_waiting (get places key) ≡ false → is_waiting now ≡ false → notified' + cond (is_notified (get places key)) 1 0 ≡ notified + cond (is_notified now) 1 0 → IsQueue places' order' notified'
-    beside_queue keys grows fits idle not_now counted =
-        changed_queue grows fits
-        (λ place differs found. subst (IsIn place) keys found)
-        (λ place differs found. subst (IsIn place) (sym keys) found)
-        (λ found. absurd (absent idle (subst (IsIn key) keys found)))
-        (λ is. absurd (cc))
-        (subst IsApart (sym keys) queue.apart) counted
+    beside_queue keys grows fits idle not_now counted = grind (arith, changed_queue, absent)
 
   -- one that is notified is counted
   pub counts_one : (places : Slab (Place W)) (order : Order) (notified key : ℕ) → IsQueue places order notified → get places key ≡ Some Notified → 1 ≤ notified
-  counts_one places order notified key queue there =
-      let below : key < length places.slots = elim (cases_lt key (length places.slots)) [ inl within ↦ within | inr past ↦ absurd (none-some Notified (sym (get_or_past places.slots key None past) ∙ there)) ] in
-      let f : Option (Place W) → ℕ = λ place. cond (is_notified place) 1 0 in
-      let one : f (get_or places.slots key None) ≡ 1 = ap f there in
-      let le = get_or-le-sum_by f places.slots key None below in
-      let was = queue.counted in
-      omega arith
+  counts_one places order notified key queue there = grind (arith, cases_lt, none-some, get_or_past, get_or-le-sum_by)
 
   -- of the places that are taken, one at which somebody waits is not notified
   pub counts_below : (places : Slab (Place W)) (order : Order) (notified key : ℕ) (waker : W) → IsQueue places order notified → get places key ≡ Some (Waiting waker) → notified < slab_len places
@@ -219,5 +184,4 @@ first_in [] key is = absurd (cc)
 first_in (first ∷ rest) key is = inl (sym (same_Some key first is))
 
 pub steps_shorter : {W : Type 0} (old new : Waiters W) (waiting : List ℕ) → Steps old new waiting → (length waiting == 0) ≡ false → length new.waiting < length waiting
-steps_shorter old new [] steps some = absurd (cc)
-steps_shorter old new (first ∷ rest) steps some = let waits = ap length steps.waits in omega arith
+steps_shorter old new waiting steps some = grind arith
