@@ -1,5 +1,5 @@
 -- What is counted of each element of a list, one element at a time.
-use Rattle.std.proofs.Common.{◌≡◌, ℕ, ◌+◌, ◌<◌, ◌≤◌, List, [], ◌∷◌, ◌++◌, length, map, take, get_or, Option, Some, None, inl, inr, refl, sym, ap, ◌∙◌, arith}
+use Rattle.std.proofs.Common.{◌≡◌, ℕ, ◌+◌, ◌<◌, ◌≤◌, List, [], ◌∷◌, ◌++◌, length, map, take, get_or, Option, Some, None, refl, sym, ap, ◌∙◌, arith}
 use Rattle.std.specs.Prelude.{slice_get, option_map}
 use Rattle.std.proofs.lemmas.List.{map_more, length-append, length-map, length-take-le}
 use Rattle.std.proofs.lemmas.Option.{slice_get_within, slice_get_cases, get_or_from_slice_get}
@@ -16,10 +16,7 @@ module _ {X Y : Type 0} (f : X → Y) where
           map_more f xs i x (slice_get_within xs i x e) ∙ ap (λ z. map f (take i xs) ++ z ∷ []) given
 
   pub is_some_within : (xs : List X) (i : ℕ) → None ≡ option_map f (slice_get xs i) → i < length xs → ⊥
-  is_some_within xs i none inside = elim ((slice_get_cases xs i).1) [
-    | inl found ↦ absurd (cc (none ∙ ap (option_map f) found.2))
-    | inr past ↦ omega (arith, past.0, inside)
-  ]
+  is_some_within xs i none inside = grind (arith, slice_get_cases)
 
   -- what follows the first i of a list up to the first j has j - i elements
   pub length_between : (xs : List X) (ys : List Y) (i j : ℕ) → map f (take i xs) ++ ys ≡ map f (take j xs) → i ≤ j → j ≤ length xs → i + length ys ≡ j

@@ -1,5 +1,5 @@
 -- A machine is known by what it asks and keeps.
-use Rattle.std.proofs.Common.{◌≡◌, Bool, cond, refl, sym, ap, ap₂, subst, subst₂, ◌∙◌}
+use Rattle.std.proofs.Common.{◌≡◌, Bool, cond, refl, sym, ap, subst, subst₂, ◌∙◌, arith}
 use Rattle.executor_core.specs.declared.queue.runner.RunnerKey.{RunnerKey}
 use Rattle.async_executor.specs.Runs.{runner_at, runner_of, is_end}
 use Rattle.async_executor.specs.Runs.{asked_in as run_asked_in}
@@ -26,74 +26,24 @@ use Rattle.async_executor.specs.declared.machine.tick.TickNext.TheVariants.{Act,
 use Rattle.async_executor.specs.declared.machine.tick.TickState.{TickState}
 use Rattle.async_executor.specs.declared.machine.tick.TickState.TheVariants as state
 use Rattle.async_executor.specs.declared.machine.waiting.TickEnd.{TickEnd}
-use Rattle.async_executor.specs.declared.machine.waiting.Spending.TheVariants.{Exchanging, Notifying, Waking}
-use Rattle.async_executor.specs.declared.machine.waiting.Waiting.TheVariants.{Searching, Inserting, Updating, Storing, Removing, StoringRemoved, Announcing, Leaving, StoringLeft, PassingOn}
 
 tick_known : (s : TickState) → state_for (asked_in s) (kept_in s) ≡ s
-tick_known (state.Resting number) = refl
-tick_known (state.Waiting (Searching s)) = refl
-tick_known (state.Waiting (Inserting s)) = refl
-tick_known (state.Waiting (Updating s)) = refl
-tick_known (state.Waiting (Storing s)) = refl
-tick_known (state.Waiting (Removing s)) = refl
-tick_known (state.Waiting (StoringRemoved s)) = refl
-tick_known (state.Waiting (Announcing Exchanging s)) = refl
-tick_known (state.Waiting (Announcing Notifying s)) = refl
-tick_known (state.Waiting (Announcing Waking s)) = refl
-tick_known (state.Waiting (Leaving s)) = refl
-tick_known (state.Waiting (StoringLeft s)) = refl
-tick_known (state.Waiting (PassingOn Exchanging s)) = refl
-tick_known (state.Waiting (PassingOn Notifying s)) = refl
-tick_known (state.Waiting (PassingOn Waking s)) = refl
-tick_known (state.Running s) = refl
+tick_known s = grind arith
 
 module _ {W : Type 0} where
   -- so a decision is its row's
   pub tick_decided : (next : TickNext W) (to : Next W) (k : Kept) → IsAsked next → next_of next ≡ to → kept_after next ≡ k → next ≡ decision_to to k
-  tick_decided (Act machine action) to k asks is keeps =
-      subst (λ to. Act machine action ≡ decision_to to k) is
-      (ap (λ s. Act (record { state = s }) action) (sym (tick_known machine.state) ∙ ap₂ state_for asks keeps))
-  tick_decided (Rest rest end) to k ends is keeps =
-      subst (λ to. Rest rest end ≡ decision_to to k) is
-      (ap₂ (λ n e. Rest (record { number = n; ended = e }) end) (ap (λ k. k.number) keeps) ends)
+  tick_decided next to k asks is keeps = grind (arith, tick_known)
 
 run_known : (s : RunState) → runs.state_for (runs.runner_for (runner_at s).key (run_kept_in s)) (run_asked_in s) (run_kept_in s) ≡ s
-run_known (run.Resting (begun.Register s)) = refl
-run_known (run.Resting (begun.PollOwn s)) = refl
-run_known (run.Registering s) = refl
-run_known (run.PollingOwn s) = refl
-run_known (run.Waiting (Searching s)) = refl
-run_known (run.Waiting (Inserting s)) = refl
-run_known (run.Waiting (Updating s)) = refl
-run_known (run.Waiting (Storing s)) = refl
-run_known (run.Waiting (Removing s)) = refl
-run_known (run.Waiting (StoringRemoved s)) = refl
-run_known (run.Waiting (Announcing Exchanging s)) = refl
-run_known (run.Waiting (Announcing Notifying s)) = refl
-run_known (run.Waiting (Announcing Waking s)) = refl
-run_known (run.Waiting (Leaving s)) = refl
-run_known (run.Waiting (StoringLeft s)) = refl
-run_known (run.Waiting (PassingOn Exchanging s)) = refl
-run_known (run.Waiting (PassingOn Notifying s)) = refl
-run_known (run.Waiting (PassingOn Waking s)) = refl
-run_known (run.Sharing s) = refl
-run_known (run.Running s) = refl
-run_known (run.Unregistering s) = refl
-run_known (run.PassingOn Exchanging s) = refl
-run_known (run.PassingOn Notifying s) = refl
-run_known (run.PassingOn Waking s) = refl
-run_known (run.Releasing s) = refl
+run_known s = grind arith
 
 -- and a rest is known by whether it has ended, and by what it keeps
 rest_known : (runner : Runner) (s : Stage) (e : Bool) → is_end s ≡ e → cond e stage.Ended (runs.stage_for (kept_at runner s)) ≡ s
-rest_known runner stage.New e is = rw (sym is) refl
-rest_known runner (stage.Joined number) e is = rw (sym is) refl
-rest_known runner stage.Ended e is = rw (sym is) refl
+rest_known runner s e is = grind arith
 
 runner_known : (runner : Runner) (s : Stage) → runs.runner_for runner.key (kept_at runner s) ≡ runner
-runner_known runner stage.New = refl
-runner_known runner (stage.Joined number) = refl
-runner_known runner stage.Ended = refl
+runner_known runner s = grind arith
 
 module _ {W : Type 0} where
   -- the key of the runner

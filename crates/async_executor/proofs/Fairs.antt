@@ -7,11 +7,7 @@ use Rattle.async_executor.specs.Runs.Counts.{Counted, goes_on, more, anew, Count
 
 -- a count is what is left of how many were counted in all
 pub counts_more : (c : Counted) → goes_on c ≡ true → CountsEach c (more c) false
-counts_more c on n before =
-    let below : suc c.counted < c.limit = let on : c.counted + 1 < c.limit = ltb-true _ _ on in omega arith in
-    let left : suc n % c.limit ≡ suc c.counted = suc-mod n c.limit ∙ ap (λ k. suc k % c.limit) (sym before.1) ∙ mod-eq_of_lt below in
-    let some : suc n % c.limit ≡ 0 → ⊥ = (λ none. omega (arith, left, none)) in
-    ((refl, omega (arith, left)), sym (ne_eqb _ _ some))
+counts_more c on n before = grind (arith, ltb-true, suc-mod, mod-eq_of_lt, ne_eqb)
 
 pub counts_anew : (c : Counted) → c.counted < c.limit → goes_on c ≡ false → CountsEach c (anew c) true
 counts_anew c within full n before =

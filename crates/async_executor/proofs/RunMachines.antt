@@ -1,16 +1,15 @@
 -- What the machine of a run makes of what comes of a reply to a step.
-use Rattle.std.proofs.Common.{◌≡◌, ℕ, ◌+◌, ◌<◌, Bool, false, inl, inr, cond, Option, Some, None, refl, sym, ap, subst, ◌∙◌, arith}
-use Rattle.std.proofs.lemmas.Bool.{cases_Bool, eqb-true, eq-eqb, ne_eqb, cond-false, false≢true}
+use Rattle.std.proofs.Common.{◌≡◌, ℕ, ◌+◌, ◌<◌, Bool, false, cond, Option, Some, None, refl, sym, ap, subst, ◌∙◌, arith}
+use Rattle.std.proofs.lemmas.Bool.{cases_Bool, eqb-true, eq-eqb, ne_eqb, cond-false}
 use Rattle.std.specs.Prelude.{◌==◌}
 use Rattle.executor_core.specs.declared.interleave.ticker.Ticker.{Ticker}
-use Rattle.executor_core.specs.World.Tickers.{ended, left}
+use Rattle.executor_core.specs.World.Tickers.{left}
 use Rattle.async_executor.specs.Ticks.{Asked, asked_of, asked_of_spending}
 use Rattle.async_executor.specs.Ticks.Table as tick
 use Rattle.async_executor.specs.Ticks.Replies as replies
-use Rattle.async_executor.specs.Ticks.Replies.{actor_of, actor_after, departs, is_ran, is_seeking, runs, KeepsCourse, RunsNone, Waits}
+use Rattle.async_executor.specs.Ticks.Replies.{actor_of, actor_after, is_ran, is_seeking, runs, KeepsCourse, RunsNone, Waits}
 use Rattle.async_executor.specs.Ticks.Rows.{kept_of, kept_by, next_to, IsOver, IsRowOf, IsSpent}
 use Rattle.async_executor.specs.Runs.{RunAsked, AskTick, runner_of, store_asked, IsAsked}
-use Rattle.async_executor.specs.Runs.Counts.{goes_on, more, anew}
 use Rattle.async_executor.specs.Runs.Decisions.{decided, decision_to}
 use Rattle.async_executor.specs.Runs.Fairs.{HasFound, FindsIn}
 use Rattle.async_executor.specs.Runs.Replies.{decision, leaves}
@@ -27,24 +26,19 @@ use Rattle.async_executor.specs.declared.machine.run.RunState.TheVariants as sta
 use Rattle.async_executor.specs.declared.machine.run.Runner.{Runner}
 use Rattle.async_executor.specs.declared.machine.run_steps.Left.{Left}
 use Rattle.async_executor.specs.declared.machine.waiting.Came.{Came}
-use Rattle.async_executor.specs.declared.machine.waiting.Came.TheVariants.{Act, Rest, Run, End}
+use Rattle.async_executor.specs.declared.machine.waiting.Came.TheVariants.{Act, End}
 use Rattle.async_executor.specs.declared.machine.waiting.Spending.{Spending}
 use Rattle.async_executor.specs.declared.machine.waiting.TickAction.{TickAction}
-use Rattle.async_executor.specs.declared.machine.waiting.TickAction.TheVariants.{Search, Insert, Update, Store, Remove, StoreRemoved, Exchange, Notify, Wake}
 use Rattle.async_executor.specs.declared.machine.waiting.TickAction.TheVariants as action
-use Rattle.async_executor.specs.declared.machine.waiting.TickEnd.TheVariants.{Park, Yield, Return}
+use Rattle.async_executor.specs.declared.machine.waiting.TickEnd.TheVariants.{Return}
 use Rattle.async_executor.specs.declared.machine.waiting.TickReply.{TickReply}
-use Rattle.async_executor.specs.declared.machine.waiting.TickReply.TheVariants.{Begin, Dropped, Found, Empty, NoWaker, NoPlace, Inserted, Asleep, WasNotified, Unknown, Stored, RemovedIt, StoredRemoved, Exchanged, Notified, Woken, Ran}
 use Rattle.async_executor.specs.declared.machine.waiting.Waiting.{Waiting}
 use Rattle.async_executor.proofs.Decisions.{key_after}
 use Rattle.async_executor.proofs.Fairs.{counts_more, counts_anew}
 
 -- a turn in which no task is under way is kept as it is
 resting_count : (turn count : ℕ) → count < turn → count ≡ cond (count + 0 == turn) 0 (count + 0)
-resting_count turn count within =
-    let same : count ≡ count + 0 = omega arith in
-    let short : count + 0 ≡ turn → ⊥ = (λ full. omega arith) in
-    same ∙ sym (cond-false (count + 0 == turn) _ _ (ne_eqb _ _ short))
+resting_count turn count within = grind (arith, cond-false, ne_eqb)
 
 module _ {W : Type 0} where
   -- a row, and what its step makes of this ticker
@@ -56,104 +50,36 @@ module _ {W : Type 0} where
 
   -- an action that runs no task
   go_on_act : (asked : RunAsked) (k : Kept) (action : TickAction W) (kept : tick.Kept) (step : Ticker → Ticker) → runs action ≡ false → go_on asked k (tick.Ask action) kept step ≡ row asked (Ask (asks.Tick action)) (record k { tick = kept }) step
-  go_on_act asked k (Search again) kept step none = refl
-  go_on_act asked k Insert kept step none = refl
-  go_on_act asked k (Update number) kept step none = refl
-  go_on_act asked k (Store change) kept step none = refl
-  go_on_act asked k (Remove number) kept step none = refl
-  go_on_act asked k (StoreRemoved change) kept step none = refl
-  go_on_act asked k (Exchange notice) kept step none = refl
-  go_on_act asked k (Notify pick) kept step none = refl
-  go_on_act asked k (Wake wakeup) kept step none = refl
-  go_on_act asked k (action.Run taken) kept step none = absurd (cc)
+  go_on_act asked k action kept step none = grind arith
 
   runs_in_none : (action : TickAction W) → runs action ≡ false → runs_in (asks.Tick action) ≡ 0
-  runs_in_none (Search again) none = refl
-  runs_in_none Insert none = refl
-  runs_in_none (Update number) none = refl
-  runs_in_none (Store change) none = refl
-  runs_in_none (Remove number) none = refl
-  runs_in_none (StoreRemoved change) none = refl
-  runs_in_none (Exchange notice) none = refl
-  runs_in_none (Notify pick) none = refl
-  runs_in_none (Wake wakeup) none = refl
-  runs_in_none (action.Run taken) none = absurd (cc)
+  runs_in_none action none = grind arith
 
   finds_none : (fair n : ℕ) (machine : RunMachine) (action : TickAction W) → runs action ≡ false → HasFound fair n (runner_of machine) → FindsIn fair n (next.Act machine (asks.Tick action))
-  finds_none fair n machine (Search again) none before = before
-  finds_none fair n machine Insert none before = before
-  finds_none fair n machine (Update number) none before = before
-  finds_none fair n machine (Store change) none before = before
-  finds_none fair n machine (Remove number) none before = before
-  finds_none fair n machine (StoreRemoved change) none before = before
-  finds_none fair n machine (Exchange notice) none before = before
-  finds_none fair n machine (Notify pick) none before = before
-  finds_none fair n machine (Wake wakeup) none before = before
-  finds_none fair n machine (action.Run taken) none before = absurd (cc)
+  finds_none fair n machine action none before = grind arith
 
   -- the row of a run goes on from that of a tick, but after a task
   tick_table : (asked : Asked) (k : Kept) (reply : TickReply W) → is_ran reply ≡ false → table (AskTick asked) k (Tick reply) ≡ of_row k (tick.table asked k.tick reply)
-  tick_table asked k Begin goes = refl
-  tick_table asked k Dropped goes = refl
-  tick_table asked k (Found taken notice) goes = refl
-  tick_table asked k Empty goes = refl
-  tick_table asked k NoWaker goes = refl
-  tick_table asked k NoPlace goes = refl
-  tick_table asked k (Inserted number change) goes = refl
-  tick_table asked k Asleep goes = refl
-  tick_table asked k (WasNotified change) goes = refl
-  tick_table asked k Unknown goes = refl
-  tick_table asked k (Stored again) goes = refl
-  tick_table asked k (RemovedIt change) goes = refl
-  tick_table asked k (StoredRemoved notice) goes = refl
-  tick_table asked k (Exchanged pick) goes = refl
-  tick_table asked k (Notified wakeup) goes = refl
-  tick_table asked k Woken goes = refl
-  tick_table asked k Ran goes = absurd (cc)
+  tick_table asked k reply goes = grind arith
 
   same_row : (r : tick.Row W) (asked : Asked) (next : tick.Next W) (kept : tick.Kept) → asked ≡ r.answers → next ≡ r.next → kept ≡ r.kept → tick.row asked next kept r.step ≡ r
   same_row r asked next kept p q s = rw (p, q, s) refl
 
   pub run_asked : (came : Came Runner W) → Waits came → IsAsked (decision came)
-  run_asked (Act waiting action) is = ap AskTick is
-  run_asked (Rest at_rest end) is = sym is
-  run_asked (Run running) is = elim (cases_Bool (goes_on running.actor.found)) [ inl on ↦ rw on refl | inr off ↦ rw off refl ]
-  run_asked (End departed) is = refl
+  run_asked came is = grind (arith, cases_Bool)
 
   pub run_store : (came : Came Runner W) → store_asked (decision came) ≡ replies.store_asked came
-  run_store (Act waiting action) = refl
-  run_store (Rest at_rest end) = refl
-  run_store (Run running) = elim (cases_Bool (goes_on running.actor.found)) [ inl on ↦ rw on refl | inr off ↦ rw off refl ]
-  run_store (End departed) = refl
+  run_store came = grind (arith, cases_Bool)
 
   pub run_key : (came : Came Runner W) → key_after (decision came) ≡ (actor_after came).key
-  run_key (Act waiting action) = refl
-  run_key (Rest at_rest end) = refl
-  run_key (Run running) = elim (cases_Bool (goes_on running.actor.found)) [ inl on ↦ rw on refl | inr off ↦ rw off refl ]
-  run_key (End departed) = refl
+  run_key came = grind (arith, cases_Bool)
 
   run_seen : (came : Came Runner W) → ticker_after (decision came) ≡ replies.ticker_after (runner_in (actor_after came)) came
-  run_seen (Act waiting action) = refl
-  run_seen (Rest at_rest end) = refl
-  run_seen (Run running) = elim (cases_Bool (goes_on running.actor.found)) [ inl on ↦ rw on refl | inr off ↦ rw off refl ]
-  run_seen (End departed) = refl
+  run_seen came = grind (arith, cases_Bool)
 
   -- what comes of a reply to a step is the run's row over that of a tick
   came_row : (asked : RunAsked) (seeking : Bool) (kept : tick.Kept) (step : Ticker → Ticker) (t : Ticker) (came : Came Runner W) → Waits came → RunsNone came → KeepsCourse seeking came → replies.ticker_after (runner_in (actor_after came)) came ≡ step t → IsRowAt asked t (go_on asked (keeps (actor_after came) seeking None kept) (next_to came) (kept_by came) step) (decision came)
-  came_row asked seeking kept step t (Act waiting action) is none course seen =
-      subst (λ r. IsRowAt asked t r (decision (Act waiting action))) (sym (go_on_act asked (keeps (actor_of waiting) seeking None kept) action (kept_of waiting) step none))
-      (refl, refl, ap (λ s. keeps (actor_of waiting) s None (kept_of waiting)) course, run_seen (Act waiting action) ∙ seen)
-  came_row asked seeking kept step t (Rest at_rest Park) is none course seen =
-      (refl, refl, ap (λ s. keeps at_rest.actor s None (tick.keeps at_rest.number)) (sym course), run_seen (Rest at_rest Park) ∙ seen)
-  came_row asked seeking kept step t (Rest at_rest Yield) is none course seen =
-      (refl, refl, ap (λ s. keeps at_rest.actor s None (tick.keeps at_rest.number)) (sym course), run_seen (Rest at_rest Yield) ∙ seen)
-  came_row asked seeking kept step t (Rest at_rest Return) is none course seen = absurd (cc)
-  came_row asked seeking kept step t (Run running) is none course seen =
-      elim (cases_Bool (goes_on running.actor.found)) [
-        | inl on ↦ rw on (refl, refl, ap (λ s. keeps (record running.actor { found = more running.actor.found }) s None tick.nothing) (sym course), seen)
-        | inr off ↦ rw off (refl, refl, ap (λ s. keeps (record running.actor { found = anew running.actor.found }) s None (record tick.nothing { task = Some running.taken })) (sym course), seen)
-      ]
-  came_row asked seeking kept step t (End departed) is none course seen = (refl, refl, refl, ap ended seen)
+  came_row asked seeking kept step t came is none course seen = grind (arith, go_on_act, run_seen, cases_Bool)
 
   pub waiting_row : (waiting : Waiting Runner) (reply : TickReply W) (came : Came Runner W) (t : Ticker) → is_ran reply ≡ false → actor_after came ≡ actor_of waiting → Waits came → RunsNone came → KeepsCourse (is_seeking waiting) came → IsRowOf (asked_of waiting) (kept_of waiting) reply came → replies.ticker_after (runner_in (actor_of waiting)) came ≡ (tick.table (asked_of waiting) (kept_of waiting) reply).step t → IsRowAt (AskTick (asked_of waiting)) t (table (AskTick (asked_of waiting)) (kept_in (state.Waiting waiting)) (Tick reply)) (decision came)
   waiting_row waiting reply came t goes actor is none course its_row seen =
@@ -166,47 +92,24 @@ module _ {W : Type 0} where
 
   -- how many tasks of its turn are begun
   pub run_turn : (came : Came Runner W) → RunsNone came → (actor_after came).count.counted < (actor_after came).count.limit → TurnFrom (actor_after came).count.limit ((actor_after came).count.counted + 0) (decision came)
-  run_turn (Act waiting action) none within = (refl, within, rw (runs_in_none action none) (omega arith))
-  run_turn (Rest at_rest end) none within = (refl, within, resting_count _ _ within)
-  run_turn (Run running) none within =
-      elim (cases_Bool (goes_on running.actor.found)) [ inl on ↦ rw on (refl, within, omega arith) | inr off ↦ rw off (refl, within, omega arith) ]
-  run_turn (End departed) none within = (refl, within, resting_count _ _ within)
+  run_turn came none within = grind (arith, runs_in_none, resting_count, cases_Bool)
 
   -- of the tasks that a run finds, each so many-th makes a fair part due, and no other
   pub run_fair : (n : ℕ) (came : Came Runner W) → RunsNone came → (actor_after came).found.counted < (actor_after came).found.limit → HasFound (actor_after came).found.limit n (actor_after came) → FindsIn (actor_after came).found.limit n (decision came)
-  run_fair n (Act waiting action) none within before = finds_none _ n (record { state = state.Waiting waiting }) action none before
-  run_fair n (Rest at_rest end) none within before = before
-  run_fair n (Run running) none within before =
-      elim (cases_Bool (goes_on running.actor.found)) [
-        | inl on ↦ rw on (let each = counts_more running.actor.found on n before in (each.0, λ none. false≢true (each.1 ∙ eq-eqb _ _ none)))
-        | inr off ↦ rw off (let each = counts_anew running.actor.found within off n before in (each.0, eqb-true _ _ (sym each.1)))
-      ]
-  run_fair n (End departed) none within before = before
+  run_fair n came none within before = grind (arith, finds_none, cases_Bool, counts_more, eq-eqb, counts_anew, eqb-true)
 
 module _ {W : Type 0} where
   -- while the notice of its queue is spent a run stands still
   pub spending_row : (spending then : Spending) (left : Left) (reply : TickReply W) (action : TickAction W) → is_ran reply ≡ false → IsSpent (asked_of_spending spending) reply action → IsRow (record { state = state.PassingOn spending left }) (Tick reply) (next.Act (record { state = state.PassingOn then left }) (asks.Tick action))
-  spending_row spending then left reply action goes spent =
-      let asked = asked_of_spending spending in
-      let k = kept_in (state.PassingOn spending left) in
-      let its_row = spent.1 tick.nothing in
-      subst (IsRowTo (AskTick asked) action k) (sym (tick_table asked k reply goes))
-      (subst (λ r. IsRowTo (AskTick asked) action k (of_row k r)) (same_row (tick.table asked tick.nothing reply) asked (tick.Ask action) tick.nothing its_row.0 its_row.1 its_row.2)
-      (subst (IsRowTo (AskTick asked) action k) (sym (go_on_act (AskTick asked) k action tick.nothing (λ t. t) spent.0)) (refl, refl, refl)))
+  spending_row spending then left reply action goes spent = grind (arith, tick_table, same_row, go_on_act)
 
 module _ {W : Type 0} where
   -- a run that leaves the sleepers does what its row says
   pub leave_decided : (asked : RunAsked) (runner : Runner) (number : ℕ) (registered : Bool) (later : Option ℕ) (kept : tick.Kept) (step : Ticker → Ticker) → let r : Row W = leave asked (keeps runner registered later kept) number step in leaves (record { runner = runner; number = number }) ≡ decision_to runner.key r.next r.kept
-  leave_decided asked runner number registered later kept step =
-      elim (cases_Bool (number == 0)) [ inl awake ↦ rw awake refl | inr asleep ↦ rw asleep refl ]
+  leave_decided asked runner number registered later kept step = grind (arith, cases_Bool)
 
   over_decided_by : (k : Kept) (left : Left) (r : tick.Row W) → k ≡ keeps left.runner false (Some left.number) tick.nothing → tick.End Return ≡ r.next → leaves left ≡ decision_to left.runner.key (of_row k r).next (of_row k r).kept
-  over_decided_by k left r is over =
-      rw (is, sym over) (leave_decided (AskTick r.answers) left.runner left.number false (Some left.number) tick.nothing (λ t. t))
+  over_decided_by k left r is over = grind (arith, leave_decided)
 
   pub over_decided : (spending : Spending) (left : Left) (reply : TickReply W) → is_ran reply ≡ false → IsOver (asked_of_spending spending) reply → leaves left ≡ decided (record { state = state.PassingOn spending left }) (Tick reply)
-  over_decided spending left reply goes over =
-      let asked = asked_of_spending spending in
-      let k = kept_in (state.PassingOn spending left) in
-      subst (λ r. leaves left ≡ decision_to left.runner.key r.next r.kept) (sym (tick_table asked k reply goes))
-      (over_decided_by k left (tick.table asked tick.nothing reply) refl over.1)
+  over_decided spending left reply goes over = grind (arith, tick_table, over_decided_by)
