@@ -111,14 +111,14 @@ where
     ShardedExecutor::new(rt.clone().ok()?, alloc, shards).ok()
 }
 
-// Spawns so many tasks on the shard of this number, and polls its run until every thread has spawned and
-// all shards are empty. `None` if there is no such shard, or memory is refused.
+// Spawns so many tasks on the shard of this number, and polls its run until that shard is empty, and those
+// of the other threads are. `None` if there is no such shard, or memory is refused.
 fn run_all<R: Wait + Clone + Drop + Send + Sync>(
     rt: &R,
     ex: &ShardedExecutor<Yields, IdleShard, R>,
     number: usize,
     spawns: u64,
-    begun: &AtomicU64,
+    ended: &AtomicU64,
 ) -> Option<()> {
     if number >= ex.shards() {
         return None;
@@ -127,13 +127,20 @@ fn run_all<R: Wait + Clone + Drop + Send + Sync>(
     for _ in 0..spawns {
         shard.spawn(Yields::READY).ok()?.detach();
     }
-    begun.fetch_add(1, Ordering::SeqCst);
     let mut run = ex.run(number, Never).ok()?;
     for _ in rt.forever() {
         run.poll(&IdleShard);
-        if shard.is_empty() && begun.load(Ordering::SeqCst) == ex.shards() as u64 && ex.is_empty() {
+        if shard.is_empty() {
             break;
         }
+    }
+    // Who asked the other shards would take their locks again and again, and be measured too.
+    ended.fetch_add(1, Ordering::SeqCst);
+    for _ in rt.forever() {
+        if ended.load(Ordering::SeqCst) == ex.shards() as u64 {
+            break;
+        }
+        run.poll(&IdleShard);
     }
     Some(())
 }
@@ -144,8 +151,8 @@ fn on_threads<R: Wait + Clone + Drop + Send + Sync + Threads>(
     ex: &ShardedExecutor<Yields, IdleShard, R>,
     spawns: u64,
 ) -> Option<()> {
-    let begun = AtomicU64::new(0);
-    let told = &begun;
+    let ended = AtomicU64::new(0);
+    let told = &ended;
     thread::scope(thread::scope_env(), rt, |scope| {
         for number in 1..ex.shards() {
             let _ = scope.spawn(move || run_all(rt, ex, number, spawns, told));
