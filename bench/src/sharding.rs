@@ -111,8 +111,8 @@ where
     ShardedExecutor::new(rt.clone().ok()?, alloc, shards).ok()
 }
 
-// Spawns so many tasks on the shard of this number, and polls its run until that shard is empty, and those
-// of the other threads are. `None` if there is no such shard, or memory is refused.
+// Spawns so many tasks on the shard of this number, and polls its run until that shard and those of the
+// other threads are empty. `None` if there is no such shard, or memory is refused.
 fn run_all<R: Wait + Clone + Drop + Send + Sync>(
     rt: &R,
     ex: &ShardedExecutor<Yields, IdleShard, R>,
@@ -134,7 +134,7 @@ fn run_all<R: Wait + Clone + Drop + Send + Sync>(
             break;
         }
     }
-    // Who asked the other shards would take their locks again and again, and be measured too.
+    // Each thread asks its own shard alone: to ask the others again and again would take their locks.
     ended.fetch_add(1, Ordering::SeqCst);
     for _ in rt.forever() {
         if ended.load(Ordering::SeqCst) == ex.shards() as u64 {
