@@ -230,6 +230,32 @@ fn a_thread_that_waits_parks(rt: HostRuntime) -> Result<(), Fail> {
     Ok(())
 }
 
+// A thread that was woken before parks, maybe with a timeout, which ends at once, and then waits for a future.
+// Says whether it parks for that.
+fn parks_anew<R: AllocGlobal + Wait + Threads + Clone + Drop + Send + Sync>(
+    rt: &R,
+    is_timed: bool,
+) -> Result<bool, Fail> {
+    let waker = ThreadWaker::new(rt.alloc())?;
+    let mine = waker.copy()?;
+    mine.wake();
+    if is_timed {
+        waker.park_timeout(rt, Duration::from_secs(1_000));
+    } else {
+        waker.park(rt);
+    }
+    let future = Second { is_polled: false };
+    let ((), waited) = call_beside(rt, || waker.block_on(rt, future), || mine.wake());
+    Ok(waited)
+}
+
+#[test]
+fn a_wake_ends_one_wait(rt: HostRuntime) -> Result<(), Fail> {
+    assert!(rt; parks_anew(&rt, false)?);
+    assert!(rt; parks_anew(&rt, true)?);
+    Ok(())
+}
+
 // Whether a driver takes memory for its waker alone, since there is a place for it.
 fn has_place<R: AllocGlobal + Wait + Clone + Drop>(rt: &R, timer: &Still<R>) -> bool {
     refuse(rt.alloc(), 2);

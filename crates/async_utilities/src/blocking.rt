@@ -3,11 +3,11 @@ ghost use Rattle.std.specs.Prelude.{◌≡◌, IfErr};
 ghost use Rattle.async_executor.specs.RunError.{run_future};
 ghost use Rattle.async_utilities.specs.Polls.{Gives};
 
+use crate::token::Token;
 use async_executor::{Executor, Future, OutOfMemory, Poll, RunError, TaskWaker, Wake};
 use std::alloc::{AllocError, Global};
 use std::fmt::{self, Debug, Formatter, Write};
 use std::sync::{Arc, Wait};
-use std::thread::Parker;
 use std::time::Duration;
 use thiserror::Error;
 
@@ -28,7 +28,7 @@ use thiserror::Error;
 /// ```
 #[derive(Drop)]
 pub struct ThreadWaker {
-    parker: Arc<Parker>,
+    token: Arc<Token>,
 }
 
 impl ThreadWaker {
@@ -41,23 +41,24 @@ impl ThreadWaker {
     /// Example: `uses::reuses`, at `ThreadWaker`.
     pub fn new(alloc: Global) -> Result<ThreadWaker, AllocError> {
         Ok(ThreadWaker {
-            parker: Arc::new(alloc, Parker::new())?,
+            token: Arc::new(alloc, Token::new())?,
         })
     }
 
     /// Parks this thread until the waker, or a copy of it, is woken. It returns at once if that
-    /// happened since the last time.
+    /// happened since the last time. Before the thread sleeps it spins for some microseconds, since a wake
+    /// often comes sooner than a thread could fall asleep.
     ///
     /// Example: `uses::parks`.
     pub fn park<R: Wait>(&self, rt: &R) {
-        self.parker.park(rt);
+        self.token.take(rt);
     }
 
     /// Parks this thread as `park` does, but no longer than this. It may return before.
     ///
     /// Example: `uses::dozes`.
     pub fn park_timeout<R: Wait>(&self, rt: &R, duration: Duration) {
-        self.parker.park_timeout(rt, duration);
+        self.token.take_in_time(rt, duration);
     }
 
     /// Polls the future on this thread until it is ready, and gives its output. The thread parks while
@@ -73,12 +74,12 @@ impl ThreadWaker {
 
 impl Wake for ThreadWaker {
     fn wake(&self) {
-        self.parker.unpark();
+        self.token.leave();
     }
 
     fn copy(&self) -> Result<Self, OutOfMemory> {
-        let parker = Arc::try_clone(&self.parker)?;
-        Ok(ThreadWaker { parker })
+        let token = Arc::try_clone(&self.token)?;
+        Ok(ThreadWaker { token })
     }
 }
 

@@ -23,6 +23,7 @@ pub mod pooling;
 pub mod signals;
 pub mod spawning;
 pub mod timers;
+pub(crate) mod token;
 pub mod unblocking;
 pub(crate) mod wait_queue;
 
