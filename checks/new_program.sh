@@ -42,11 +42,12 @@ runs() {
         cat "$copy/log"
 }
 
-# Makes a command rt whose `lib` proves nothing, and ends with this status. It keeps where that was called.
+# Makes a command rt that takes each name, and whose `lib` proves nothing, and ends with this status. It keeps
+# where that was called.
 make_rt() {
     cat > "$copy/rt" <<END
 #!/bin/sh
-[ "\$1" = lib ] || exec "$(command -v "$rt")" "\$@"
+[ "\$1" = lib ] || exit 0
 pwd > "$copy/place"
 exit $1
 END
@@ -113,6 +114,6 @@ done
 compare 'the name of what rt makes' refuses "a folder 'out'" new out
 RT=/none/rt compare 'no command rt' refuses 'there is no command' new
 blocks=8
-compare 'a disk that is full' refuses 'cannot be written' new
-compare 'a disk that is full, and an empty folder' refuses 'cannot be written' bare
+RT=$copy/rt compare 'a disk that is full' refuses 'cannot be written' new
+RT=$copy/rt compare 'a disk that is full, and an empty folder' refuses 'cannot be written' bare
 count
