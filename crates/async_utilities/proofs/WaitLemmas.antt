@@ -1,13 +1,13 @@
 -- Those who wait, when one place changes.
 use Rattle.std.proofs.Common.{◌≡◌, ◌≢◌, ◌==◌, ◌⊎◌, ℕ, zero, suc, ◌+◌, ◌<◌, ◌≤◌, List, [], ◌∷◌, ◌++◌, length, Bool, true, false, Option, Some, None, cond, count_by, is_some, slice_get, get_or, get_or-set_same, get_or-set_other, refl, sym, ap, ◌∙◌, subst, inl, inr, arith, add-zero}
 use Rattle.std.specs.List.{sum_by}
-use Rattle.std.proofs.lemmas.Bool.{cases_eq, cases_lt}
+use Rattle.std.proofs.lemmas.Bool.{cases_eq, cases_lt, cond-true, cond-false}
 use Rattle.std.proofs.lemmas.List.{get_or_past}
 use Rattle.std.proofs.lemmas.List.Sums.{get_or-le-sum_by, sum_by-cons, sum_by-le-sum_by}
 use Rattle.std.proofs.lemmas.Option.{none-some, same_Some}
 use Rattle.slab.specs.Slab.{Slab, Updates, get, slab_len, with_value}
 use Rattle.async_utilities.specs.Links.{IsApart, IsIn, Order, without}
-use Rattle.async_utilities.specs.WaitQueue.{Comes, IsQueue, Moves, Steps, Waiters, is_notified, is_waiting, waiters_of}
+use Rattle.async_utilities.specs.WaitQueue.{Comes, IsQueue, Moves, Steps, Waiters, WaitsAt, is_notified, is_waiting, waiters_of, waker_of}
 use Rattle.async_utilities.specs.declared.wait_queue.Place.{Place}
 use Rattle.async_utilities.specs.declared.wait_queue.Place.TheVariants.{Idle, Waiting, Notified}
 use Rattle.async_utilities.proofs.LinkLemmas.{apart_push, apart_without, in_push, in_without, last_in, not_in_without, stays_push, stays_without, without_absent}
@@ -117,6 +117,70 @@ module _ {W : Type 0} where
     pub beside_queue : order'.keys ≡ order.keys → order.limit ≤ order'.limit → (is_some now ≡ true → key < order'.limit) → is_waiting (get places key) ≡ false → is_waiting now ≡ false → notified' + cond (is_notified (get places key)) 1 0 ≡ notified + cond (is_notified now) 1 0 → IsQueue places' order' notified'
     beside_queue keys grows fits idle not_now counted = grind (arith, changed_queue, absent)
 
+  -- one that does not wait is not among those that do
+  pub not_waiting : (places : Slab (Place W)) (order : Order) (notified key : ℕ) → IsQueue places order notified → is_waiting (get places key) ≡ false → ¬ IsIn key order.keys
+  not_waiting places order notified key queue idle found = absurd (cc (queue.waits key found))
+
+  -- one that waits leaves another waker
+  pub waited_queue : (places : Slab (Place W)) (order : Order) (notified key : ℕ) (earlier waker : W) (now : Place W) → IsQueue places order notified → get places key ≡ Some (Waiting earlier) → now ≡ Waiting waker → IsQueue (with_value places key now) order notified
+  waited_queue places order notified key earlier waker now queue there is =
+      changed_queue places (with_value places key now) order order notified notified key (Some now) queue (set_updates places key (Waiting earlier) now there)
+      (omega arith) (λ _. queue.within key (ap is_some there)) (λ _ _ found. found) (λ _ _ found. found)
+      (λ _. ap (λ p. is_waiting (Some p)) is) (λ _. queue.linked key (ap is_waiting there)) queue.apart
+      (counted_by false false notified notified (ap is_notified there) (ap (λ p. is_notified (Some p)) is) refl)
+
+  -- its turn stays, and the earlier waker comes out
+  pub waits_on : (places : Slab (Place W)) (order : Order) (notified key : ℕ) (earlier waker : W) (now : Place W) → get places key ≡ Some (Waiting earlier) → now ≡ Waiting waker → WaitsAt (waiters_of places order notified) key waker (Some earlier) (waiters_of (with_value places key now) order notified)
+  waits_on places order notified key earlier waker now there is =
+      let updates = set_updates places key (Waiting earlier) now there in (
+        λ _. (
+          record {
+            changed = updates.changed ∙ ap Some is;
+            others = updates.others;
+            waits = sym (cond-true _ _ _ (ap is_waiting there));
+            counted = ap (λ p. notified + cond (is_notified p) 1 0) there;
+          },
+          sym (ap waker_of there),
+        ),
+        λ none. absurd (none-some (Waiting earlier) (sym none ∙ there)),
+      )
+
+  -- one that did not wait stands behind all others
+  pub waits_behind : (places : Slab (Place W)) (order order' : Order) (notified notified' key : ℕ) (was now : Place W) (waker : W) → get places key ≡ Some was → now ≡ Waiting waker → waker_of (Some was) ≡ None → notified' + cond (is_notified (Some was)) 1 0 ≡ notified → order' ≡ record order { keys = order.keys ++ key ∷ [] } → WaitsAt (waiters_of places order notified) key waker None (waiters_of (with_value places key now) order' notified')
+  waits_behind places order order' notified notified' key was now waker there is silent counted enters =
+      let updates = set_updates places key was now there in (
+        λ _. (
+          record {
+            changed = updates.changed ∙ ap Some is;
+            others = updates.others;
+            waits = ap (λ (o : Order). o.keys) enters ∙ sym (cond-false _ _ _ (ap is_waiting there ∙ ap is_some silent));
+            counted = ap (λ p. notified' + cond (is_notified p) 1 0) there ∙ counted ∙ sym (add-zero notified);
+          },
+          sym (ap waker_of there ∙ silent),
+        ),
+        λ none. absurd (none-some was (sym none ∙ there)),
+      )
+
+  -- one that did not wait keeps its place
+  pub came_queue : (places : Slab (Place W)) (order : Order) (notified notified' key : ℕ) (was now : Place W) → IsQueue places order notified → get places key ≡ Some was → now ≡ Idle → is_waiting (Some was) ≡ false → notified' + cond (is_notified (Some was)) 1 0 ≡ notified → IsQueue (with_value places key now) order notified'
+  came_queue places order notified notified' key was now queue there idle waits counted =
+      beside_queue places (with_value places key now) order order notified notified' key (Some now) queue (set_updates places key was now there)
+      refl (omega arith) (λ _. queue.within key (ap is_some there)) (ap is_waiting there ∙ waits) (ap (λ p. is_waiting (Some p)) idle)
+      (ap (λ p. notified' + cond (is_notified p) 1 0) there ∙ counted ∙ sym (ap (λ p. notified + cond (is_notified (Some p)) 1 0) idle ∙ add-zero notified))
+
+  -- one that waited comes from its place, which it keeps
+  pub went_comes : (places : Slab (Place W)) (order order' : Order) (notified key : ℕ) (waker : W) (now : Place W) → get places key ≡ Some (Waiting waker) → now ≡ Idle → order' ≡ record order { keys = without key order.keys } → Comes (waiters_of places order notified) key (waiters_of (with_value places key now) order' notified)
+  went_comes places order order' notified key waker now there idle goes =
+      let updates = set_updates places key (Waiting waker) now there in (
+        λ _. record {
+          changed = updates.changed ∙ ap Some idle;
+          others = updates.others;
+          waits = ap (λ (o : Order). o.keys) goes;
+          counted = ap (λ p. notified + cond (is_notified p) 1 0) there;
+        },
+        λ none. absurd (none-some (Waiting waker) (sym none ∙ there)),
+      )
+
   -- one that is notified is counted
   pub counts_one : (places : Slab (Place W)) (order : Order) (notified key : ℕ) → IsQueue places order notified → get places key ≡ Some Notified → 1 ≤ notified
   counts_one places order notified key queue there = grind (arith, cases_lt, none-some, get_or_past, get_or-le-sum_by)
@@ -177,6 +241,20 @@ module _ {W : Type 0} (places places' : Slab (Place W)) (order : Order) (notifie
     others = updates.others;
     waits = sym (stays_waiting places order notified key queue idle);
     counted = counted ∙ sym (add-zero notified);
+  }
+
+  pub left_queue : is_waiting (get places key) ≡ false → notified' + cond (is_notified (get places key)) 1 0 ≡ notified → IsQueue places' order notified'
+  left_queue idle counted =
+      beside_queue places places' order order notified notified' key None queue updates
+      refl (omega arith) (λ none. absurd (cc)) idle refl (counted ∙ sym (add-zero notified))
+
+  -- one that waited gives its place back
+  pub went_moves : (order' : Order) (waker : W) → get places key ≡ Some (Waiting waker) → order' ≡ record order { keys = without key order.keys } → Moves (waiters_of places order notified) (waiters_of places' order' notified) key None (without key order.keys)
+  went_moves order' waker there goes = record {
+    changed = updates.changed;
+    others = updates.others;
+    waits = ap (λ (o : Order). o.keys) goes;
+    counted = ap (λ p. notified + cond (is_notified p) 1 0) there;
   }
 
 pub first_in : (keys : List ℕ) (key : ℕ) → Some key ≡ slice_get keys 0 → IsIn key keys

@@ -104,7 +104,10 @@ where
     ) -> Result<Done, PoolError>
         ensures refused { IfErr result (λ error. error ≢ NoThread) }
     {
-        thread.until_ready(self.run(stopped)?)
+        match self.run(stopped) {
+            Ok(run) => thread.until_ready(run),
+            Err(refused) => Err(PoolError::from(refused)),
+        }
     }
 }
 

@@ -166,9 +166,15 @@ impl<J: Drop, R: Wait + Clone + Drop> Spawner<J, R> {
     pub fn spawn(&self, job: J) -> Result<(), Unsent<J>>
         ensures back { IfErr result (λ failed. unsent failed ≡ job) }
     {
-        let due = jobs!(&self.desk).give(job)?;
-        due.wake();
-        Ok(())
+        // Not in the head of the match, which would keep the lock while a server is woken.
+        let given = jobs!(&self.desk).give(job);
+        match given {
+            Ok(due) => {
+                due.wake();
+                Ok(())
+            }
+            Err(unsent) => Err(unsent),
+        }
     }
 }
 
