@@ -51,14 +51,14 @@ impl ThreadWaker {
     ///
     /// Example: `uses::parks`.
     pub fn park<R: Wait>(&self, rt: &R) {
-        self.token.take(rt);
+        self.token.park(rt);
     }
 
     /// Parks this thread as `park` does, but no longer than this. It may return before.
     ///
     /// Example: `uses::dozes`.
     pub fn park_timeout<R: Wait>(&self, rt: &R, duration: Duration) {
-        self.token.take_in_time(rt, duration);
+        self.token.park_timeout(rt, duration);
     }
 
     /// Polls the future on this thread until it is ready, and gives its output. The thread parks while
@@ -74,7 +74,7 @@ impl ThreadWaker {
 
 impl Wake for ThreadWaker {
     fn wake(&self) {
-        self.token.leave();
+        self.token.unpark();
     }
 
     fn copy(&self) -> Result<Self, OutOfMemory> {

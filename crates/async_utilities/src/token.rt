@@ -45,14 +45,14 @@ impl Token {
     }
 
     /// Leaves this `Token`, if it is not there, and wakes the thread if it sleeps.
-    pub(crate) fn leave(&self) {
+    pub(crate) fn unpark(&self) {
         if self.state.swap(NOTIFIED, Ordering::SeqCst) == PARKED {
             self.parker.unpark();
         }
     }
 
     /// Takes this `Token`. The thread sleeps until it is there.
-    pub(crate) fn take<R: Wait>(&self, rt: &R) {
+    pub(crate) fn park<R: Wait>(&self, rt: &R) {
         for _ in 0..LOOKS {
             if self.state.load(Ordering::SeqCst) == NOTIFIED {
                 break;
@@ -71,7 +71,7 @@ impl Token {
 
     /// Takes this `Token`, if it is there. The thread sleeps until then, but no longer than this, and maybe
     /// not so long.
-    pub(crate) fn take_in_time<R: Wait>(&self, rt: &R, duration: Duration) {
+    pub(crate) fn park_timeout<R: Wait>(&self, rt: &R, duration: Duration) {
         if self.exchange(EMPTY, PARKED) {
             self.parker.park_timeout(rt, duration);
         }
