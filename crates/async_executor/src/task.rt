@@ -100,7 +100,7 @@ impl<S: Storage> TaskIn<S> {
 #[cold]
 #[inline(never)]
 fn detach_ended<S: Storage>(storage: &S, id: TaskId) {
-    drop(take_ended(storage, id));
+    drop(wait_and_take_ended(storage, id));
 }
 
 impl<S: Storage> Future<S::Waker> for TaskIn<S> {
@@ -115,10 +115,13 @@ impl<S: Storage> Future<S::Waker> for TaskIn<S> {
         if self.answered {
             return Poll::Ready(Err(Cancelled));
         }
-        if let Some((output, _)) = take_ended(&self.storage, self.id) {
+        let cells = cells!(self.storage.state());
+        if cells.is_ended(self.id) {
             self.answered = true;
+            let (output, _) = take_ended(&self.storage, cells, self.id);
             return Poll::Ready(output.ok_or(Cancelled));
         }
+        drop(cells);
         // Only now: an answer needs no copy, which may be refused. No lock is held.
         let Ok(waker) = w.copy() else {
             w.wake();

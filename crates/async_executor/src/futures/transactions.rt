@@ -114,22 +114,20 @@ fn is_unscheduled<W>(cells: &Cells<(), (), W>) -> bool {
     true
 }
 
-/// Ends the handle of a task that has ended. The output comes out, if there is one, and a waker
-/// that was left. `None` says that the task has not ended.
+/// Ends the handle of a task that has ended, as the table says. The output comes out, if there is one, and a
+/// waker that was left.
 #[inline(always)]
 pub(crate) fn take_ended<S: Storage>(
     storage: &S,
+    cells: MutexGuard<'_, Cells<(), (), S::Waker>>,
     id: TaskId,
-) -> Option<(Option<OutputIn<S>>, Option<S::Waker>)> {
-    let mut cells = cells!(storage.state());
-    if !cells.is_ended(id) {
-        return None;
-    }
+) -> (Option<OutputIn<S>>, Option<S::Waker>) {
+    let mut cells = cells;
     // Others wait for the table while they have the futures, so nobody waits for those here.
     if let Some(mut futures) = storage.try_futures() {
-        return Some(futures.get().take_ended(&mut cells, id));
+        return futures.get().take_ended(&mut cells, id);
     }
-    Some(give_up_and_take_ended(storage, cells, id))
+    give_up_and_take_ended(storage, cells, id)
 }
 
 // Gives the table up, and ends the handle once the futures are free. It is inline around the call, so that
