@@ -5,7 +5,7 @@
 mod accounts;
 
 use accounts::{ACCOUNTS, Accounts};
-use async_executor::{Future, LocalExecutor, LocalTask, Poll, TaskWaker};
+use async_executor::{Future, LocalExecutor, Poll, TaskWaker};
 use async_utilities::{Interval, ThreadWaker, Timer};
 use std::alloc::Global;
 use std::cell::{Cell, RefCell};
@@ -32,44 +32,48 @@ impl Clock for StillClock {
     }
 }
 
-/// Has money moved at each visit. Gives how many of these transfers were refused.
+/// The accounts, and how many transfers between them were refused.
+#[derive(Drop)]
+struct Ledger {
+    accounts: RefCell<Accounts>,
+    refused: Cell<u64>,
+}
+
+/// Has money moved at each visit.
 #[derive(Drop)]
 struct Customer<R: Wait + Clone + Drop> {
-    accounts: Rc<RefCell<Accounts>>,
+    ledger: Rc<Ledger>,
     visits: Interval<TaskWaker<ThreadWaker, R>, R>,
     number: usize,
     come: usize,
-    refused: u64,
 }
 
 impl<R: Wait + Clone + Drop> Future<TaskWaker<ThreadWaker, R>> for Customer<R> {
-    type Output = u64;
+    type Output = ();
 
-    fn poll(&mut self, w: &TaskWaker<ThreadWaker, R>) -> Poll<u64> {
+    fn poll(&mut self, w: &TaskWaker<ThreadWaker, R>) -> Poll<()> {
         for visit in self.come..VISITS {
             let Poll::Ready(_) = self.visits.poll_next(w) else {
                 return Poll::Pending;
             };
             self.come = visit + 1;
-            let Ok(mut accounts) = self.accounts.try_borrow_mut() else {
+            let Ok(mut accounts) = self.ledger.accounts.try_borrow_mut() else {
                 continue;
             };
             let to = self.number.wrapping_mul(visit) % ACCOUNTS;
             if !accounts.transfer(self.number % ACCOUNTS, to, 20) {
-                self.refused = self.refused.saturating_add(1);
+                let refused = &self.ledger.refused;
+                refused.set(refused.get().saturating_add(1));
             }
         }
-        Poll::Ready(self.refused)
+        Poll::Ready(())
     }
 }
 
-/// The task of a customer.
-type Visitor<R> = LocalTask<Customer<R>, ThreadWaker, R>;
-
-/// The accounts, the executor that the customers run on, and the timer that they wait for.
+/// The ledger, the executor that the customers run on, and the timer that they wait for.
 #[derive(Drop)]
 struct Bank<R: Wait + Clone + Drop> {
-    accounts: Rc<RefCell<Accounts>>,
+    ledger: Rc<Ledger>,
     time: Rc<Cell<Duration>>,
     timer: Timer<TaskWaker<ThreadWaker, R>, StillClock, R>,
     executor: LocalExecutor<Customer<R>, ThreadWaker, R>,
@@ -77,9 +81,13 @@ struct Bank<R: Wait + Clone + Drop> {
 
 impl<R: Wait + Clone + Drop> Bank<R> {
     fn open(rt: &R, alloc: Global) -> io::Result<Bank<R>> {
+        let ledger = Ledger {
+            accounts: RefCell::new(Accounts::open(100)),
+            refused: Cell::new(0),
+        };
         let time = Rc::new(alloc, Cell::new(Duration::ZERO))?;
         Ok(Bank {
-            accounts: Rc::new(alloc, RefCell::new(Accounts::open(100)))?,
+            ledger: Rc::new(alloc, ledger)?,
             timer: Timer::new(rt.clone()?, StillClock(time.clone()?), alloc)?,
             executor: LocalExecutor::new(rt.clone()?, alloc)?,
             time,
@@ -87,20 +95,18 @@ impl<R: Wait + Clone + Drop> Bank<R> {
     }
 
     /// Spawns a task for each customer.
-    fn spawn_customers(&self, alloc: Global) -> io::Result<Vec<Visitor<R>>> {
-        let mut tasks = Vec::new(alloc);
+    fn spawn_customers(&self) -> io::Result<()> {
         for number in 0..CUSTOMERS {
             let period = Duration::from_secs(60 * (number as u64 + 1));
             let customer = Customer {
-                accounts: self.accounts.clone()?,
+                ledger: self.ledger.clone()?,
                 visits: self.timer.interval(period)?,
                 number,
                 come: 0,
-                refused: 0,
             };
-            tasks.push(self.executor.spawn(customer)?)?;
+            self.executor.spawn(customer)?.detach();
         }
-        Ok(tasks)
+        Ok(())
     }
 
     /// Runs the customers' tasks, and moves the time on whenever none can go on, until none waits any more.
@@ -121,24 +127,18 @@ impl<R: Wait + Clone + Drop> Bank<R> {
     }
 }
 
-/// Simulates all visits, and prints what came of them.
-fn simulate<R>(rt: &R, alloc: Global, bank: &Bank<R>) -> io::Result<()>
-where
-    R: Wait + Print + Clone + Drop,
-{
-    let tasks = bank.spawn_customers(alloc)?;
+/// Simulates all visits. Gives how many minutes they took, how many transfers were refused, and how much
+/// money is in all accounts.
+fn simulate<R: Wait + Clone + Drop>(rt: &R, alloc: Global) -> io::Result<(u64, u64, u64)> {
+    let bank = Bank::open(rt, alloc)?;
+    bank.spawn_customers()?;
     bank.run(rt)?;
-    let waker = ThreadWaker::new(alloc)?;
-    let mut refused = 0u64;
-    for task in tasks {
-        refused = refused.saturating_add(waker.block_on(rt, task)?);
-    }
     let minutes = bank.time.get().as_secs() / 60;
-    let total = bank.accounts.try_borrow()?.total();
-    println!(rt; "{minutes} minutes, {refused} transfers refused, {total} in all accounts")
+    let total = bank.ledger.accounts.try_borrow()?.total();
+    Ok((minutes, bank.ledger.refused.get(), total))
 }
 
 fn main(rt: HostRuntime) -> io::Result<()> {
-    let bank = Bank::open(&rt, rt.alloc())?;
-    simulate(&rt, rt.alloc(), &bank)
+    let (minutes, refused, total) = simulate(&rt, rt.alloc())?;
+    println!(rt; "{minutes} minutes, {refused} transfers refused, {total} in all accounts")
 }
