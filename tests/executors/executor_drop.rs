@@ -1,7 +1,7 @@
 //! An executor that is dropped drops the futures of its tasks.
 use crate::tests::support::running::future::Kind::{LeavesWaker, Never, Ready as ReadyKind};
 use crate::tests::support::running::future::{Ready, Until, WakerPlace};
-use crate::tests::support::running::halt::{Halt, TURNS};
+use crate::tests::support::running::halt::Halt;
 use crate::tests::support::running::line::Answer::{Cancelled as IsCancelled, Gone, Output, Pending};
 use crate::tests::support::running::line::Line;
 use crate::tests::support::running::line::Line::{
@@ -12,6 +12,7 @@ use crate::tests::support::running::player::{play, play_once};
 use crate::tests::support::running::record::Moment::{FutureDrop, FuturePoll, OutputDrop, WakerWake};
 use crate::tests::support::running::record::Record;
 use crate::tests::support::running::task::{FutureWaker, TaskFuture, TestExecutor, spawned};
+use crate::tests::support::running::waiting::turns;
 use crate::tests::support::running::waker::TestWaker;
 use async_executor::{Cancelled, Executor, LocalExecutor, Task};
 use executor_core::task::{Future, Poll, Wake};
@@ -173,7 +174,7 @@ type Numbers<R> = Executor<Ready<u64>, TestWaker, R>;
 
 // Waits until the number is so large, and says whether it was so in time.
 fn is_reached(number: &AtomicU64, all: u64) -> bool {
-    for _ in 0..TURNS {
+    for _ in 0..turns() {
         if number.load(Ordering::SeqCst) >= all {
             return true;
         }
@@ -190,7 +191,7 @@ fn is_woken<R: Wait + Clone + Drop + Send + Sync>(
 ) -> bool {
     let is_pending = task.poll(waker) == Poll::Pending;
     awaiting.fetch_add(1, Ordering::SeqCst);
-    for _ in 0..TURNS {
+    for _ in 0..turns() {
         if waker.record().times(WakerWake) > 0 {
             return is_pending && task.poll(waker) == Poll::Ready(Err(Cancelled));
         }

@@ -1,8 +1,9 @@
 //! Executors that several threads use with no order between them.
 use crate::tests::support::running::future::{Kind, WakerPlace};
-use crate::tests::support::running::halt::{Halt, TURNS};
+use crate::tests::support::running::halt::Halt;
 use crate::tests::support::running::record::{Moment, Record};
 use crate::tests::support::running::task::{FutureWaker, TaskFuture, spawned};
+use crate::tests::support::running::waiting::turns;
 use crate::tests::support::running::waker::TestWaker;
 use async_executor::executor::{Executor, Task};
 use executor_core::task::{Future, Poll};
@@ -109,7 +110,7 @@ impl<R: Wait + Clone + Drop + Send + Sync> Fixture<R> {
             give_up(task, i % 2 == 0);
             self.ex.try_tick();
         }
-        for _ in 0..TURNS {
+        for _ in 0..turns() {
             if self.record.times(Moment::FutureDrop) >= all {
                 return;
             }
@@ -121,7 +122,7 @@ impl<R: Wait + Clone + Drop + Send + Sync> Fixture<R> {
 
     // Spawns tasks and gives them up, and lets the other thread go on after each spawn.
     fn spawns_beside(&self) {
-        for _ in 0..TURNS {
+        for _ in 0..turns() {
             let Some(task) = self.task(Kind::Never) else {
                 return;
             };
@@ -161,7 +162,7 @@ fn awaited<R: Wait + Clone + Drop + Send + Sync>(
     task: &mut TestTask<R>,
     waker: &TestWaker,
 ) -> Option<u64> {
-    for _ in 0..TURNS {
+    for _ in 0..turns() {
         match task.poll(waker) {
             Poll::Pending => yield_now(),
             Poll::Ready(Ok(output)) => return Some(output.number),

@@ -1,7 +1,6 @@
 //! Runs on several threads, which share the tasks of one executor.
 use crate::tests::support::running::future::Kind::{Never, Ready};
 use crate::tests::support::running::future::{Until, WakerPlace};
-use crate::tests::support::running::halt::TURNS;
 use crate::tests::support::running::line::Answer::Pending;
 use crate::tests::support::running::line::Line::{
     Count, HaltAt, MakeRun, Poll as PollBy, PollHalts, Returns, Spawn, Tick,
@@ -9,6 +8,7 @@ use crate::tests::support::running::line::Line::{
 use crate::tests::support::running::player::play;
 use crate::tests::support::running::record::{AtDrop, Moment, Record};
 use crate::tests::support::running::task::{FutureWaker, spawned};
+use crate::tests::support::running::waiting::turns;
 use crate::tests::support::running::waker::TestWaker;
 use async_executor::executor::Executor;
 use executor_core::task::{Future, Poll, Wake};
@@ -136,7 +136,7 @@ impl<R: Wait + Clone + Drop + Send + Sync> Neighbours<R> {
         let Ok(mut run) = self.ex.run(all_ended) else {
             return false;
         };
-        for _ in 0..TURNS {
+        for _ in 0..turns() {
             if run.poll(&self.waker) == Poll::Ready(()) {
                 return true;
             }

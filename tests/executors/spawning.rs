@@ -1,6 +1,5 @@
 //! Tasks that are spawned many at once.
 use crate::tests::support::running::future::{Ready, Until};
-use crate::tests::support::running::halt::TURNS;
 use crate::tests::support::running::line::Answer::{Gone, Pending};
 use crate::tests::support::running::line::Line::{
     Count, Empty, HaltsAgain, MakeTick, ManyRan, Poll as PollBy, Returns, SpawnManyHalts, Tick,
@@ -9,6 +8,7 @@ use crate::tests::support::running::line::Line::{
 use crate::tests::support::running::player::play;
 use crate::tests::support::running::record::{Moment, Record};
 use crate::tests::support::running::refusal::refuse;
+use crate::tests::support::running::waiting::turns;
 use crate::tests::support::running::waker::TestWaker;
 use async_executor::{Cancelled, Executor, LocalExecutor};
 use executor_core::task::{Future, Poll};
@@ -87,7 +87,7 @@ impl<W, T: Future<W, Output = Result<u64, Cancelled>>> Future<W> for InOrder<T> 
 
 // Polls a run until it ends, within as many polls as a test may take.
 fn driven<T: Future<TestWaker>>(mut run: T, waker: &TestWaker) -> Option<T::Output> {
-    for _ in 0..TURNS {
+    for _ in 0..turns() {
         if let Poll::Ready(output) = run.poll(waker) {
             return Some(output);
         }

@@ -1,6 +1,5 @@
 //! Ticks and runs that sleep, on several threads.
 use crate::tests::support::running::future::{Kind, Until};
-use crate::tests::support::running::halt::TURNS;
 use crate::tests::support::running::line::Answer;
 use crate::tests::support::running::line::Line::{
     Count, HaltAt, MakeTick, Poll as PollBy, PollHalts, Returns, Spawn, TickHalts,
@@ -8,6 +7,7 @@ use crate::tests::support::running::line::Line::{
 use crate::tests::support::running::player::play;
 use crate::tests::support::running::record::Moment::{FuturePoll, WakerWake};
 use crate::tests::support::running::task::spawned;
+use crate::tests::support::running::waiting::{parks, turns};
 use async_executor::executor::{Executor, Task};
 use executor_core::task::{Future, OutOfMemory, Poll, Wake};
 use std::alloc::{AllocError, Global};
@@ -83,7 +83,7 @@ impl Unparks {
 
     // Parks this thread until there were more wakes than this, and says whether it was so in time.
     fn sleeps<R: Wait>(&self, rt: &R, before: u64) -> bool {
-        for _ in 0..PARKS {
+        for _ in 0..parks() {
             if self.wakes() > before {
                 return true;
             }
@@ -126,7 +126,7 @@ impl<W> Future<W> for Meets {
 
 // Waits until the number is so large, and says whether it was so in time.
 fn are_there(number: &AtomicU64, all: u64) -> bool {
-    for _ in 0..TURNS {
+    for _ in 0..turns() {
         if number.load(Ordering::SeqCst) >= all {
             return true;
         }
@@ -193,7 +193,7 @@ impl<R: Wait + Clone + Drop + Send + Sync> Fixture<R> {
         let Ok(mut tick) = self.ex.tick() else {
             return false;
         };
-        for _ in 0..TURNS {
+        for _ in 0..turns() {
             let before = self.waker.wakes();
             if tick.poll(&self.waker) == Poll::Ready(()) {
                 return true;
@@ -225,7 +225,7 @@ impl<R: Wait + Clone + Drop + Send + Sync> Fixture<R> {
         let Ok(mut run) = self.ex.run(all) else {
             return false;
         };
-        for _ in 0..TURNS {
+        for _ in 0..turns() {
             let before = self.waker.wakes();
             if run.poll(&self.waker) == Poll::Ready(()) {
                 return true;
@@ -320,6 +320,3 @@ fn a_run_sleeps_on_a_thread_that_parks(rt: HostRuntime) -> Result<(), Fail> {
 
 // How many tasks are run by a thread that parks.
 const ROUNDS: u64 = 1_000;
-
-// How often a thread parks without a wake before it gives up.
-const PARKS: u32 = 50;

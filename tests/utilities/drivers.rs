@@ -2,13 +2,15 @@
 //! held while a waker of the caller's runs. The clock is the test's own.
 use crate::tests::support::running::beside::call_beside;
 use crate::tests::support::running::clock::TestClock;
-use crate::tests::support::running::halt::{Halt, TURNS};
+use crate::tests::support::running::halt::Halt;
 use crate::tests::support::running::record::{Moment, Record};
 use crate::tests::support::running::refusal::{is_order_left, refuse};
+use crate::tests::support::running::waiting::turns;
 use crate::tests::support::running::waker::TestWaker;
 use async_executor::{Future, Poll, Wake};
 use async_utilities::{Never, ThreadWaker, Timer, TimerError};
 use std::alloc::{AllocError, Global};
+use std::process::Abort;
 use std::sync::atomic::{AtomicBool, AtomicU64, Ordering};
 use std::sync::{Arc, Wait};
 use std::test::Fail;
@@ -74,7 +76,7 @@ impl Polls {
 
     // Whether it is polled so often before the turns are over.
     fn reaches(&self, count: u64) -> bool {
-        for _ in 0..TURNS {
+        for _ in 0..turns() {
             if self.count() >= count {
                 return true;
             }
@@ -142,7 +144,7 @@ fn each_driver_is_told_of_a_nearer_deadline(rt: HostRuntime) -> Result<(), Fail>
 }
 
 // Sets a thousand deadlines that are later than the first, and has a driver rest. Says whether it parks.
-fn parks_until_the_first<R: AllocGlobal + Wait + Threads + Clone + Drop + Send + Sync>(
+fn parks_until_the_first<R: AllocGlobal + Wait + Threads + Abort + Clone + Drop + Send + Sync>(
     rt: &R,
 ) -> Result<bool, Fail> {
     let (timer, _clock) = timer(rt)?;
@@ -214,7 +216,7 @@ impl<W> Future<W> for Second {
 }
 
 // A thread waits for a future, with a waker that it keeps. Says whether it parks.
-fn parks<R: AllocGlobal + Wait + Threads + Clone + Drop + Send + Sync>(
+fn parks<R: AllocGlobal + Wait + Threads + Abort + Clone + Drop + Send + Sync>(
     rt: &R,
 ) -> Result<bool, Fail> {
     let waker = ThreadWaker::new(rt.alloc())?;
@@ -232,7 +234,7 @@ fn a_thread_that_waits_parks(rt: HostRuntime) -> Result<(), Fail> {
 
 // A thread that was woken before parks, maybe with a timeout, which ends at once, and then waits for a future.
 // Says whether it parks for that.
-fn parks_anew<R: AllocGlobal + Wait + Threads + Clone + Drop + Send + Sync>(
+fn parks_anew<R: AllocGlobal + Wait + Threads + Abort + Clone + Drop + Send + Sync>(
     rt: &R,
     is_timed: bool,
 ) -> Result<bool, Fail> {

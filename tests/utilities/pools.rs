@@ -1,7 +1,7 @@
 //! Threads that run the tasks of one executor: of one queue, of shards, and of levels.
-use crate::tests::support::running::halt::TURNS;
 use crate::tests::support::running::record::{AtDrop, Moment, Record};
 use crate::tests::support::running::refusal::{MOST, is_order_left, refuse};
+use crate::tests::support::running::waiting::turns;
 use async_executor::{Future, Poll, SpawnError, Task, TaskWaker, Wake};
 use async_utilities::{JoinAll, Pool, PoolError, PoolOf, ThreadWaker, block_on};
 use pools::{Levels, PriorityPool, ShardedPool};
@@ -155,7 +155,7 @@ impl<W> Future<W> for Meets {
 
     fn poll(&mut self, _w: &W) -> Poll<()> {
         self.count.fetch_add(1, Ordering::SeqCst);
-        for _ in 0..TURNS {
+        for _ in 0..turns() {
             if self.count.load(Ordering::SeqCst) >= self.all {
                 break;
             }

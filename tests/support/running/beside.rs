@@ -3,9 +3,11 @@
 //! Nothing of a test runs while an executor holds a lock, but requests for memory do. The build of the
 //! tests has the library of `checks/lib/halt_nth.c`, by which one of them halts, and is refused once it goes
 //! on. It also says that a thread waits for a lock, so nothing here depends on time.
+use super::waiting::turns;
 use executor_core::halts::{
     halt_request, is_request_halted, is_thread_waiting, let_request_go_on, watch_thread,
 };
+use std::process::Abort;
 use std::sync::Wait;
 use std::sync::atomic::{AtomicBool, Ordering};
 use std::thread::{self, Threads, yield_now};
@@ -76,6 +78,17 @@ impl Progress {
         watch_thread(0);
         self.has_called.store(true, Ordering::SeqCst);
         returned
+    }
+
+    // Whether the call returns before the turns are over.
+    fn returns(&self) -> bool {
+        for _ in 0..turns() {
+            if self.has_called.load(Ordering::SeqCst) {
+                return true;
+            }
+            yield_now();
+        }
+        false
     }
 
     // Has the call begin, and says whether it waits. If not, it has returned.
@@ -149,10 +162,10 @@ where
 }
 
 /// Has a thread make this call, and another one wake it once it waits or has returned. Gives what the call
-/// returns, and whether it waited.
+/// returns, and whether it waited. If the wake does not end the call, the test ends.
 pub fn call_beside<R, T, A, B>(rt: &R, call: A, wake: B) -> (T, bool)
 where
-    R: Wait + Threads + Sync,
+    R: Wait + Threads + Abort + Sync,
     T: Drop + Send,
     A: FnOnce() -> T + Send,
     B: FnOnce() + Send,
@@ -164,6 +177,9 @@ where
         || {
             let waits = progress.call_waits(rt);
             wake();
+            if !progress.returns() {
+                rt.abort();
+            }
             waits
         },
     )

@@ -2,14 +2,12 @@
 //!
 //! The one that goes on while the other halts is watched: if it waits for a lock, the other one has it, and
 //! halts no longer. So a test that fails does so at once, and one that passes has all the time that it needs.
+use super::waiting::turns;
 use executor_core::halts::{is_thread_waiting, watch_thread};
 use std::alloc::{AllocError, Global};
 use std::sync::atomic::{AtomicBool, AtomicU64, Ordering};
 use std::sync::{Arc, Wait};
 use std::thread::{self, Threads, yield_now};
-
-/// How often one looks for another that may never come.
-pub const TURNS: u32 = 2_000_000;
 
 #[derive(Drop)]
 struct Counts {
@@ -56,13 +54,13 @@ impl Halt {
 
     // Whether more than so many halts are let go on. While the other thread is watched, no turn is counted.
     fn is_released(&self, before: u64) -> bool {
-        let mut turns = TURNS;
-        while turns > 0 && is_thread_waiting() == 0 {
+        let mut left = turns();
+        while left > 0 && is_thread_waiting() == 0 {
             if self.counts.releases.load(Ordering::SeqCst) > before {
                 return true;
             }
             if !self.counts.watches.load(Ordering::SeqCst) {
-                turns -= 1;
+                left -= 1;
             }
             yield_now();
         }
@@ -135,7 +133,7 @@ pub fn is_used_meanwhile<R: Wait + Threads + Sync + Send + Clone + Drop>(
 
 // Waits until the number is above this one, and says whether it was so in time.
 fn is_above(number: &AtomicU64, limit: u64) -> bool {
-    for _ in 0..TURNS {
+    for _ in 0..turns() {
         if number.load(Ordering::SeqCst) > limit {
             return true;
         }
