@@ -33,7 +33,7 @@ fi
 
 . "$top/checks/lib/builds"
 lay_out
-seconds=900
+seconds=3600
 try bench src/main.rt
 while read -r row; do
     if grep -qxF "$row" "$copy/log"; then pass "$row"; else fail "bench does not print '$row'"; fi

@@ -148,7 +148,7 @@ judge() {
 set -- $({ edits_of wrong_bodies && edits_of guards; } | xargs grep -l '^replay: ')
 lay_out "$@"
 # The most that a run of all these programs may take, and one of exsim.
-seconds=$((300 + storms / 5))
+seconds=$((1200 + storms / 5))
 replay
 [ -z "${PICTURES:-}" ] || draw '' "$PICTURES"
 judge_right
