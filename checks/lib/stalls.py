@@ -46,7 +46,9 @@ def start(command):
         os.kill(os.getpid(), signal.SIGSTOP)
         os.execvp(command[0], command)
     os.waitpid(started, os.WUNTRACED)
-    libc.ptrace(SEIZE, started, 0, FORKS | VFORKS | CLONES)
+    if libc.ptrace(SEIZE, started, 0, FORKS | VFORKS | CLONES) != 0:
+        os.kill(started, signal.SIGKILL)
+        sys.exit("the system lets this process trace no other one")
     os.kill(started, signal.SIGCONT)
 
 
