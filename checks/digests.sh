@@ -142,7 +142,7 @@ with_open() {
     command=$1
     shift
     mkfifo "$@"
-    timeout 300 sh -c 'exec 4> "$2" 5> "$3" 6> "$4" 7> "$5" && eval "$1"' sh "$command" "$@" &&
+    timeout 1800 sh -c 'exec 4> "$2" 5> "$3" 6> "$4" 7> "$5" && eval "$1"' sh "$command" "$@" &&
         ended=well || ended=ill
     rm "$@"
     [ "$ended" = well ]
