@@ -1,8 +1,9 @@
 """Runs a command, and stops single threads of the tests that it starts for some seconds each.
 
 A busy machine does the same, if seldom: a thread has no processor while others go on. It is stopped as it
-begins, or soon after another one of its test has begun, and some of each test at most. It cannot tell, since it
-is sent no signal and what it waits for in the system goes on. The last line counts the threads that were stopped.
+begins, or soon after another one of its test has begun; of each test this happens five times at most. It cannot
+tell, since it is sent no signal and what it waits for in the system goes on. The last line counts how often
+threads were stopped.
 Usage: stalls.py SECONDS COMMAND...
 """
 import ctypes

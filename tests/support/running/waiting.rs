@@ -1,8 +1,8 @@
 //! How long a thread of a test waits for another one, which may never come.
 //!
-//! Over the right bodies it waits on and on: a busy machine may keep the other thread from a processor for
-//! any time, and what never comes fails by the time that a test may take. Over a wrong body it gives up,
-//! so that each fails soon.
+//! Over the right bodies it waits on and on, since a busy machine may keep the other thread from a processor
+//! for any time. If that one never comes, the test fails once its own time is over. Over a wrong body the
+//! thread gives up, so that each fails soon.
 use executor_core::choice::chosen;
 
 /// How often a thread looks for what another one is to do.
