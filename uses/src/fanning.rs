@@ -10,7 +10,7 @@ use std::thread::Threads;
 #[derive(Drop)]
 struct Tree;
 
-impl<R: Wait + Clone + Drop> MakeTask<u32, R> for Tree {
+impl<R: Wait + Drop> MakeTask<u32, R> for Tree {
     type Task = Branch<R>;
 
     fn make(&self, depth: u32, spawner: &Spawner<u32, R>) -> Result<Branch<R>, u32> {
@@ -23,12 +23,12 @@ impl<R: Wait + Clone + Drop> MakeTask<u32, R> for Tree {
 
 /// Wants two more branches, unless it is a leaf.
 #[derive(Drop)]
-struct Branch<R: Wait + Clone + Drop> {
+struct Branch<R: Wait + Drop> {
     depth: u32,
     spawner: Spawner<u32, R>,
 }
 
-impl<W, R: Wait + Clone + Drop> Future<W> for Branch<R> {
+impl<W, R: Wait + Drop> Future<W> for Branch<R> {
     type Output = ();
 
     fn poll(&mut self, _w: &W) -> Poll<()> {

@@ -19,12 +19,12 @@ type Arrivals<R> = Receiver<u32, ThreadWaker, TaskWaker<ThreadWaker, R>, R>;
 
 /// Adds the numbers that arrive, until there is no sender.
 #[derive(Drop)]
-struct Adder<R: Wait + Clone + Drop> {
+struct Adder<R: Wait + Drop> {
     arrivals: Arrivals<R>,
     total: u64,
 }
 
-impl<R: Wait + Clone + Drop> Future<TaskWaker<ThreadWaker, R>> for Adder<R> {
+impl<R: Wait + Drop> Future<TaskWaker<ThreadWaker, R>> for Adder<R> {
     type Output = u64;
 
     // A poll ends after some messages, however many there are: other tasks want their turn.

@@ -8,11 +8,11 @@ use std::sync::Wait;
 /// The run of an inner executor, as a task of an outer one. It is a type of its own because a caller is
 /// proved sooner if the type of its future nests no others.
 #[derive(Drop)]
-struct Inner<'a, W: Wake, R: Wait + Clone + Drop> {
+struct Inner<'a, W: Wake, R: Wait + Drop> {
     run: Run<'a, Ready<u64>, W, R, Task<Ready<u64>, W, R>>,
 }
 
-impl<W: Wake, R: Wait + Clone + Drop> Future<W> for Inner<'_, W, R> {
+impl<W: Wake, R: Wait + Drop> Future<W> for Inner<'_, W, R> {
     type Output = Result<u64, Cancelled>;
 
     fn poll(&mut self, w: &W) -> Poll<Result<u64, Cancelled>> {

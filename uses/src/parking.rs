@@ -53,7 +53,7 @@ impl Drop for Counted {
 
 /// What the threads share: the executor, how many futures are left, and where the threads park.
 #[derive(Drop)]
-struct Crew<R: Wait + Clone + Drop + Send + Sync> {
+struct Crew<R: Wait + Drop + Send + Sync> {
     executor: Executor<Counted, ThreadWaker, R>,
     left: Arc<AtomicU64>,
     wakers: [ThreadWaker; 3],

@@ -14,11 +14,11 @@ use std::thread::Threads;
 
 /// An executor with limits of its own, which each thread of a pool drives.
 #[derive(Drop)]
-struct Limited<R: Wait + Clone + Drop> {
+struct Limited<R: Wait + Drop> {
     executor: Executor<Ready<u64>, ThreadWaker, R>,
 }
 
-impl<R: Wait + Clone + Drop> Driven<R> for Limited<R> {
+impl<R: Wait + Drop> Driven<R> for Limited<R> {
     fn drive(
         &self,
         _number: usize,

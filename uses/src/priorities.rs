@@ -64,7 +64,7 @@ enum Job<'a> {
     Serve { accepted: &'a AtomicU64 },
 }
 
-impl<W: Wake, R: Wait + Clone + Drop> Future<TaskWaker<W, R>> for Job<'_> {
+impl<W: Wake, R: Wait + Drop> Future<TaskWaker<W, R>> for Job<'_> {
     type Output = u64;
 
     fn poll(&mut self, w: &TaskWaker<W, R>) -> Poll<u64> {

@@ -7,18 +7,18 @@ use std::sync::{Arc, Mutex, Wait};
 
 /// What a `Receiver` shares with its sender: the number that was sent, and the waker to be woken.
 #[derive(Drop)]
-pub struct Channel<R: Wait + Clone + Drop> {
+pub struct Channel<R: Wait + Drop> {
     number: Option<u64>,
     waker: Option<TaskWaker<NoopWaker, R>>,
 }
 
 /// Gives the number that another party sends.
 #[derive(Drop)]
-pub struct Receiver<R: Wait + Clone + Drop> {
+pub struct Receiver<R: Wait + Drop> {
     channel: Arc<Mutex<Channel<R>>>,
 }
 
-impl<R: Wait + Clone + Drop> Receiver<R> {
+impl<R: Wait + Drop> Receiver<R> {
     /// The receiver of a new channel, and the sender's share of it.
     pub fn new(alloc: Global) -> Result<(Receiver<R>, Arc<Mutex<Channel<R>>>), AllocError> {
         let channel = Channel {
@@ -34,7 +34,7 @@ impl<R: Wait + Clone + Drop> Receiver<R> {
     }
 }
 
-impl<R: Wait + Clone + Drop> Future<TaskWaker<NoopWaker, R>> for Receiver<R> {
+impl<R: Wait + Drop> Future<TaskWaker<NoopWaker, R>> for Receiver<R> {
     type Output = u64;
 
     /// A copy of the waker stays in the channel until the number is sent. If it cannot be left

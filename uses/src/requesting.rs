@@ -18,13 +18,13 @@ type Wanted<R> = Receiver<u32, TaskWaker<ThreadWaker, R>, ThreadWaker, R>;
 
 /// Asks for two more tasks, unless it is a leaf, and is ready once both requests are sent.
 #[derive(Drop)]
-struct Branch<R: Wait + Clone + Drop> {
+struct Branch<R: Wait + Drop> {
     requests: Requests<R>,
     left: Option<u32>,
     right: Option<u32>,
 }
 
-impl<R: Wait + Clone + Drop> Branch<R> {
+impl<R: Wait + Drop> Branch<R> {
     fn new(requests: &Requests<R>, depth: u32) -> io::Result<Branch<R>> {
         let below = depth.checked_sub(1);
         Ok(Branch {
@@ -35,7 +35,7 @@ impl<R: Wait + Clone + Drop> Branch<R> {
     }
 }
 
-impl<R: Wait + Clone + Drop> Future<TaskWaker<ThreadWaker, R>> for Branch<R> {
+impl<R: Wait + Drop> Future<TaskWaker<ThreadWaker, R>> for Branch<R> {
     type Output = ();
 
     // A request that was sent is gone from its place, so the next poll sends what is left.
@@ -54,7 +54,7 @@ type Tree<R> = Executor<Branch<R>, ThreadWaker, R>;
 
 /// Both ends of the channel, and the handles of all tasks, of which the first ones have ended.
 #[derive(Drop)]
-struct Owner<R: Wait + Clone + Drop + Send + Sync> {
+struct Owner<R: Wait + Drop + Send + Sync> {
     requests: Requests<R>,
     wanted: Wanted<R>,
     tasks: Vec<Task<Branch<R>, ThreadWaker, R>>,

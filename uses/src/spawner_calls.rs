@@ -9,7 +9,7 @@ use std::sync::Wait;
 #[derive(Drop)]
 struct Numbers;
 
-impl<R: Wait + Clone + Drop> MakeTask<u64, R> for Numbers {
+impl<R: Wait + Drop> MakeTask<u64, R> for Numbers {
     type Task = Ready<u64>;
 
     fn make(&self, number: u64, _spawner: &Spawner<u64, R>) -> Result<Ready<u64>, u64> {

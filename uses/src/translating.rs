@@ -10,14 +10,14 @@ const TURN: usize = 16;
 
 /// Receives numbers, and sends the square of each, until either channel is closed. Gives how many it sent.
 #[derive(Drop)]
-struct Squaring<R: Wait + Clone + Drop> {
+struct Squaring<R: Wait + Drop> {
     numbers: Receiver<u64, NoopWaker, TaskWaker<ThreadWaker, R>, R>,
     squares: Sender<u64, TaskWaker<ThreadWaker, R>, NoopWaker, R>,
     unsent: Option<u64>,
     sent: u64,
 }
 
-impl<R: Wait + Clone + Drop> Future<TaskWaker<ThreadWaker, R>> for Squaring<R> {
+impl<R: Wait + Drop> Future<TaskWaker<ThreadWaker, R>> for Squaring<R> {
     type Output = u64;
 
     fn poll(&mut self, w: &TaskWaker<ThreadWaker, R>) -> Poll<u64> {

@@ -64,12 +64,12 @@ impl TaskCounts {
 
 // The lengths of the queues of all runners: the first ones, and where the others are looked up.
 #[derive(Drop)]
-struct LocalRunners<'a, W: Wake, R: Wait + Clone + Drop> {
+struct LocalRunners<'a, W: Wake, R: Wait + Drop> {
     counts: &'a TaskCounts,
     state: &'a ExecutorState<W, R>,
 }
 
-impl<W: Wake, R: Wait + Clone + Drop> Debug for LocalRunners<'_, W, R> {
+impl<W: Wake, R: Wait + Drop> Debug for LocalRunners<'_, W, R> {
     fn fmt<O: Write>(&self, f: &mut Formatter<O>) -> fmt::Result {
         let mut list = f.debug_list();
         list.slice(self.counts.first_lens.as_slice());
@@ -134,7 +134,7 @@ impl<F, W, R> Debug for Executor<F, W, R>
 where
     F: Future<TaskWaker<W, R>>,
     W: Wake,
-    R: Wait + Clone + Drop,
+    R: Wait + Drop,
 {
     fn fmt<O: Write>(&self, f: &mut Formatter<O>) -> fmt::Result {
         self.inner.write_text("Executor", Active::Counted, f)
@@ -145,7 +145,7 @@ impl<F, W, R> Debug for LocalExecutor<F, W, R>
 where
     F: Future<TaskWaker<W, R>>,
     W: Wake,
-    R: Wait + Clone + Drop,
+    R: Wait + Drop,
 {
     fn fmt<O: Write>(&self, f: &mut Formatter<O>) -> fmt::Result {
         self.inner.write_text("LocalExecutor", Active::Counted, f)
@@ -156,7 +156,7 @@ impl<F, W, R> Debug for StaticExecutor<F, W, R>
 where
     F: Future<TaskWaker<W, R>>,
     W: Wake,
-    R: Wait + Clone + Drop,
+    R: Wait + Drop,
 {
     fn fmt<O: Write>(&self, f: &mut Formatter<O>) -> fmt::Result {
         self.executor
@@ -169,7 +169,7 @@ impl<F, W, R> Debug for StaticLocalExecutor<F, W, R>
 where
     F: Future<TaskWaker<W, R>>,
     W: Wake,
-    R: Wait + Clone + Drop,
+    R: Wait + Drop,
 {
     fn fmt<O: Write>(&self, f: &mut Formatter<O>) -> fmt::Result {
         self.executor

@@ -55,7 +55,7 @@ pub struct Executor<F, W, R>
 where
     F: Future<TaskWaker<W, R>>,
     W: Wake,
-    R: Wait + Clone + Drop,
+    R: Wait + Drop,
 {
     pub(crate) inner: ExecutorIn<SharedStorage<F, W, R>>,
 }
@@ -67,7 +67,7 @@ where
     F: Future<TaskWaker<W, R>> + Send,
     F::Output: Send,
     W: Wake + Send,
-    R: Wait + Clone + Drop + Send + Sync,
+    R: Wait + Drop + Send + Sync,
 {
     /// An executor without tasks. It keeps the right to wait for its locks, and the allocator.
     ///
@@ -192,7 +192,7 @@ impl<F, W, R> Executor<F, W, R>
 where
     F: Future<TaskWaker<W, R>>,
     W: Wake,
-    R: Wait + Clone + Drop,
+    R: Wait + Drop,
 {
     /// Whether the future of every task was dropped. A task that was cancelled counts until then.
     ///
@@ -328,7 +328,7 @@ impl<F, W, R> Drop for Executor<F, W, R>
 where
     F: Future<TaskWaker<W, R>>,
     W: Wake,
-    R: Wait + Clone + Drop,
+    R: Wait + Drop,
 {
     fn drop(self) {
         let Executor { inner } = self;

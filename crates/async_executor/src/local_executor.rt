@@ -48,7 +48,7 @@ pub struct LocalExecutor<F, W, R>
 where
     F: Future<TaskWaker<W, R>>,
     W: Wake,
-    R: Wait + Clone + Drop,
+    R: Wait + Drop,
 {
     pub(crate) inner: ExecutorIn<LocalStorage<F, W, R>>,
 }
@@ -57,7 +57,7 @@ impl<F, W, R> LocalExecutor<F, W, R>
 where
     F: Future<TaskWaker<W, R>>,
     W: Wake,
-    R: Wait + Clone + Drop,
+    R: Wait + Drop,
 {
     /// As `Executor::new`, for tasks that stay on this thread.
     ///
@@ -241,7 +241,7 @@ impl<F, W, R> Drop for LocalExecutor<F, W, R>
 where
     F: Future<TaskWaker<W, R>>,
     W: Wake,
-    R: Wait + Clone + Drop,
+    R: Wait + Drop,
 {
     fn drop(self) {
         let LocalExecutor { inner } = self;

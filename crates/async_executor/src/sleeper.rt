@@ -38,10 +38,7 @@ pub struct SleeperIn<'a, S: Storage> {
 
 // Takes the `SleeperIn` of this number out of the list, and stores the flag before the list's lock is given
 // up. There is a notice if it was notified.
-fn remove<W: Wake, R: Wait + Clone + Drop>(
-    state: &ExecutorState<W, R>,
-    number: usize,
-) -> Option<Notice> {
+fn remove<W: Wake, R: Wait + Drop>(state: &ExecutorState<W, R>, number: usize) -> Option<Notice> {
     let mut guard = sleepers!(state);
     let sleepers = &mut guard.sleepers;
     let change = sleepers.remove(number);
@@ -53,7 +50,7 @@ fn remove<W: Wake, R: Wait + Clone + Drop>(
 
 // Puts the waker of a `SleeperIn` at the end of the list, and stores the flag. It comes back if no reserved
 // place is free.
-fn insert<W: Wake, R: Wait + Clone + Drop>(
+fn insert<W: Wake, R: Wait + Drop>(
     state: &ExecutorState<W, R>,
     waker: W,
 ) -> Result<(usize, Again), W> {

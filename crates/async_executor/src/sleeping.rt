@@ -15,7 +15,7 @@ use std::sync::{MutexGuard, Wait};
 /// Spends the notice of a task that was found, and that of the number, if one sleeps, which is removed
 /// before. Then the task is run.
 #[inline(always)]
-pub(crate) fn announce_found<A, W: Wake, R: Wait + Clone + Drop>(
+pub(crate) fn announce_found<A, W: Wake, R: Wait + Drop>(
     state: &ExecutorState<W, R>,
     found: Found<A>,
 ) -> Running<A>
@@ -48,7 +48,7 @@ pub(crate) enum Slept<A> {
 /// stores the flag if the list was changed. If the copy is refused, the waker itself is woken. If this poll
 /// has put a copy there, one that was not notified since sleeps on by that.
 #[inline(always)]
-pub(crate) fn sleep<A, W: Wake, R: Wait + Clone + Drop>(
+pub(crate) fn sleep<A, W: Wake, R: Wait + Drop>(
     state: &ExecutorState<W, R>,
     going: GoingToSleep<A>,
     w: &W,
@@ -108,7 +108,7 @@ fn unlock<W: Wake>(
 }
 
 /// A tick or a run leaves the sleepers for good. What a number was notified of is passed on.
-pub(crate) fn leave<A, W: Wake, R: Wait + Clone + Drop>(
+pub(crate) fn leave<A, W: Wake, R: Wait + Drop>(
     state: &ExecutorState<W, R>,
     departing: Departing<A>,
 ) -> Departed<A>

@@ -142,7 +142,7 @@ impl<W, R> ExecutorState<W, R> {
     }
 }
 
-impl<W: Wake, R: Wait + Clone + Drop> ExecutorState<W, R> {
+impl<W: Wake, R: Wait + Drop> ExecutorState<W, R> {
     /// The `ExecutorState` of an executor that has no tasks.
     pub(crate) fn new(rt: R, alloc: Global) -> Result<ExecutorState<W, R>, OutOfMemory> {
         let parts = Parts {

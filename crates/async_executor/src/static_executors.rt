@@ -33,7 +33,7 @@ pub struct StaticExecutor<F, W, R>
 where
     F: Future<TaskWaker<W, R>>,
     W: Wake,
-    R: Wait + Clone + Drop,
+    R: Wait + Drop,
 {
     pub(crate) executor: Executor<F, W, R>,
 }
@@ -42,7 +42,7 @@ impl<F, W, R> Executor<F, W, R>
 where
     F: Future<TaskWaker<W, R>>,
     W: Wake,
-    R: Wait + Clone + Drop,
+    R: Wait + Drop,
 {
     /// The same executor, for as long as the program lives: its drop cancels nothing. Every task is
     /// woken, and the idle ones are scheduled by rising slot, behind all that are. Otherwise all goes on as
@@ -72,7 +72,7 @@ where
     F: Future<TaskWaker<W, R>> + Send,
     F::Output: Send,
     W: Wake + Send,
-    R: Wait + Clone + Drop + Send + Sync,
+    R: Wait + Drop + Send + Sync,
 {
     /// A `StaticExecutor`, made as by `Executor::new`.
     ///
@@ -125,7 +125,7 @@ impl<F, W, R> Deref for StaticExecutor<F, W, R>
 where
     F: Future<TaskWaker<W, R>>,
     W: Wake,
-    R: Wait + Clone + Drop,
+    R: Wait + Drop,
 {
     type Target = Executor<F, W, R>;
 
@@ -141,7 +141,7 @@ impl<F, W, R> Drop for StaticExecutor<F, W, R>
 where
     F: Future<TaskWaker<W, R>>,
     W: Wake,
-    R: Wait + Clone + Drop,
+    R: Wait + Drop,
 {
     // The drop of the executor itself would cancel every task.
     fn drop(self) {
@@ -166,7 +166,7 @@ pub struct StaticLocalExecutor<F, W, R>
 where
     F: Future<TaskWaker<W, R>>,
     W: Wake,
-    R: Wait + Clone + Drop,
+    R: Wait + Drop,
 {
     pub(crate) executor: LocalExecutor<F, W, R>,
 }
@@ -175,7 +175,7 @@ impl<F, W, R> LocalExecutor<F, W, R>
 where
     F: Future<TaskWaker<W, R>>,
     W: Wake,
-    R: Wait + Clone + Drop,
+    R: Wait + Drop,
 {
     /// As `Executor::leak`: a `StaticLocalExecutor`.
     ///
@@ -201,7 +201,7 @@ impl<F, W, R> StaticLocalExecutor<F, W, R>
 where
     F: Future<TaskWaker<W, R>>,
     W: Wake,
-    R: Wait + Clone + Drop,
+    R: Wait + Drop,
 {
     /// A `StaticLocalExecutor`, made as by `LocalExecutor::new`.
     ///
@@ -254,7 +254,7 @@ impl<F, W, R> Deref for StaticLocalExecutor<F, W, R>
 where
     F: Future<TaskWaker<W, R>>,
     W: Wake,
-    R: Wait + Clone + Drop,
+    R: Wait + Drop,
 {
     type Target = LocalExecutor<F, W, R>;
 
@@ -270,7 +270,7 @@ impl<F, W, R> Drop for StaticLocalExecutor<F, W, R>
 where
     F: Future<TaskWaker<W, R>>,
     W: Wake,
-    R: Wait + Clone + Drop,
+    R: Wait + Drop,
 {
     // As that of `StaticExecutor`.
     fn drop(self) {

@@ -80,7 +80,7 @@ impl LentWake {
     }
 }
 
-impl<W: Wake, R: Wait + Clone + Drop> Wake for TaskWaker<W, R> {
+impl<W: Wake, R: Wait + Drop> Wake for TaskWaker<W, R> {
     /// Schedules the task if it waits for a wake. If it is being polled, it is scheduled once
     /// that poll ends.
     ///

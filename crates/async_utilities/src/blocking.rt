@@ -178,7 +178,7 @@ pub fn run_until<F, G, R>(
 where
     F: Future<TaskWaker<ThreadWaker, R>>,
     G: Future<ThreadWaker>,
-    R: Wait + Clone + Drop,
+    R: Wait + Drop,
     ensures refused { IfErr result (λ error. run_future error ≡ future) }
 {
     let Ok(waker) = ThreadWaker::new(alloc) else {

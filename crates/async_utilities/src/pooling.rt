@@ -94,7 +94,7 @@ where
 impl<F, R> Driven<R> for Executor<F, ThreadWaker, R>
 where
     F: Future<TaskWaker<ThreadWaker, R>>,
-    R: Wait + Clone + Drop,
+    R: Wait + Drop,
 {
     fn drive(
         &self,

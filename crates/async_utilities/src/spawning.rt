@@ -35,7 +35,7 @@ type PoolWaker<R> = TaskWaker<ThreadWaker, R>;
 /// called.
 ///
 /// Example: `uses::hands_in_jobs`, at `servers`, of `Numbers`.
-pub trait MakeTask<J: Drop, R: Wait + Clone + Drop>: Drop {
+pub trait MakeTask<J: Drop, R: Wait + Drop>: Drop {
     /// The task. What it gives is dropped.
     type Task: Future<TaskWaker<ThreadWaker, R>>;
 
@@ -52,7 +52,7 @@ type LockedJobs<'a, J, R> = MutexGuard<'a, JobQueue<J, PoolWaker<R>>>;
 
 // What the owner, the servers and all spawners share.
 #[derive(Drop)]
-struct Desk<J: Drop, R: Wait + Clone + Drop> {
+struct Desk<J: Drop, R: Wait + Drop> {
     jobs: Mutex<JobQueue<J, PoolWaker<R>>>,
     alloc: Global,
     rt: R,
@@ -67,7 +67,7 @@ macro_rules! jobs {
     }};
 }
 
-impl<J: Drop, R: Wait + Clone + Drop> Desk<J, R> {
+impl<J: Drop, R: Wait + Drop> Desk<J, R> {
     // Locks the jobs, and takes the first one for the server of this place. If there is none, the server is
     // counted no longer, and waits with a copy of this waker; or all is done. It is the waker of a task, so
     // no code of a caller's runs where it is copied.
@@ -122,7 +122,7 @@ impl<J: Drop, R: Wait + Clone + Drop> Desk<J, R> {
 // Apart, since a server does so once.
 #[cold]
 #[inline(never)]
-fn end_one<J: Drop, R: Wait + Clone + Drop>(jobs: LockedJobs<'_, J, R>, alloc: Global) {
+fn end_one<J: Drop, R: Wait + Drop>(jobs: LockedJobs<'_, J, R>, alloc: Global) {
     let mut jobs = jobs;
     let ended = jobs.end_one(alloc);
     drop(jobs);
@@ -135,11 +135,11 @@ fn end_one<J: Drop, R: Wait + Clone + Drop>(jobs: LockedJobs<'_, J, R>, alloc: G
 ///
 /// Example: `uses::fans_out`.
 #[derive(Drop)]
-pub struct Spawner<J: Drop, R: Wait + Clone + Drop> {
+pub struct Spawner<J: Drop, R: Wait + Drop> {
     desk: Arc<Desk<J, R>>,
 }
 
-impl<J: Drop, R: Wait + Clone + Drop> Spawner<J, R> {
+impl<J: Drop, R: Wait + Drop> Spawner<J, R> {
     /// The same spawner, for another holder. It takes no memory.
     ///
     /// # Errors
@@ -188,7 +188,7 @@ pub struct Server<J, M, R>
 where
     J: Drop,
     M: MakeTask<J, R>,
-    R: Wait + Clone + Drop,
+    R: Wait + Drop,
 {
     // In a box: an executor moves each future that it polls, and a task may be large.
     serving: Box<Serving<J, M, R>>,
@@ -199,7 +199,7 @@ struct Serving<J, M, R>
 where
     J: Drop,
     M: MakeTask<J, R>,
-    R: Wait + Clone + Drop,
+    R: Wait + Drop,
 {
     spawner: Spawner<J, R>,
     maker: Arc<M>,
@@ -225,7 +225,7 @@ impl<J, M, R> Server<J, M, R>
 where
     J: Drop,
     M: MakeTask<J, R>,
-    R: Wait + Clone + Drop,
+    R: Wait + Drop,
 {
     // A server that has no job yet.
     fn new(spawner: &Spawner<J, R>, maker: &Arc<M>) -> Result<Server<J, M, R>, OutOfMemory> {
@@ -249,7 +249,7 @@ impl<J, M, R> Serving<J, M, R>
 where
     J: Drop,
     M: MakeTask<J, R>,
-    R: Wait + Clone + Drop,
+    R: Wait + Drop,
 {
     // Takes the next job, unless one is left of which no task was made.
     fn take_job(&mut self, w: &PoolWaker<R>) -> Poll<Option<J>>
@@ -332,7 +332,7 @@ impl<J, M, R> Future<TaskWaker<ThreadWaker, R>> for Server<J, M, R>
 where
     J: Drop,
     M: MakeTask<J, R>,
-    R: Wait + Clone + Drop,
+    R: Wait + Drop,
 {
     type Output = u64;
 
@@ -348,7 +348,7 @@ impl<J, M, R> Drop for Serving<J, M, R>
 where
     J: Drop,
     M: MakeTask<J, R>,
-    R: Wait + Clone + Drop,
+    R: Wait + Drop,
 {
     fn drop(self) {
         let Serving {
@@ -382,11 +382,11 @@ pub struct JobLimits {
 /// and no task that runs hands in more, each server ends.
 ///
 /// Example: `uses::hands_in_jobs`, at `servers`.
-pub struct Jobs<J: Drop, R: Wait + Clone + Drop> {
+pub struct Jobs<J: Drop, R: Wait + Drop> {
     spawner: Spawner<J, R>,
 }
 
-impl<J: Drop, R: Wait + Clone + Drop> Jobs<J, R> {
+impl<J: Drop, R: Wait + Drop> Jobs<J, R> {
     /// The spawner of these jobs.
     ///
     /// Example: `uses::hands_in_jobs`, at `servers`.
@@ -397,7 +397,7 @@ impl<J: Drop, R: Wait + Clone + Drop> Jobs<J, R> {
     }
 }
 
-impl<J: Drop, R: Wait + Clone + Drop> Drop for Jobs<J, R> {
+impl<J: Drop, R: Wait + Drop> Drop for Jobs<J, R> {
     fn drop(self) {
         let Jobs { spawner } = self;
         spawner.desk.end_one();
@@ -439,7 +439,7 @@ pub fn servers<J, M, R>(
 where
     J: Drop,
     M: MakeTask<J, R>,
-    R: Wait + Clone + Drop,
+    R: Wait + Drop,
     requires tasks { 0 < limits.tasks }
     requires room { IfSome limits.room (λ room. 0 < room) }
     ensures count { IfOk result (λ made. vec_len made.1 ≡ limits.tasks) }

@@ -41,14 +41,14 @@ struct Ledger {
 
 /// Has money moved at each visit.
 #[derive(Drop)]
-struct Customer<R: Wait + Clone + Drop> {
+struct Customer<R: Wait + Drop> {
     ledger: Rc<Ledger>,
     visits: Interval<TaskWaker<ThreadWaker, R>, R>,
     number: usize,
     come: usize,
 }
 
-impl<R: Wait + Clone + Drop> Future<TaskWaker<ThreadWaker, R>> for Customer<R> {
+impl<R: Wait + Drop> Future<TaskWaker<ThreadWaker, R>> for Customer<R> {
     type Output = ();
 
     fn poll(&mut self, w: &TaskWaker<ThreadWaker, R>) -> Poll<()> {
@@ -72,7 +72,7 @@ impl<R: Wait + Clone + Drop> Future<TaskWaker<ThreadWaker, R>> for Customer<R> {
 
 /// The ledger, the executor that the customers run on, and the timer that they wait for.
 #[derive(Drop)]
-struct Bank<R: Wait + Clone + Drop> {
+struct Bank<R: Wait + Drop> {
     ledger: Rc<Ledger>,
     time: Rc<Cell<Duration>>,
     timer: Timer<TaskWaker<ThreadWaker, R>, StillClock, R>,

@@ -16,12 +16,12 @@ const AT_ONCE: usize = 16;
 
 /// A visit of a page. It gives the links of the page, or none if the page is late: some never answer.
 #[derive(Drop)]
-struct Visit<R: Wait + Clone + Drop> {
+struct Visit<R: Wait + Drop> {
     page: u32,
     deadline: After<TaskWaker<ThreadWaker, R>, R>,
 }
 
-impl<R: Wait + Clone + Drop> Future<TaskWaker<ThreadWaker, R>> for Visit<R> {
+impl<R: Wait + Drop> Future<TaskWaker<ThreadWaker, R>> for Visit<R> {
     type Output = Option<[u32; 2]>;
 
     fn poll(&mut self, w: &TaskWaker<ThreadWaker, R>) -> Poll<Option<[u32; 2]>> {

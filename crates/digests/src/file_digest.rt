@@ -121,7 +121,7 @@ impl<R: Wait + Drop> FileDigest<R> {
 }
 
 // The executor alone polls it. As a future for its wakers alone it is proved sooner.
-impl<R: Wait + Clone + Drop> Future<TaskWaker<ThreadWaker, R>> for FileDigest<R> {
+impl<R: Wait + Drop> Future<TaskWaker<ThreadWaker, R>> for FileDigest<R> {
     type Output = Answer;
 
     fn poll(&mut self, w: &TaskWaker<ThreadWaker, R>) -> Poll<Answer>

@@ -108,7 +108,7 @@ impl Band {
     }
 }
 
-impl<W: Wake, R: Wait + Clone + Drop> Future<TaskWaker<W, R>> for Band {
+impl<W: Wake, R: Wait + Drop> Future<TaskWaker<W, R>> for Band {
     type Output = Pixels;
 
     fn poll(&mut self, w: &TaskWaker<W, R>) -> Poll<Pixels> {

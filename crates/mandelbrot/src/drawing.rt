@@ -16,7 +16,7 @@ pub const BANDS_AT_ONCE: u32 = 64;
 type Handle<R> = Task<Band, ThreadWaker, R>;
 
 // Spawns a task for each band of the next window, and gives their handles and the row after them.
-fn spawn_window<R: Wait + Clone + Drop + Send + Sync>(
+fn spawn_window<R: Wait + Drop + Send + Sync>(
     alloc: Global,
     executor: &Executor<Band, ThreadWaker, R>,
     picture: Picture,
@@ -39,7 +39,7 @@ fn spawn_window<R: Wait + Clone + Drop + Send + Sync>(
 }
 
 // Runs tasks on this thread too, until the tasks of a window of bands have ended.
-fn await_window<R: Wait + Clone + Drop + Send + Sync>(
+fn await_window<R: Wait + Drop + Send + Sync>(
     rt: &R,
     alloc: Global,
     executor: &Executor<Band, ThreadWaker, R>,
@@ -79,7 +79,7 @@ fn tell(rt: &impl Eprint, done: u32, picture: Picture) {
 }
 
 // Prints the head of the picture, and draws and prints a window after another.
-fn draw_all<R: Wait + Clone + Drop + Send + Sync + Print + Eprint>(
+fn draw_all<R: Wait + Drop + Send + Sync + Print + Eprint>(
     rt: &R,
     alloc: Global,
     executor: &Executor<Band, ThreadWaker, R>,

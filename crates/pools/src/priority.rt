@@ -42,7 +42,7 @@ pub type PriorityPool<F, R, const N: usize> = PoolOf<Levels<F, R, N>, R>;
 pub struct Levels<F, R, const N: usize>
 where
     F: Future<TaskWaker<ThreadWaker, R>>,
-    R: Wait + Clone + Drop,
+    R: Wait + Drop,
 {
     executor: PriorityExecutor<F, ThreadWaker, R, N>,
 }
@@ -50,7 +50,7 @@ where
 impl<F, R, const N: usize> Levels<F, R, N>
 where
     F: Future<TaskWaker<ThreadWaker, R>>,
-    R: Wait + Clone + Drop,
+    R: Wait + Drop,
 {
     /// What a `PriorityPool` drives: the levels of this executor.
     ///
@@ -65,7 +65,7 @@ where
 impl<F, R, const N: usize> Deref for Levels<F, R, N>
 where
     F: Future<TaskWaker<ThreadWaker, R>>,
-    R: Wait + Clone + Drop,
+    R: Wait + Drop,
 {
     type Target = PriorityExecutor<F, ThreadWaker, R, N>;
 
@@ -79,7 +79,7 @@ where
 impl<F, R, const N: usize> Driven<R> for Levels<F, R, N>
 where
     F: Future<TaskWaker<ThreadWaker, R>>,
-    R: Wait + Clone + Drop,
+    R: Wait + Drop,
 {
     fn drive(
         &self,

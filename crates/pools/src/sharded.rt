@@ -46,7 +46,7 @@ where
 struct Shards<F, R>
 where
     F: Future<TaskWaker<ThreadWaker, R>>,
-    R: Wait + Clone + Drop,
+    R: Wait + Drop,
 {
     executor: ShardedExecutor<F, ThreadWaker, R>,
 }
@@ -54,7 +54,7 @@ where
 impl<F, R> Driven<R> for Shards<F, R>
 where
     F: Future<TaskWaker<ThreadWaker, R>>,
-    R: Wait + Clone + Drop,
+    R: Wait + Drop,
 {
     fn drive(
         &self,

@@ -36,7 +36,7 @@ pub struct PriorityExecutor<F, W, R, const N: usize>
 where
     F: Future<TaskWaker<W, R>>,
     W: Wake,
-    R: Wait + Clone + Drop,
+    R: Wait + Drop,
 {
     levels: Vec<Executor<F, W, R>>,
     ghost count: { vec_len levels ≡ N },
@@ -90,7 +90,7 @@ impl<F, W, R, const N: usize> PriorityExecutor<F, W, R, N>
 where
     F: Future<TaskWaker<W, R>>,
     W: Wake,
-    R: Wait + Clone + Drop,
+    R: Wait + Drop,
 {
     /// Whether the future of every task was dropped: the levels are asked in order, each once, until
     /// one has a task.
@@ -186,7 +186,7 @@ struct TryTicks<'a, F, W, R, const N: usize>
 where
     F: Future<TaskWaker<W, R>>,
     W: Wake,
-    R: Wait + Clone + Drop,
+    R: Wait + Drop,
 {
     levels: &'a Vec<Executor<F, W, R>>,
     answers: Answers<N>,
@@ -196,7 +196,7 @@ impl<F, W, R, const N: usize> Asker for TryTicks<'_, F, W, R, N>
 where
     F: Future<TaskWaker<W, R>>,
     W: Wake,
-    R: Wait + Clone + Drop,
+    R: Wait + Drop,
 {
     ghost answers = { λ s. s.answers };
 

@@ -34,7 +34,7 @@ pub struct PriorityRun<'a, F, W, R, G, const N: usize>
 where
     F: Future<TaskWaker<W, R>>,
     W: Wake,
-    R: Wait + Clone + Drop,
+    R: Wait + Drop,
     G: Future<W>,
 {
     pub(crate) going: Option<Going<'a, F, W, R, G, N>>,
@@ -47,7 +47,7 @@ pub(crate) struct Going<'a, F, W, R, G, const N: usize>
 where
     F: Future<TaskWaker<W, R>>,
     W: Wake,
-    R: Wait + Clone + Drop,
+    R: Wait + Drop,
     G: Future<W>,
 {
     pub(crate) own: G,
@@ -62,7 +62,7 @@ impl<F, W, R, G, const N: usize> Going<'_, F, W, R, G, N>
 where
     F: Future<TaskWaker<W, R>>,
     W: Wake,
-    R: Wait + Clone + Drop,
+    R: Wait + Drop,
     G: Future<W>,
 {
     // Polls the own future, and unless that is ready runs the tasks of a turn, of any level, and goes to
@@ -99,7 +99,7 @@ impl<F, W, R, G, const N: usize> Future<W> for PriorityRun<'_, F, W, R, G, N>
 where
     F: Future<TaskWaker<W, R>>,
     W: Wake,
-    R: Wait + Clone + Drop,
+    R: Wait + Drop,
     G: Future<W>,
 {
     type Output = G::Output;

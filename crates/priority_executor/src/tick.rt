@@ -31,7 +31,7 @@ pub struct PriorityTick<'a, F, W, R, const N: usize>
 where
     F: Future<TaskWaker<W, R>>,
     W: Wake,
-    R: Wait + Clone + Drop,
+    R: Wait + Drop,
 {
     // Sleepers and no ticks: one that ran a task of a level would stand among the sleepers of the levels
     // below meanwhile, and an urgent task would wait for that poll.
@@ -50,7 +50,7 @@ impl<F, W, R, const N: usize> Future<W> for PriorityTick<'_, F, W, R, N>
 where
     F: Future<TaskWaker<W, R>>,
     W: Wake,
-    R: Wait + Clone + Drop,
+    R: Wait + Drop,
 {
     type Output = ();
 
@@ -95,7 +95,7 @@ impl<F, W, R, const N: usize> LevelSleepers<Sleeper<'_, F, W, R>, N>
 where
     F: Future<TaskWaker<W, R>>,
     W: Wake,
-    R: Wait + Clone + Drop,
+    R: Wait + Drop,
 {
     /// Leaves the sleepers of the levels that it looks at and of those above, and runs a task of the first
     /// that has one. It says whether it ran one.
@@ -149,7 +149,7 @@ impl<F, W, R> Level for Sleeper<'_, F, W, R>
 where
     F: Future<TaskWaker<W, R>>,
     W: Wake,
-    R: Wait + Clone + Drop,
+    R: Wait + Drop,
 {
     fn has_task(&mut self) -> bool {
         self.look()

@@ -49,7 +49,7 @@ pub struct ShardedExecutor<F, W, R>
 where
     F: Future<TaskWaker<W, R>>,
     W: Wake,
-    R: Wait + Clone + Drop,
+    R: Wait + Drop,
 {
     // With the caller's own waker: with one that refuses its copies, runs would need no sleepers, but its
     // type would stand in each future and each handle.
@@ -213,7 +213,7 @@ impl<F, W, R> ShardedExecutor<F, W, R>
 where
     F: Future<TaskWaker<W, R>>,
     W: Wake,
-    R: Wait + Clone + Drop,
+    R: Wait + Drop,
 {
     /// How many shards there are.
     ///
@@ -277,7 +277,7 @@ impl<F, W, R> Debug for ShardedExecutor<F, W, R>
 where
     F: Future<TaskWaker<W, R>>,
     W: Wake,
-    R: Wait + Clone + Drop,
+    R: Wait + Drop,
 {
     /// The counts of each shard, in order.
     fn fmt<O: Write>(&self, f: &mut Formatter<O>) -> fmt::Result {

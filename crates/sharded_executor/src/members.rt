@@ -21,7 +21,7 @@ pub(crate) struct Members<'a, F, W, R>
 where
     F: Future<TaskWaker<W, R>>,
     W: Wake,
-    R: Wait + Clone + Drop,
+    R: Wait + Drop,
 {
     pub(crate) worker: Worker<'a, F, W, R>,
     pub(crate) sleepers: Vec<Sleeper<'a, F, W, R>>,
@@ -43,7 +43,7 @@ fn add_sleepers<'a, F, W, R>(
 where
     F: Future<TaskWaker<W, R>>,
     W: Wake,
-    R: Wait + Clone + Drop,
+    R: Wait + Drop,
     requires room { vec_len sleepers.old + length shards.now ≤ vec_capacity sleepers.old }
     ensures room { vec_capacity sleepers.new ≡ vec_capacity sleepers.old }
     ensures count { OnOk result (vec_len sleepers.new ≡ vec_len sleepers.old + length shards.now) }
@@ -61,7 +61,7 @@ impl<'a, F, W, R> Members<'a, F, W, R>
 where
     F: Future<TaskWaker<W, R>>,
     W: Wake,
-    R: Wait + Clone + Drop,
+    R: Wait + Drop,
 {
     /// The members of a run of the shard of this number. All sleepers are awake.
     pub(crate) fn new(
@@ -94,7 +94,7 @@ impl<F, W, R> Members<'_, F, W, R>
 where
     F: Future<TaskWaker<W, R>>,
     W: Wake,
-    R: Wait + Clone + Drop,
+    R: Wait + Drop,
 {
     /// How many shards there are, each with a sleeper of this run.
     pub(crate) fn count(&self) -> usize

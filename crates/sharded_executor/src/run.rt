@@ -41,7 +41,7 @@ pub struct ShardedRun<'a, F, W, R, G>
 where
     F: Future<TaskWaker<W, R>>,
     W: Wake,
-    R: Wait + Clone + Drop,
+    R: Wait + Drop,
     G: Future<W>,
 {
     going: Option<Going<'a, F, W, R, G>>,
@@ -54,7 +54,7 @@ struct Going<'a, F, W, R, G>
 where
     F: Future<TaskWaker<W, R>>,
     W: Wake,
-    R: Wait + Clone + Drop,
+    R: Wait + Drop,
     G: Future<W>,
 {
     own: G,
@@ -73,7 +73,7 @@ impl<'a, F, W, R, G> ShardedRun<'a, F, W, R, G>
 where
     F: Future<TaskWaker<W, R>>,
     W: Wake,
-    R: Wait + Clone + Drop,
+    R: Wait + Drop,
     G: Future<W>,
 {
     /// A run of the shard of this number, which was never polled.
@@ -111,7 +111,7 @@ impl<F, W, R, G> Going<'_, F, W, R, G>
 where
     F: Future<TaskWaker<W, R>>,
     W: Wake,
-    R: Wait + Clone + Drop,
+    R: Wait + Drop,
     G: Future<W>,
 {
     // Answers what it was notified of, and runs tasks of the first shard that has one, or sleeps if none has.
@@ -188,7 +188,7 @@ impl<F, W, R, G> Future<W> for ShardedRun<'_, F, W, R, G>
 where
     F: Future<TaskWaker<W, R>>,
     W: Wake,
-    R: Wait + Clone + Drop,
+    R: Wait + Drop,
     G: Future<W>,
 {
     type Output = G::Output;

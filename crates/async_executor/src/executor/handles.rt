@@ -29,7 +29,7 @@ pub struct Task<F, W, R>
 where
     F: Future<TaskWaker<W, R>>,
     W: Wake,
-    R: Wait + Clone + Drop,
+    R: Wait + Drop,
 {
     pub(crate) inner: TaskIn<SharedStorage<F, W, R>>,
 }
@@ -38,7 +38,7 @@ impl<F, W, R> Task<F, W, R>
 where
     F: Future<TaskWaker<W, R>>,
     W: Wake,
-    R: Wait + Clone + Drop,
+    R: Wait + Drop,
 {
     /// Lets the task run on without a handle. Its output is dropped once it is there.
     ///
@@ -118,7 +118,7 @@ impl<F, W, R> Handle<SharedStorage<F, W, R>> for Task<F, W, R>
 where
     F: Future<TaskWaker<W, R>>,
     W: Wake,
-    R: Wait + Clone + Drop,
+    R: Wait + Drop,
 {
     ghost answered = { λ task. task.inner.answered };
 
@@ -133,7 +133,7 @@ impl<F, W, R> Future<W> for Task<F, W, R>
 where
     F: Future<TaskWaker<W, R>>,
     W: Wake,
-    R: Wait + Clone + Drop,
+    R: Wait + Drop,
 {
     type Output = Result<F::Output, Cancelled>;
 
@@ -173,7 +173,7 @@ pub struct Cancel<F, W, R>
 where
     F: Future<TaskWaker<W, R>>,
     W: Wake,
-    R: Wait + Clone + Drop,
+    R: Wait + Drop,
 {
     task: Task<F, W, R>,
 }
@@ -182,7 +182,7 @@ impl<F, W, R> Future<W> for Cancel<F, W, R>
 where
     F: Future<TaskWaker<W, R>>,
     W: Wake,
-    R: Wait + Clone + Drop,
+    R: Wait + Drop,
 {
     type Output = Option<F::Output>;
 
@@ -206,7 +206,7 @@ pub struct FallibleTask<F, W, R>
 where
     F: Future<TaskWaker<W, R>>,
     W: Wake,
-    R: Wait + Clone + Drop,
+    R: Wait + Drop,
 {
     task: Task<F, W, R>,
 }
@@ -215,7 +215,7 @@ impl<F, W, R> FallibleTask<F, W, R>
 where
     F: Future<TaskWaker<W, R>>,
     W: Wake,
-    R: Wait + Clone + Drop,
+    R: Wait + Drop,
 {
     /// As `Task::detach`, for a `FallibleTask`.
     ///
@@ -268,7 +268,7 @@ impl<F, W, R> Future<W> for FallibleTask<F, W, R>
 where
     F: Future<TaskWaker<W, R>>,
     W: Wake,
-    R: Wait + Clone + Drop,
+    R: Wait + Drop,
 {
     type Output = Option<F::Output>;
 

@@ -21,7 +21,7 @@ pub struct Tick<'a, F, W, R>
 where
     F: Future<TaskWaker<W, R>>,
     W: Wake,
-    R: Wait + Clone + Drop,
+    R: Wait + Drop,
 {
     pub(crate) inner: TickIn<'a, SharedStorage<F, W, R>>,
 }
@@ -30,7 +30,7 @@ impl<F, W, R> Future<W> for Tick<'_, F, W, R>
 where
     F: Future<TaskWaker<W, R>>,
     W: Wake,
-    R: Wait + Clone + Drop,
+    R: Wait + Drop,
 {
     type Output = ();
 
@@ -53,7 +53,7 @@ impl<F, W, R> Drop for Tick<'_, F, W, R>
 where
     F: Future<TaskWaker<W, R>>,
     W: Wake,
-    R: Wait + Clone + Drop,
+    R: Wait + Drop,
 {
     fn drop(self) {
         let Tick { inner } = self;
@@ -73,7 +73,7 @@ pub struct Run<'a, F, W, R, G>
 where
     F: Future<TaskWaker<W, R>>,
     W: Wake,
-    R: Wait + Clone + Drop,
+    R: Wait + Drop,
     G: Future<W>,
 {
     pub(crate) inner: RunIn<'a, SharedStorage<F, W, R>, G>,
@@ -83,7 +83,7 @@ impl<F, W, R, G> Future<W> for Run<'_, F, W, R, G>
 where
     F: Future<TaskWaker<W, R>>,
     W: Wake,
-    R: Wait + Clone + Drop,
+    R: Wait + Drop,
     G: Future<W>,
 {
     type Output = G::Output;
@@ -107,7 +107,7 @@ impl<F, W, R, G> Drop for Run<'_, F, W, R, G>
 where
     F: Future<TaskWaker<W, R>>,
     W: Wake,
-    R: Wait + Clone + Drop,
+    R: Wait + Drop,
     G: Future<W>,
 {
     fn drop(self) {

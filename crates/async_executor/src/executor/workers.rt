@@ -17,7 +17,7 @@ impl<F, W, R> Executor<F, W, R>
 where
     F: Future<TaskWaker<W, R>>,
     W: Wake,
-    R: Wait + Clone + Drop,
+    R: Wait + Drop,
 {
     /// A worker, which runs tasks as a run does, and never sleeps. Its queue is made here, and its place
     /// among the runners is reserved, and given back once it is dropped.
@@ -85,7 +85,7 @@ pub struct Worker<'a, F, W, R>
 where
     F: Future<TaskWaker<W, R>>,
     W: Wake,
-    R: Wait + Clone + Drop,
+    R: Wait + Drop,
 {
     pub(crate) inner: WorkerIn<'a, SharedStorage<F, W, R>>,
     ghost goes_on: { has_ended inner.rest ≡ false },
@@ -95,7 +95,7 @@ impl<F, W, R> Worker<'_, F, W, R>
 where
     F: Future<TaskWaker<W, R>>,
     W: Wake,
-    R: Wait + Clone + Drop,
+    R: Wait + Drop,
 {
     /// This `Worker` runs tasks until none is found, or until a whole turn was run since the last one that
     /// was over. True says that the turn is over, so that there may be more tasks. False says that none was
@@ -114,7 +114,7 @@ impl<F, W, R> Drop for Worker<'_, F, W, R>
 where
     F: Future<TaskWaker<W, R>>,
     W: Wake,
-    R: Wait + Clone + Drop,
+    R: Wait + Drop,
 {
     fn drop(self) {
         let Worker { inner } = self;
@@ -137,7 +137,7 @@ pub struct Sleeper<'a, F, W, R>
 where
     F: Future<TaskWaker<W, R>>,
     W: Wake,
-    R: Wait + Clone + Drop,
+    R: Wait + Drop,
 {
     pub(crate) inner: SleeperIn<'a, SharedStorage<F, W, R>>,
 }
@@ -146,7 +146,7 @@ impl<F, W, R> Sleeper<'_, F, W, R>
 where
     F: Future<TaskWaker<W, R>>,
     W: Wake,
-    R: Wait + Clone + Drop,
+    R: Wait + Drop,
 {
     /// Puts this `Sleeper` to sleep: a copy of the waker is put at the end of the list of sleepers, in place
     /// of an earlier one, and is woken once there may be a task. Then all queues are looked at. `Ok(true)`
@@ -223,7 +223,7 @@ impl<F, W, R> Drop for Sleeper<'_, F, W, R>
 where
     F: Future<TaskWaker<W, R>>,
     W: Wake,
-    R: Wait + Clone + Drop,
+    R: Wait + Drop,
 {
     fn drop(self) {
         let Sleeper { inner } = self;

@@ -9,12 +9,12 @@ use std::cell::Cell;
 use std::rc::Rc;
 use std::sync::{Arc, Wait};
 
-struct Local<F: Future<TaskWaker<W, R>>, W: Wake, R: Wait + Clone + Drop> {
+struct Local<F: Future<TaskWaker<W, R>>, W: Wake, R: Wait + Drop> {
     state: Arc<ExecutorState<W, R>>,
     futures: Cell<FutureTable<F, Arc<ExecutorState<W, R>>, F::Output>>,
 }
 
-impl<F: Future<TaskWaker<W, R>>, W: Wake, R: Wait + Clone + Drop> Drop for Local<F, W, R> {
+impl<F: Future<TaskWaker<W, R>>, W: Wake, R: Wait + Drop> Drop for Local<F, W, R> {
     // Not derived: the proof of each crate that drops a handle would go through all that stands here.
     fn drop(self) {
         let Local { state, futures } = self;
@@ -26,12 +26,11 @@ impl<F: Future<TaskWaker<W, R>>, W: Wake, R: Wait + Clone + Drop> Drop for Local
 /// Storage in a cell: no thread waits for it. The state is that of the shared one too, so the
 /// wakers of its tasks may go to other threads.
 #[derive(Drop)]
-pub struct LocalStorage<F: Future<TaskWaker<W, R>>, W: Wake, R: Wait + Clone + Drop> {
+pub struct LocalStorage<F: Future<TaskWaker<W, R>>, W: Wake, R: Wait + Drop> {
     local: Rc<Local<F, W, R>>,
 }
 
-impl<F: Future<TaskWaker<W, R>>, W: Wake, R: Wait + Clone + Drop> Storage
-    for LocalStorage<F, W, R> {
+impl<F: Future<TaskWaker<W, R>>, W: Wake, R: Wait + Drop> Storage for LocalStorage<F, W, R> {
     type Future = F;
 
     type Waker = W;
@@ -62,8 +61,7 @@ impl<F: Future<TaskWaker<W, R>>, W: Wake, R: Wait + Clone + Drop> Storage
     }
 }
 
-impl<F: Future<TaskWaker<W, R>>, W: Wake, R: Wait + Clone + Drop> Shareable
-    for LocalStorage<F, W, R> {
+impl<F: Future<TaskWaker<W, R>>, W: Wake, R: Wait + Drop> Shareable for LocalStorage<F, W, R> {
     fn new(rt: R, alloc: Global) -> Result<Self, OutOfMemory> {
         let Ok(state) = Arc::new(alloc, ExecutorState::new(rt, alloc)?) else {
             return Err(OutOfMemory);

@@ -8,14 +8,14 @@ use executor_core::task::{Future, OutOfMemory, Wake};
 use std::alloc::Global;
 use std::sync::{Arc, Wait};
 
-struct Shared<F: Future<TaskWaker<W, R>>, W: Wake, R: Wait + Clone + Drop> {
+struct Shared<F: Future<TaskWaker<W, R>>, W: Wake, R: Wait + Drop> {
     state: Arc<ExecutorState<W, R>>,
     // The lock of the futures is not on the line of the counts of the shares.
     before_futures: CacheLine,
     futures: Lock<FutureTable<F, Arc<ExecutorState<W, R>>, F::Output>>,
 }
 
-impl<F: Future<TaskWaker<W, R>>, W: Wake, R: Wait + Clone + Drop> Drop for Shared<F, W, R> {
+impl<F: Future<TaskWaker<W, R>>, W: Wake, R: Wait + Drop> Drop for Shared<F, W, R> {
     // Not derived: the proof of each crate that drops a handle would go through all that stands here.
     fn drop(self) {
         let Shared {
@@ -30,12 +30,11 @@ impl<F: Future<TaskWaker<W, R>>, W: Wake, R: Wait + Clone + Drop> Drop for Share
 
 /// Storage behind a lock.
 #[derive(Drop)]
-pub struct SharedStorage<F: Future<TaskWaker<W, R>>, W: Wake, R: Wait + Clone + Drop> {
+pub struct SharedStorage<F: Future<TaskWaker<W, R>>, W: Wake, R: Wait + Drop> {
     shared: Arc<Shared<F, W, R>>,
 }
 
-impl<F: Future<TaskWaker<W, R>>, W: Wake, R: Wait + Clone + Drop> Storage
-    for SharedStorage<F, W, R> {
+impl<F: Future<TaskWaker<W, R>>, W: Wake, R: Wait + Drop> Storage for SharedStorage<F, W, R> {
     type Future = F;
 
     type Waker = W;
@@ -63,8 +62,7 @@ impl<F: Future<TaskWaker<W, R>>, W: Wake, R: Wait + Clone + Drop> Storage
     }
 }
 
-impl<F: Future<TaskWaker<W, R>>, W: Wake, R: Wait + Clone + Drop> Shareable
-    for SharedStorage<F, W, R> {
+impl<F: Future<TaskWaker<W, R>>, W: Wake, R: Wait + Drop> Shareable for SharedStorage<F, W, R> {
     fn new(rt: R, alloc: Global) -> Result<Self, OutOfMemory> {
         let Ok(state) = Arc::new(alloc, ExecutorState::new(rt, alloc)?) else {
             return Err(OutOfMemory);

@@ -15,7 +15,7 @@ pub trait Storage: Drop {
 
     type Waker: Wake;
 
-    type Runtime: Wait + Clone + Drop;
+    type Runtime: Wait + Drop;
 
     /// The state in this storage, which the executor shares with the wakers of its tasks.
     fn state(&self) -> &ExecutorState<Self::Waker, Self::Runtime>;

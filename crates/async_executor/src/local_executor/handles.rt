@@ -26,7 +26,7 @@ pub struct LocalTask<F, W, R>
 where
     F: Future<TaskWaker<W, R>>,
     W: Wake,
-    R: Wait + Clone + Drop,
+    R: Wait + Drop,
 {
     pub(crate) inner: TaskIn<LocalStorage<F, W, R>>,
 }
@@ -35,7 +35,7 @@ impl<F, W, R> LocalTask<F, W, R>
 where
     F: Future<TaskWaker<W, R>>,
     W: Wake,
-    R: Wait + Clone + Drop,
+    R: Wait + Drop,
 {
     /// As `Task::detach`, for a `LocalTask`.
     ///
@@ -97,7 +97,7 @@ impl<F, W, R> Handle<LocalStorage<F, W, R>> for LocalTask<F, W, R>
 where
     F: Future<TaskWaker<W, R>>,
     W: Wake,
-    R: Wait + Clone + Drop,
+    R: Wait + Drop,
 {
     ghost answered = { λ task. task.inner.answered };
 
@@ -112,7 +112,7 @@ impl<F, W, R> Future<W> for LocalTask<F, W, R>
 where
     F: Future<TaskWaker<W, R>>,
     W: Wake,
-    R: Wait + Clone + Drop,
+    R: Wait + Drop,
 {
     type Output = Result<F::Output, Cancelled>;
 
@@ -134,7 +134,7 @@ pub struct LocalCancel<F, W, R>
 where
     F: Future<TaskWaker<W, R>>,
     W: Wake,
-    R: Wait + Clone + Drop,
+    R: Wait + Drop,
 {
     task: LocalTask<F, W, R>,
 }
@@ -143,7 +143,7 @@ impl<F, W, R> Future<W> for LocalCancel<F, W, R>
 where
     F: Future<TaskWaker<W, R>>,
     W: Wake,
-    R: Wait + Clone + Drop,
+    R: Wait + Drop,
 {
     type Output = Option<F::Output>;
 
@@ -165,7 +165,7 @@ pub struct LocalFallibleTask<F, W, R>
 where
     F: Future<TaskWaker<W, R>>,
     W: Wake,
-    R: Wait + Clone + Drop,
+    R: Wait + Drop,
 {
     task: LocalTask<F, W, R>,
 }
@@ -174,7 +174,7 @@ impl<F, W, R> LocalFallibleTask<F, W, R>
 where
     F: Future<TaskWaker<W, R>>,
     W: Wake,
-    R: Wait + Clone + Drop,
+    R: Wait + Drop,
 {
     /// As `FallibleTask::detach`, for a `LocalFallibleTask`.
     ///
@@ -218,7 +218,7 @@ impl<F, W, R> Future<W> for LocalFallibleTask<F, W, R>
 where
     F: Future<TaskWaker<W, R>>,
     W: Wake,
-    R: Wait + Clone + Drop,
+    R: Wait + Drop,
 {
     type Output = Option<F::Output>;
 

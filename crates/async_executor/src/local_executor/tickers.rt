@@ -18,7 +18,7 @@ pub struct LocalTick<'a, F, W, R>
 where
     F: Future<TaskWaker<W, R>>,
     W: Wake,
-    R: Wait + Clone + Drop,
+    R: Wait + Drop,
 {
     pub(crate) inner: TickIn<'a, LocalStorage<F, W, R>>,
 }
@@ -27,7 +27,7 @@ impl<F, W, R> Future<W> for LocalTick<'_, F, W, R>
 where
     F: Future<TaskWaker<W, R>>,
     W: Wake,
-    R: Wait + Clone + Drop,
+    R: Wait + Drop,
 {
     type Output = ();
 
@@ -45,7 +45,7 @@ impl<F, W, R> Drop for LocalTick<'_, F, W, R>
 where
     F: Future<TaskWaker<W, R>>,
     W: Wake,
-    R: Wait + Clone + Drop,
+    R: Wait + Drop,
 {
     fn drop(self) {
         let LocalTick { inner } = self;
@@ -60,7 +60,7 @@ pub struct LocalRun<'a, F, W, R, G>
 where
     F: Future<TaskWaker<W, R>>,
     W: Wake,
-    R: Wait + Clone + Drop,
+    R: Wait + Drop,
     G: Future<W>,
 {
     pub(crate) inner: RunIn<'a, LocalStorage<F, W, R>, G>,
@@ -70,7 +70,7 @@ impl<F, W, R, G> Future<W> for LocalRun<'_, F, W, R, G>
 where
     F: Future<TaskWaker<W, R>>,
     W: Wake,
-    R: Wait + Clone + Drop,
+    R: Wait + Drop,
     G: Future<W>,
 {
     type Output = G::Output;
@@ -90,7 +90,7 @@ impl<F, W, R, G> Drop for LocalRun<'_, F, W, R, G>
 where
     F: Future<TaskWaker<W, R>>,
     W: Wake,
-    R: Wait + Clone + Drop,
+    R: Wait + Drop,
     G: Future<W>,
 {
     fn drop(self) {

@@ -27,12 +27,12 @@ use std::sync::{Arc, OnceLock, Wait};
 /// Some((value, [was_set, is_own], back))
 /// ```
 #[derive(Drop)]
-pub struct OnceCell<T: Drop, W: Wake, R: Wait + Clone + Drop> {
+pub struct OnceCell<T: Drop, W: Wake, R: Wait + Drop> {
     shared: Arc<Shared<T, W, R>>,
 }
 
 #[derive(Drop)]
-struct Shared<T: Drop, W: Wake, R: Wait + Clone + Drop> {
+struct Shared<T: Drop, W: Wake, R: Wait + Drop> {
     value: OnceLock<T>,
     // Set once the value is there.
     is_there: Signal<W, R>,
@@ -41,7 +41,7 @@ struct Shared<T: Drop, W: Wake, R: Wait + Clone + Drop> {
     rt: R,
 }
 
-impl<T: Drop, W: Wake, R: Wait + Clone + Drop> Shared<T, W, R> {
+impl<T: Drop, W: Wake, R: Wait + Drop> Shared<T, W, R> {
     // Writes the value, and wakes who waits for it, unless it was written before.
     fn set(&self, value: T) -> Result<(), T>
         ensures back { IfErr result (λ back. back ≡ value) }
@@ -83,7 +83,9 @@ impl<T: Drop, W: Wake, R: Wait + Clone + Drop> OnceCell<T, W, R> {
             Err(_) => Err(OutOfMemory),
         }
     }
+}
 
+impl<T: Drop, W: Wake, R: Wait + Drop> OnceCell<T, W, R> {
     /// The same cell, for another holder.
     ///
     /// # Errors
@@ -196,7 +198,7 @@ impl<G, W: Wake, R: Wait + Drop> Making<G, W, R> {
 ///
 /// Example: `uses::makes_once`, at `OnceCell`.
 #[derive(Drop)]
-pub struct OnceInit<G, T: Drop, W: Wake, R: Wait + Clone + Drop> {
+pub struct OnceInit<G, T: Drop, W: Wake, R: Wait + Drop> {
     // Goes before the cell.
     making: Option<Making<G, W, R>>,
     shared: Arc<Shared<T, W, R>>,
@@ -206,7 +208,7 @@ impl<G, T, W, R> Future<W> for OnceInit<G, T, W, R>
 where
     T: Drop,
     W: Wake,
-    R: Wait + Clone + Drop,
+    R: Wait + Drop,
     G: Future<W, Output = T>,
 {
     type Output = bool;
