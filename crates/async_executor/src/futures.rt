@@ -31,9 +31,16 @@ struct Place<F, S, T> {
 }
 
 /// What is kept of all tasks, each at its slot.
-#[derive(Drop)]
-pub struct FutureTable<F, S, T> {
+pub struct FutureTable<F: Drop, S: Drop, T: Drop> {
     places: Vec<Place<F, S, T>>,
+}
+
+impl<F: Drop, S: Drop, T: Drop> Drop for FutureTable<F, S, T> {
+    // Not derived: the proof of each crate that drops a handle would go through all that stands here.
+    fn drop(self) {
+        let FutureTable { places } = self;
+        drop(places);
+    }
 }
 
 /// The future of a task while it is out, with the waker that it is polled with.

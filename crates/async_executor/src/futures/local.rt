@@ -9,18 +9,10 @@ use std::cell::Cell;
 use std::rc::Rc;
 use std::sync::{Arc, Wait};
 
+#[derive(Drop)]
 struct Local<F: Future<TaskWaker<W, R>>, W: Wake, R: Wait + Drop> {
     state: Arc<ExecutorState<W, R>>,
     futures: Cell<FutureTable<F, Arc<ExecutorState<W, R>>, F::Output>>,
-}
-
-impl<F: Future<TaskWaker<W, R>>, W: Wake, R: Wait + Drop> Drop for Local<F, W, R> {
-    // Not derived: the proof of each crate that drops a handle would go through all that stands here.
-    fn drop(self) {
-        let Local { state, futures } = self;
-        drop(state);
-        drop(futures);
-    }
 }
 
 /// Storage in a cell: no thread waits for it. The state is that of the shared one too, so the

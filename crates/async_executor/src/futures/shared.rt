@@ -8,24 +8,12 @@ use executor_core::task::{Future, OutOfMemory, Wake};
 use std::alloc::Global;
 use std::sync::{Arc, Wait};
 
+#[derive(Drop)]
 struct Shared<F: Future<TaskWaker<W, R>>, W: Wake, R: Wait + Drop> {
     state: Arc<ExecutorState<W, R>>,
     // The lock of the futures is not on the line of the counts of the shares.
     before_futures: CacheLine,
     futures: Lock<FutureTable<F, Arc<ExecutorState<W, R>>, F::Output>>,
-}
-
-impl<F: Future<TaskWaker<W, R>>, W: Wake, R: Wait + Drop> Drop for Shared<F, W, R> {
-    // Not derived: the proof of each crate that drops a handle would go through all that stands here.
-    fn drop(self) {
-        let Shared {
-            state,
-            before_futures: _,
-            futures,
-        } = self;
-        drop(state);
-        drop(futures);
-    }
 }
 
 /// Storage behind a lock.
