@@ -3,8 +3,11 @@ use Rattle.executor_core.specs.declared.task.polling.Ran.{Ran}
 use Rattle.executor_core.specs.declared.task.polling.Ran.TheVariants.{Pending, Ready, Dropped}
 use Rattle.async_executor.specs.declared.deferred.EndThenSearch.{EndThenSearch}
 use Rattle.async_executor.specs.declared.deferred.EndThenSearch.TheVariants.{Searched, InVain, Unfinished}
+use Rattle.executor_core.specs.declared.task.values.Held.{Held}
+use Rattle.async_executor.specs.declared.deferred.BeforeEnd.{BeforeEnd}
+use Rattle.async_executor.specs.declared.deferred.BeforeEnd.TheVariants.{Refused, Woken, ToDrop}
 use Rattle.async_executor.specs.declared.deferred.Deferred.{Deferred}
-use Rattle.async_executor.specs.declared.deferred.Deferred.TheVariants.{Refused, Woken, ToDrop, Finished}
+use Rattle.async_executor.specs.declared.deferred.Deferred.TheVariants.{Unended, Finished}
 
 module _ {T : Type 0} where
   -- what is held of a task that was run is to be dropped exactly if its future was
@@ -13,12 +16,15 @@ module _ {T : Type 0} where
   IsHeldRight (Ready held output) = held.to_drop ≡ false
   IsHeldRight (Dropped held) = held.to_drop ≡ true
 
+-- what is held of a task is to be dropped exactly if its future is dropped before the end
+abbrev pub IsHeldFor : BeforeEnd → Held → Type 0
+IsHeldFor Refused held = held.to_drop ≡ false
+IsHeldFor (Woken notice) held = held.to_drop ≡ false
+IsHeldFor ToDrop held = held.to_drop ≡ true
+
 module _ {W T : Type 0} where
-  -- what is left to drop of a task
   abbrev pub IsDeferredRight : Deferred W T → Type 0
-  IsDeferredRight (Refused held) = held.to_drop ≡ false
-  IsDeferredRight (Woken held notice) = held.to_drop ≡ false
-  IsDeferredRight (ToDrop held) = held.to_drop ≡ true
+  IsDeferredRight (Unended held before) = IsHeldFor before held
   IsDeferredRight (Finished unwanted awaiter) = Unit {0}
 
   abbrev pub IsEndRight : EndThenSearch W T → Type 0

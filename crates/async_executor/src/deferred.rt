@@ -7,15 +7,20 @@ use executor_core::task::{Held, Notice, Wakeup};
 
 /// What the end of a task leaves to do.
 pub enum Deferred<W, T> {
-    /// The future has no place. It is to be dropped, and then the task is to be ended.
-    Refused(Held),
-    /// The task was woken during its poll, and the notice of that is to be spent. Then the task is
-    /// to be ended.
-    Woken(Held, Notice),
-    /// The task was cancelled meanwhile. The future is to be dropped.
-    ToDrop(Held),
+    /// The task is still held. This is to be done, and then it is to be ended.
+    Unended(Held, BeforeEnd),
     /// The output is to be dropped, and the awaiter to be woken.
     Finished(Option<T>, Option<Wakeup<W>>),
+}
+
+/// What is to be done before the end of a task that is held.
+pub enum BeforeEnd {
+    /// The future has no place. It is to be dropped.
+    Refused,
+    /// The task was woken during its poll, and the notice of that is to be spent.
+    Woken(Notice),
+    /// The task was cancelled meanwhile. The future is to be dropped.
+    ToDrop,
 }
 
 /// What came of the end of a task and of a search after it, made as one change.

@@ -8,12 +8,12 @@ ghost use Rattle.std.specs.Prelude.{◌≡◌, ◌↔◌, true, false, is_some, 
 ghost use Rattle.executor_core.specs.Limits.{is_lawful};
 ghost use Rattle.executor_core.specs.SpawnError.{refused_future};
 ghost use Rattle.executor_core.specs.declared.limits.NewError.TheVariants as NewError;
-ghost use Rattle.async_executor.specs.Deferred.{IsHeldRight, IsDeferredRight};
+ghost use Rattle.async_executor.specs.Deferred.{IsHeldFor, IsHeldRight, IsDeferredRight};
 
 mod closing;
 mod many;
 
-use crate::deferred::Deferred;
+use crate::deferred::{BeforeEnd, Deferred};
 use crate::futures::storage::{OutIn, OutputIn, Shareable, Storage};
 use crate::futures::transactions;
 use crate::poller::TaskPoller;
@@ -179,9 +179,20 @@ impl<S: Storage> ExecutorIn<S> {
                     awaiter.wake();
                 }
             }
-            Deferred::ToDrop(held) => self.drop_pending(id, held),
-            Deferred::Refused(held) => self.end_pending(id, held),
-            Deferred::Woken(held, notice) => {
+            Deferred::Unended(held, before) => self.end_held(id, held, before),
+        }
+    }
+
+    // Ends a task of this `ExecutorIn` that is still held, after what is to be done before.
+    #[cold]
+    #[inline(never)]
+    fn end_held(&self, id: TaskId, held: Held, before: BeforeEnd)
+        requires { IsHeldFor before held }
+    {
+        match before {
+            BeforeEnd::ToDrop => self.drop_pending(id, held),
+            BeforeEnd::Refused => self.end_pending(id, held),
+            BeforeEnd::Woken(notice) => {
                 // A held task gives none. What the type says may be there is spent all the same.
                 announce!(self.storage.state(), notice);
                 self.end_pending(id, held);

@@ -7,7 +7,7 @@ ghost use Rattle.std.specs.Prelude.{◌≡◌, false, IfErr};
 ghost use Rattle.executor_core.specs.SpawnError.{refused_future};
 ghost use Rattle.async_executor.specs.Deferred.{IsHeldRight, IsDeferredRight, IsEndRight};
 
-use crate::deferred::{Deferred, EndThenSearch, finished};
+use crate::deferred::{BeforeEnd, Deferred, EndThenSearch, finished};
 use crate::futures::storage::{OutIn, OutputIn, Shareable, Storage, futures};
 use crate::futures::{FutureTable, Out};
 use crate::machine::Search;
@@ -273,17 +273,17 @@ impl<F: Drop, W: Drop, R: Drop, T: Drop> FutureTable<F, Arc<ExecutorState<W, R>>
             Ok(wake) => wake,
             Err(wake) => {
                 return Err(match wake.make(id, cells) {
-                    Some(notice) => Deferred::Woken(held, notice),
-                    None => Deferred::Refused(held),
+                    Some(notice) => Deferred::Unended(held, BeforeEnd::Woken(notice)),
+                    None => Deferred::Unended(held, BeforeEnd::Refused),
                 });
             }
         };
         if let Some(notice) = wake.make(id, cells) {
-            return Err(Deferred::Woken(held, notice));
+            return Err(Deferred::Unended(held, BeforeEnd::Woken(notice)));
         }
         match cells.end_pending(held, ()) {
             EndPending::Back(notice) => Ok(notice),
-            EndPending::Drop((), held) => Err(Deferred::ToDrop(held)),
+            EndPending::Drop((), held) => Err(Deferred::Unended(held, BeforeEnd::ToDrop)),
         }
     }
 
