@@ -137,15 +137,13 @@ else
 fi
 
 # Opens these four pipes for who reads them, and runs a command, the first word, while they have nothing.
-# The last of them is its file 7.
+# The last of them is its file 7. Once they are open, there are new ones of their names, for who reads next:
+# it may come before the command has ended.
 with_open() {
     command=$1
     shift
-    mkfifo "$@"
-    timeout 1800 sh -c 'exec 4> "$2" 5> "$3" 6> "$4" 7> "$5" && eval "$1"' sh "$command" "$@" &&
-        ended=well || ended=ill
-    rm "$@"
-    [ "$ended" = well ]
+    timeout 1800 sh -c 'exec 4> "$2" 5> "$3" 6> "$4" 7> "$5" && command=$1 && shift && rm "$@" && mkfifo "$@" &&
+        eval "$command"' sh "$command" "$@"
 }
 
 # Whether the last of four pipes is read beside the others. The first word is for how many seconds 4 MiB
@@ -157,6 +155,7 @@ reads_last() {
 }
 
 # Which of four files three threads read is up to them, but there is no fourth thread.
+mkfifo a b c d
 for threads in 1 3 4; do
     run ours -j "$threads" -- a b c d &
     case $threads in
@@ -173,6 +172,7 @@ for threads in 1 3 4; do
         *) fail "with $threads threads: $read" ;;
     esac
 done
+rm a b c d
 
 # Runs ours alone, and compares what came with this status, this standard error and this output.
 expect() {
@@ -296,6 +296,7 @@ try_bodies() {
         echo "$number 0" > "$copy/cases/$(basename "$edit" .edit)"
         number=$((number + 1))
     done
+    mkfifo "$work/1" "$work/2" "$work/3" "$work/4"
     for name in $(ls "$copy/cases"); do
         [ "$name" = none ] && seconds=60 || seconds=20
         reads_last "$seconds" "$work/1" "$work/2" "$work/3" "$work/4" && read=yes || read=no
