@@ -265,8 +265,7 @@ fi
 # The public calls and types of these crates whose comment names no example. The machines of ticks and runs,
 # the random numbers of a search, and many types of async_executor are in modules that are not public.
 for source in $(cd crates && find async_executor/src async_utilities/src priority_executor/src \
-    sharded_executor/src pools/src -name '*.rt' ! -path '*/machine/*' \
-    ! -path '*/runner/random_generator.rt'); do
+    sharded_executor/src pools/src -name '*.rt' ! -path '*/machine/*'); do
     awk -v source="$source" '
         /^ *\/\/\/ Example: / { example = 1 }
         /^ *pub fn / || (/^pub (struct|enum|trait) / && source !~ /^async_executor/) {

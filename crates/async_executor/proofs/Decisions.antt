@@ -17,9 +17,9 @@ use Rattle.async_executor.specs.declared.machine.run.RunNext.{RunNext}
 use Rattle.async_executor.specs.declared.machine.run.RunNext.TheVariants as next
 use Rattle.async_executor.specs.declared.machine.run.RunState.{RunState}
 use Rattle.async_executor.specs.declared.machine.run.RunState.TheVariants as run
-use Rattle.async_executor.specs.declared.machine.run.Runner.{Runner}
-use Rattle.async_executor.specs.declared.machine.run.Stage.{Stage}
-use Rattle.async_executor.specs.declared.machine.run.Stage.TheVariants as stage
+use Rattle.async_executor.specs.declared.machine.run_steps.Runner.{Runner}
+use Rattle.async_executor.specs.declared.machine.run_steps.Stage.{Stage}
+use Rattle.async_executor.specs.declared.machine.run_steps.Stage.TheVariants as stage
 use Rattle.async_executor.specs.declared.machine.run_steps.Begun.TheVariants as begun
 use Rattle.async_executor.specs.declared.machine.tick.TickNext.{TickNext}
 use Rattle.async_executor.specs.declared.machine.tick.TickNext.TheVariants.{Act, Rest}

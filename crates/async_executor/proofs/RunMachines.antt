@@ -23,7 +23,7 @@ use Rattle.async_executor.specs.declared.machine.run.RunNext.{RunNext}
 use Rattle.async_executor.specs.declared.machine.run.RunNext.TheVariants as next
 use Rattle.async_executor.specs.declared.machine.run.RunReply.TheVariants.{Tick}
 use Rattle.async_executor.specs.declared.machine.run.RunState.TheVariants as state
-use Rattle.async_executor.specs.declared.machine.run.Runner.{Runner}
+use Rattle.async_executor.specs.declared.machine.run_steps.Runner.{Runner}
 use Rattle.async_executor.specs.declared.machine.run_steps.Left.{Left}
 use Rattle.async_executor.specs.declared.machine.waiting.Came.{Came}
 use Rattle.async_executor.specs.declared.machine.waiting.Came.TheVariants.{Act, End}

@@ -1,13 +1,13 @@
 use Rattle.std.specs.Prelude.{◌≡◌, true, false}
 use Rattle.executor_core.specs.declared.task.polling.Ran.{Ran}
 use Rattle.executor_core.specs.declared.task.polling.Ran.TheVariants.{Pending, Ready, Dropped}
-use Rattle.async_executor.specs.declared.deferred.EndThenSearch.{EndThenSearch}
-use Rattle.async_executor.specs.declared.deferred.EndThenSearch.TheVariants.{Searched, InVain, Unfinished}
-use Rattle.executor_core.specs.declared.task.values.Held.{Held}
-use Rattle.async_executor.specs.declared.deferred.BeforeEnd.{BeforeEnd}
-use Rattle.async_executor.specs.declared.deferred.BeforeEnd.TheVariants.{Refused, Woken, ToDrop}
-use Rattle.async_executor.specs.declared.deferred.Deferred.{Deferred}
-use Rattle.async_executor.specs.declared.deferred.Deferred.TheVariants.{Unended, Finished}
+use Rattle.async_executor.specs.declared.futures.transactions.EndThenSearch.{EndThenSearch}
+use Rattle.async_executor.specs.declared.futures.transactions.EndThenSearch.TheVariants.{Searched, InVain, Unfinished}
+use Rattle.executor_core.specs.declared.task.polling.Held.{Held}
+use Rattle.async_executor.specs.declared.futures.transactions.BeforeEnd.{BeforeEnd}
+use Rattle.async_executor.specs.declared.futures.transactions.BeforeEnd.TheVariants.{Refused, Woken, ToDrop}
+use Rattle.async_executor.specs.declared.futures.transactions.Deferred.{Deferred}
+use Rattle.async_executor.specs.declared.futures.transactions.Deferred.TheVariants.{Unended, Finished}
 
 module _ {T : Type 0} where
   -- what is held of a task that was run is to be dropped exactly if its future was

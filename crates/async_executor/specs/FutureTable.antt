@@ -1,5 +1,5 @@
 use Rattle.std.specs.Prelude.{◌==◌, Bool, true, false, ℕ, Option, Some, None, cond, List, [], ◌∷◌, ◌++◌, slice_set, slice_get, length, nat_lt, vec_len, vec_capacity, ◌<◌}
-use Rattle.executor_core.specs.declared.task.id.TaskId.{TaskId}
+use Rattle.executor_core.specs.declared.task.cell.TaskId.{TaskId}
 use Rattle.async_executor.specs.declared.futures.Kept.{Kept}
 use Rattle.async_executor.specs.declared.futures.Kept.TheVariants.{Nothing, Future, Output}
 use Rattle.async_executor.specs.declared.futures.Place.{Place}

@@ -2,7 +2,7 @@
 use Rattle.std.specs.Prelude.{◌≡◌, None}
 use Rattle.executor_core.specs.declared.task.polling.Polled.{Polled}
 use Rattle.executor_core.specs.declared.task.polling.Polled.TheVariants.{Pending, Ready}
-use Rattle.executor_core.specs.declared.task.id.TaskId.{TaskId}
+use Rattle.executor_core.specs.declared.task.cell.TaskId.{TaskId}
 use Rattle.async_executor.specs.declared.poller.TaskPoller.{TaskPoller}
 
 module _ {T : Type 0} where

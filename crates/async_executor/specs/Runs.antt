@@ -13,16 +13,16 @@ use Rattle.std.specs.Prelude.{◌≡◌, ℕ, Bool, true, false, List, [], Optio
 use Rattle.executor_core.specs.Ring.{IdRing}
 use Rattle.executor_core.specs.declared.limits.Limits.{Limits}
 use Rattle.executor_core.specs.declared.queue.runner.RunnerKey.{RunnerKey}
-use Rattle.executor_core.specs.declared.task.id.TaskId.{TaskId}
+use Rattle.executor_core.specs.declared.task.cell.TaskId.{TaskId}
 use Rattle.async_executor.specs.Runs.Counts.{up_to}
 use Rattle.async_executor.specs.Ticks.{Asked, is_return}
 use Rattle.async_executor.specs.Ticks as ticks
 use Rattle.async_executor.specs.Ticks.Replies.{actor_of}
 use Rattle.async_executor.specs.declared.machine.run.RunState.{RunState}
 use Rattle.async_executor.specs.declared.machine.run.RunState.TheVariants as state
-use Rattle.async_executor.specs.declared.machine.run.Runner.{Runner}
-use Rattle.async_executor.specs.declared.machine.run.Stage.{Stage}
-use Rattle.async_executor.specs.declared.machine.run.Stage.TheVariants as stage
+use Rattle.async_executor.specs.declared.machine.run_steps.Runner.{Runner}
+use Rattle.async_executor.specs.declared.machine.run_steps.Stage.{Stage}
+use Rattle.async_executor.specs.declared.machine.run_steps.Stage.TheVariants as stage
 use Rattle.async_executor.specs.declared.machine.run.RunAction.{RunAction}
 use Rattle.async_executor.specs.declared.machine.run.RunAction.TheVariants as asks
 use Rattle.async_executor.specs.declared.machine.run.RunMachine.{RunMachine}
@@ -30,7 +30,7 @@ use Rattle.async_executor.specs.declared.machine.run.RunNext.{RunNext}
 use Rattle.async_executor.specs.declared.machine.run.RunNext.TheVariants.{Act, Rest}
 use Rattle.async_executor.specs.declared.machine.run.RunReply.{RunReply}
 use Rattle.async_executor.specs.declared.machine.run.RunReply.TheVariants.{Begin, Dropped, Registered, NotRegistered, OwnPending, OwnReady, Tick, Moved, Unregistered, Released}
-use Rattle.async_executor.specs.declared.machine.run.RunRest.{RunRest}
+use Rattle.async_executor.specs.declared.machine.run_steps.RunRest.{RunRest}
 use Rattle.async_executor.specs.declared.machine.run_steps.Begun.{Begun}
 use Rattle.async_executor.specs.declared.machine.run_steps.Begun.TheVariants as begun
 

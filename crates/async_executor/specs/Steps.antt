@@ -7,7 +7,7 @@ use Rattle.executor_core.specs.declared.sleepers.list.Update as list
 use Rattle.executor_core.specs.declared.task.values.Again as values
 use Rattle.executor_core.specs.declared.task.values.Change.{Change}
 use Rattle.executor_core.specs.declared.task.values.Notice.{Notice}
-use Rattle.executor_core.specs.declared.task.values.Taken.{Taken}
+use Rattle.executor_core.specs.declared.task.polling.Taken.{Taken}
 use Rattle.async_executor.specs.declared.machine.steps.Departing.{Departing}
 use Rattle.async_executor.specs.declared.machine.steps.Departing.TheVariants as departs
 use Rattle.async_executor.specs.declared.machine.steps.Found.{Found}

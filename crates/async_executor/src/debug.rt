@@ -10,7 +10,7 @@ ghost use Rattle.executor_core.specs.Cells.Calls.{undropped_count};
 mod queue_lens;
 
 use crate::executor::{Executor, TaskWaker};
-use crate::futures::storage::Storage;
+use crate::futures::Storage;
 use crate::local_executor::LocalExecutor;
 use crate::scheduler::ExecutorIn;
 use crate::state::ExecutorState;
@@ -101,7 +101,7 @@ impl<S: Storage> ExecutorIn<S> {
         active: Active,
         f: &mut Formatter<O>,
     ) -> fmt::Result {
-        let state = self.state();
+        let state = self.storage.state();
         let counts = match state.try_cells() {
             Some(cells) => Some(TaskCounts::of(&cells)),
             None => None,

@@ -18,7 +18,7 @@ mod handles;
 mod tickers;
 mod workers;
 
-use crate::futures::shared::SharedStorage;
+use crate::futures::SharedStorage;
 pub use crate::runner::RunError;
 use crate::scheduler::ExecutorIn;
 pub use crate::scheduler::SpawnMany;

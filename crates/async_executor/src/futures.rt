@@ -1,4 +1,4 @@
-//! The futures and outputs of an executor's tasks.
+//! The futures and outputs of an executor's tasks, and where they are kept.
 //!
 //! A task has the place of its slot for as long as its cell has that slot, also while its future is
 //! out to be polled. The place bears the number of the task, so that a later task of the same slot
@@ -6,14 +6,18 @@
 ghost use Rattle.std.specs.Prelude.{◌≡◌, ◌<◌, [], cond, Some, None, OnOk, IsTrue, is_some, option_copied, vec_len};
 ghost use Rattle.async_executor.specs.FutureTable.{kept_at, is_vacant, future_in, output_in, inserted, with_place, HasRoom};
 
-pub(crate) mod local;
-pub(crate) mod shared;
-pub(crate) mod storage;
 pub(crate) mod transactions;
 
+use crate::lock::{APART, CacheLine, Lock};
+use crate::poller::Out;
+use crate::state::ExecutorState;
 use crate::waker::TaskWaker;
-use executor_core::task::{OutOfMemory, TaskId};
+use executor_core::task::{Future, OutOfMemory, TaskId, Wake};
 use std::alloc::Global;
+use std::cell::Cell;
+use std::mem::forget;
+use std::rc::Rc;
+use std::sync::{Arc, MutexGuard, Wait};
 
 /// What is kept of a task: its future with a share S of which its waker is made, or its output T.
 #[derive(Drop)]
@@ -42,9 +46,6 @@ impl<F: Drop, S: Drop, T: Drop> Drop for FutureTable<F, S, T> {
         drop(places);
     }
 }
-
-/// The future of a task while it is out, with the waker that it is polled with.
-pub type Out<F, W, R> = Option<(F, TaskWaker<W, R>)>;
 
 impl<F: Drop, S: Drop, T: Drop> FutureTable<F, S, T> {
     /// A `FutureTable` without places.
@@ -184,5 +185,243 @@ impl<F: Drop, S: Drop, T: Drop> FutureTable<F, S, T> {
         }
         self.places[id.slot()].kept = Kept::Output(output);
         None
+    }
+}
+
+/// A share of an executor's state and of its futures.
+pub trait Storage: Drop {
+    type Future: Future<TaskWaker<Self::Waker, Self::Runtime>>;
+
+    type Waker: Wake;
+
+    type Runtime: Wait + Drop;
+
+    /// The state in this storage, which the executor shares with the wakers of its tasks.
+    fn state(&self) -> &ExecutorState<Self::Waker, Self::Runtime>;
+
+    /// The futures in this storage, if nobody has them.
+    fn try_futures(&self) -> Option<FuturesGuard<'_, FuturesIn<Self>>>;
+
+    /// Waits for the futures in this storage, which somebody has.
+    fn wait_for_futures(&self) -> FuturesGuard<'_, FuturesIn<Self>>;
+}
+
+/// Storage of which further shares are made. A call that is generic in a storage is proved, where it is
+/// called, against all that its traits have, and few calls need a share: so these stand apart.
+pub trait Shareable: Storage {
+    /// The first share of the storage of an executor that has no tasks.
+    fn new(rt: Self::Runtime, alloc: Global) -> Result<Self, OutOfMemory>;
+
+    /// Another share of the storage.
+    fn share(&self) -> Result<Self, OutOfMemory>;
+
+    /// A share of the storage's state alone.
+    fn share_state(&self) -> Result<StateIn<Self>, OutOfMemory>;
+}
+
+/// Waits for the futures of a storage, which nobody else has until the guard is dropped. A macro, for the
+/// same reason as `cells!`.
+macro_rules! futures {
+    ($storage:expr) => {
+        match $storage.try_futures() {
+            Some(futures) => futures,
+            None => $storage.wait_for_futures(),
+        }
+    };
+}
+
+pub(crate) use futures;
+
+/// A share of the state of a storage, as the wakers of its tasks have.
+pub type StateIn<S> = Arc<ExecutorState<<S as Storage>::Waker, <S as Storage>::Runtime>>;
+
+/// The futures of a storage.
+pub type FuturesIn<S> = FutureTable<<S as Storage>::Future, StateIn<S>, OutputIn<S>>;
+
+/// The futures, which nobody else has until this is dropped.
+#[derive(Drop)]
+// Two kinds, since an associated type can have no lifetime for a parameter. A storage makes one kind alone,
+// so in the code of its calls the choice is gone.
+pub enum FuturesGuard<'a, T: Drop> {
+    Locked(MutexGuard<'a, T>),
+    Lent(Lent<'a, T>),
+}
+
+impl<T: Drop> FuturesGuard<'_, T> {
+    /// The table of futures, in this guard of a storage.
+    #[inline(always)]
+    pub(crate) fn get(&mut self) -> &mut T {
+        match self {
+            FuturesGuard::Locked(futures) => &mut **futures,
+            FuturesGuard::Lent(lent) => &mut lent.futures,
+        }
+    }
+}
+
+/// A table of futures that was taken out of its cell, and is put back when this is dropped. The cell has an
+/// empty one meanwhile, which nobody asks: no change makes another change of the same storage.
+pub struct Lent<'a, T: Drop> {
+    cell: &'a Cell<T>,
+    futures: T,
+}
+
+impl<'a, T: Drop> Lent<'a, T> {
+    /// Takes the table of a storage out of its cell, and leaves this one there.
+    #[inline(always)]
+    pub(crate) fn of(cell: &'a Cell<T>, meanwhile: T) -> Lent<'a, T> {
+        let futures = cell.replace(meanwhile);
+        Lent { cell, futures }
+    }
+}
+
+impl<T: Drop> Drop for Lent<'_, T> {
+    #[inline(always)]
+    fn drop(self) {
+        let Lent { cell, futures } = self;
+        // It is empty and has no memory.
+        forget(cell.replace(futures));
+    }
+}
+
+/// The future of a task of a storage while it is out, with its waker.
+pub type OutIn<S> = Out<<S as Storage>::Future, <S as Storage>::Waker, <S as Storage>::Runtime>;
+
+/// What a task gives.
+pub type OutputIn<S> = <<S as Storage>::Future as Future<
+    TaskWaker<<S as Storage>::Waker, <S as Storage>::Runtime>,
+>>::Output;
+
+#[derive(Drop)]
+struct Shared<F: Future<TaskWaker<W, R>>, W: Wake, R: Wait + Drop> {
+    state: Arc<ExecutorState<W, R>>,
+    // The lock of the futures is not on the line of the counts of the shares.
+    before_futures: CacheLine,
+    futures: Lock<FutureTable<F, Arc<ExecutorState<W, R>>, F::Output>>,
+}
+
+/// Storage behind a lock.
+#[derive(Drop)]
+pub struct SharedStorage<F: Future<TaskWaker<W, R>>, W: Wake, R: Wait + Drop> {
+    shared: Arc<Shared<F, W, R>>,
+}
+
+impl<F: Future<TaskWaker<W, R>>, W: Wake, R: Wait + Drop> Storage for SharedStorage<F, W, R> {
+    type Future = F;
+
+    type Waker = W;
+
+    type Runtime = R;
+
+    fn state(&self) -> &ExecutorState<W, R> {
+        &self.shared.state
+    }
+
+    #[inline(always)]
+    fn try_futures(
+        &self,
+    ) -> Option<FuturesGuard<'_, FutureTable<F, Arc<ExecutorState<W, R>>, F::Output>>> {
+        let futures = self.shared.futures.mutex.try_lock()?;
+        Some(FuturesGuard::Locked(futures))
+    }
+
+    // Inline, so that who has the guard knows of which kind it is.
+    #[inline(always)]
+    fn wait_for_futures(
+        &self,
+    ) -> FuturesGuard<'_, FutureTable<F, Arc<ExecutorState<W, R>>, F::Output>> {
+        FuturesGuard::Locked(self.shared.futures.wait_for(self.shared.state.rt()))
+    }
+}
+
+impl<F: Future<TaskWaker<W, R>>, W: Wake, R: Wait + Drop> Shareable for SharedStorage<F, W, R> {
+    fn new(rt: R, alloc: Global) -> Result<Self, OutOfMemory> {
+        let Ok(state) = Arc::new(alloc, ExecutorState::new(rt, alloc)?) else {
+            return Err(OutOfMemory);
+        };
+        let futures = Lock::new(FutureTable::new(alloc));
+        let shared = Shared {
+            state,
+            before_futures: APART,
+            futures,
+        };
+        match Arc::new(alloc, shared) {
+            Ok(shared) => Ok(SharedStorage { shared }),
+            Err(_) => Err(OutOfMemory),
+        }
+    }
+
+    fn share(&self) -> Result<Self, OutOfMemory> {
+        let shared = Arc::try_clone(&self.shared)?;
+        Ok(SharedStorage { shared })
+    }
+
+    fn share_state(&self) -> Result<Arc<ExecutorState<W, R>>, OutOfMemory> {
+        Ok(Arc::try_clone(&self.shared.state)?)
+    }
+}
+
+#[derive(Drop)]
+struct Local<F: Future<TaskWaker<W, R>>, W: Wake, R: Wait + Drop> {
+    state: Arc<ExecutorState<W, R>>,
+    futures: Cell<FutureTable<F, Arc<ExecutorState<W, R>>, F::Output>>,
+}
+
+/// Storage in a cell: no thread waits for it. The state is that of the shared one too, so the
+/// wakers of its tasks may go to other threads.
+#[derive(Drop)]
+pub struct LocalStorage<F: Future<TaskWaker<W, R>>, W: Wake, R: Wait + Drop> {
+    local: Rc<Local<F, W, R>>,
+}
+
+impl<F: Future<TaskWaker<W, R>>, W: Wake, R: Wait + Drop> Storage for LocalStorage<F, W, R> {
+    type Future = F;
+
+    type Waker = W;
+
+    type Runtime = R;
+
+    fn state(&self) -> &ExecutorState<W, R> {
+        &self.local.state
+    }
+
+    #[inline(always)]
+    fn try_futures(
+        &self,
+    ) -> Option<FuturesGuard<'_, FutureTable<F, Arc<ExecutorState<W, R>>, F::Output>>> {
+        Some(self.wait_for_futures())
+    }
+
+    // Nobody else has it.
+    #[inline(always)]
+    fn wait_for_futures(
+        &self,
+    ) -> FuturesGuard<'_, FutureTable<F, Arc<ExecutorState<W, R>>, F::Output>> {
+        // Taken out, where a `RefCell` could answer that it is in use, to which there is no answer but to
+        // wait. No change of a storage makes another, so nobody meets the empty table; and no two executors
+        // share one, since there is no static that can be changed.
+        let meanwhile = FutureTable::new(self.local.state.alloc());
+        FuturesGuard::Lent(Lent::of(&self.local.futures, meanwhile))
+    }
+}
+
+impl<F: Future<TaskWaker<W, R>>, W: Wake, R: Wait + Drop> Shareable for LocalStorage<F, W, R> {
+    fn new(rt: R, alloc: Global) -> Result<Self, OutOfMemory> {
+        let Ok(state) = Arc::new(alloc, ExecutorState::new(rt, alloc)?) else {
+            return Err(OutOfMemory);
+        };
+        let futures = Cell::new(FutureTable::new(alloc));
+        match Rc::new(alloc, Local { state, futures }) {
+            Ok(local) => Ok(LocalStorage { local }),
+            Err(_) => Err(OutOfMemory),
+        }
+    }
+
+    fn share(&self) -> Result<Self, OutOfMemory> {
+        let local = self.local.clone()?;
+        Ok(LocalStorage { local })
+    }
+
+    fn share_state(&self) -> Result<Arc<ExecutorState<W, R>>, OutOfMemory> {
+        Ok(Arc::try_clone(&self.local.state)?)
     }
 }

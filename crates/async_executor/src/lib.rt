@@ -14,7 +14,6 @@
 #![tactic(auto)]
 
 pub(crate) mod debug;
-pub(crate) mod deferred;
 pub(crate) mod dropper;
 pub mod executor;
 pub(crate) mod futures;

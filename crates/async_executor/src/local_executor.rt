@@ -14,7 +14,7 @@ ghost use Rattle.async_executor.specs.SpawnMany.{spawned, SpawnsInTurn, AddsHand
 mod handles;
 mod tickers;
 
-use crate::futures::local::LocalStorage;
+use crate::futures::LocalStorage;
 use crate::runner::RunError;
 use crate::scheduler::{ExecutorIn, SpawnMany};
 use crate::waker::TaskWaker;

@@ -50,7 +50,7 @@ const TRIES: u32 = 16;
 /// its own.
 #[derive(Drop)]
 pub(crate) struct Lock<T> {
-    mutex: Mutex<T>,
+    pub(crate) mutex: Mutex<T>,
     before_pause: CacheLine,
     pause: AtomicU32,
     // Whether a waiter has the turn to try.
@@ -66,12 +66,6 @@ impl<T> Lock<T> {
             pause: AtomicU32::new(SHORTEST),
             is_taken: AtomicBool::new(false),
         }
-    }
-
-    /// Locks this `Lock`, if nobody has it.
-    #[inline(always)]
-    pub(crate) fn try_lock(&self) -> Option<MutexGuard<'_, T>> {
-        self.mutex.try_lock()
     }
 
     /// Waits for a `Lock` that was not free.

@@ -11,7 +11,6 @@
 //! and answers with the next action. Running ticks and runs hold steps: a reply is a large value, which
 //! would be built only to be taken apart.
 
-mod count;
 mod run;
 mod run_steps;
 mod steps;
@@ -19,11 +18,11 @@ mod tick;
 mod waiting;
 mod worker_steps;
 
-pub(crate) use run::Runner;
-pub use run::{RunAction, RunMachine, RunNext, RunReply, RunRest};
+pub use run::{RunAction, RunMachine, RunNext, RunReply};
+pub use run_steps::{RandomGenerator, RunRest};
 pub(crate) use run_steps::{
-    Begun, Dropped, NextTask, NotRegistered, OwnPolled, PollingOwn, Registering, Search, Started,
-    TurnOver, Unregistering,
+    Begun, Dropped, NextTask, NotRegistered, OwnPolled, PollingOwn, Registering, Runner, Search,
+    Started, TurnOver, Unregistering,
 };
 pub(crate) use steps::{
     Departed, Departing, Found, GoingToSleep, Rested, Running, Searching, Went,

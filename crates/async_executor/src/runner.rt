@@ -21,10 +21,8 @@
 //! are not left behind its own. After a turn of so many tasks it lets others of its thread go on. The
 //! limits of its executor say how many that are.
 
-pub(crate) mod random_generator;
 mod run;
 
-pub use crate::machine::{RunAction, RunMachine, RunNext, RunReply, RunRest};
-pub use random_generator::RandomGenerator;
+pub use crate::machine::{RandomGenerator, RunAction, RunMachine, RunNext, RunReply, RunRest};
 pub use run::RunError;
 pub(crate) use run::{RunIn, WorkerIn};

@@ -13,15 +13,14 @@ ghost use Rattle.async_executor.specs.Deferred.{IsHeldFor, IsHeldRight, IsDeferr
 mod closing;
 mod many;
 
-use crate::deferred::{BeforeEnd, Deferred};
-use crate::futures::storage::{OutIn, OutputIn, Shareable, Storage};
-use crate::futures::transactions;
-use crate::poller::TaskPoller;
-use crate::state::{ExecutorState, announce, cells};
+use crate::futures::transactions::{self, BeforeEnd, Deferred};
+use crate::futures::{OutIn, OutputIn, Shareable, Storage};
+use crate::poller::poll_taken;
+use crate::state::{announce, cells};
 use crate::task::TaskIn;
 use executor_core::limits::{Limits, NewError};
 use executor_core::task::{
-    EndPending, Future, Held, Notice, OutOfMemory, Ran, SpawnError, Taken, TaskId, run_taken,
+    EndPending, Future, Held, Notice, OutOfMemory, Ran, SpawnError, Taken, TaskId,
 };
 pub(crate) use many::Handle;
 pub use many::SpawnMany;
@@ -47,7 +46,7 @@ macro_rules! take_and_run {
 /// A share of an executor, which spawns tasks and runs them.
 #[derive(Drop)]
 pub struct ExecutorIn<S: Storage> {
-    storage: S,
+    pub(crate) storage: S,
     pub(crate) limits: Limits,
     ghost lawful: { is_lawful limits ≡ true },
 }
@@ -96,7 +95,7 @@ impl<S: Storage> ExecutorIn<S> {
 
     /// Wakes every task of this `ExecutorIn`, and spends the notice of those that were queued.
     pub(crate) fn wake_all(&self) {
-        let state = self.state();
+        let state = self.storage.state();
         let woken = state.cells().wake_all();
         if let Some(notice) = woken {
             announce!(state, notice);
@@ -115,16 +114,6 @@ impl<S: Storage> ExecutorIn<S> {
         take_and_run!(self, take_any)
     }
 
-    /// What this `ExecutorIn` shares with its handles and its wakers.
-    pub(crate) fn state(&self) -> &ExecutorState<S::Waker, S::Runtime> {
-        self.storage.state()
-    }
-
-    /// The storage of this `ExecutorIn`, which keeps the futures of its tasks.
-    pub(crate) fn storage(&self) -> &S {
-        &self.storage
-    }
-
     /// Runs a task of this `ExecutorIn` that was found, and says whether there was one. No lock may be held.
     #[inline(always)]
     pub(crate) fn run_found(&self, found: Option<(Taken<()>, Notice)>) -> bool
@@ -134,7 +123,7 @@ impl<S: Storage> ExecutorIn<S> {
             return false;
         };
         // Before the task is run, which may take long: somebody else may go on with the queue.
-        announce!(self.state(), notice);
+        announce!(self.storage.state(), notice);
         self.run_task(taken);
         true
     }
@@ -144,7 +133,7 @@ impl<S: Storage> ExecutorIn<S> {
     pub(crate) fn run_task(&self, taken: Taken<()>) {
         let id = taken.id();
         let mut out = transactions::take(&self.storage, id);
-        let ran = poll_taken::<S>(taken, &mut out);
+        let ran = poll_taken(taken, &mut out);
         self.end(id, ran, &mut out);
     }
 
@@ -214,7 +203,7 @@ impl<S: Storage> ExecutorIn<S> {
     fn end_pending(&self, id: TaskId, held: Held)
         requires { held.to_drop ≡ false }
     {
-        let ended = self.state().cells().end_pending(held, ());
+        let ended = self.storage.state().cells().end_pending(held, ());
         match ended {
             EndPending::Back(None) => {}
             EndPending::Back(Some(notice)) => announce!(self.storage.state(), notice),
@@ -232,14 +221,4 @@ impl<S: Storage> ExecutorIn<S> {
             awaiter.wake();
         }
     }
-}
-
-/// Polls the future of a task taken from an `ExecutorIn` once, or drops it if the task was cancelled. No lock
-/// may be held.
-#[inline(always)]
-pub(crate) fn poll_taken<S: Storage>(taken: Taken<()>, out: &mut OutIn<S>) -> Ran<(), OutputIn<S>>
-    ensures { IsHeldRight result }
-{
-    let mut poller = TaskPoller::new(taken.id(), out);
-    run_taken(taken, &mut poller)
 }

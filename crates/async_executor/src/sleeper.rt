@@ -20,7 +20,7 @@
 //! `Notice` can be neither copied nor dropped, so a path that forgets one does not compile.
 ghost use Rattle.std.specs.Prelude.{◌≡◌, None, true, is_some, IfOk, MatchResult};
 
-use crate::futures::storage::Storage;
+use crate::futures::Storage;
 use crate::scheduler::ExecutorIn;
 use crate::state::{ExecutorState, announce, cells, sleepers};
 use executor_core::sleepers::Removed;
@@ -68,7 +68,7 @@ impl<S: Storage> ExecutorIn<S> {
         ensures awake { IfOk result (λ sleeper. sleeper.number ≡ None) }
         ensures own { IfOk result (λ sleeper. sleeper.executor.now ≡ self.now) }
     {
-        self.state().reserve_sleeper()?;
+        self.storage.state().reserve_sleeper()?;
         Ok(SleeperIn::new(self))
     }
 }
@@ -95,7 +95,7 @@ impl<S: Storage> SleeperIn<'_, S> {
     {
         self.leave();
         let waker = w.copy()?;
-        let state = self.executor.state();
+        let state = self.executor.storage.state();
         let Ok((number, again)) = insert(state, waker) else {
             return Err(OutOfMemory);
         };
@@ -120,7 +120,7 @@ impl<S: Storage> SleeperIn<'_, S> {
         ensures number { self.new.number ≡ self.old.number }
         ensures told { result ≡ is_some self.new.notice }
     {
-        let looked = cells!(self.executor.state()).look(again);
+        let looked = cells!(self.executor.storage.state()).look(again);
         let Some(again) = looked else {
             return false;
         };
@@ -159,7 +159,7 @@ impl<S: Storage> SleeperIn<'_, S> {
             return self.notice.is_some();
         };
         // Not passed on at once: each would wake the next, since each leaves as soon as it is woken.
-        if let Some(notice) = remove(self.executor.state(), number) {
+        if let Some(notice) = remove(self.executor.storage.state(), number) {
             self.keep(notice);
         }
         self.notice.is_some()
@@ -188,7 +188,7 @@ impl<S: Storage> SleeperIn<'_, S> {
     {
         self.leave();
         if let Some(notice) = self.notice.take() {
-            announce!(self.executor.state(), notice);
+            announce!(self.executor.storage.state(), notice);
         }
     }
 
@@ -201,7 +201,7 @@ impl<S: Storage> SleeperIn<'_, S> {
         self.leave();
         let again = self.take_again();
         let executor = self.executor;
-        let found = cells!(executor.state()).take_any(again);
+        let found = cells!(executor.storage.state()).take_any(again);
         executor.run_found(found)
     }
 }
@@ -213,7 +213,7 @@ impl<S: Storage> Drop for SleeperIn<'_, S> {
             number,
             notice,
         } = self;
-        let state = executor.state();
+        let state = executor.storage.state();
         if let Some(number) = number {
             if let Some(notice) = remove(state, number) {
                 announce!(state, notice);

@@ -125,13 +125,13 @@ impl<W, R> ExecutorState<W, R> {
     /// The table of tasks of this `ExecutorState`, if nobody has it.
     #[inline(always)]
     pub(crate) fn try_cells(&self) -> Option<MutexGuard<'_, Cells<(), (), W>>> {
-        self.parts.cells.try_lock()
+        self.parts.cells.mutex.try_lock()
     }
 
     /// The sleepers of this `ExecutorState`, if nobody has them.
     #[inline(always)]
     pub(crate) fn try_sleepers(&self) -> Option<MutexGuard<'_, ClosedSleepers<W>>> {
-        self.parts.sleepers.try_lock()
+        self.parts.sleepers.mutex.try_lock()
     }
 
     /// How many sleepers of this `ExecutorState` sleep. `None` if the lock is taken, for which it does not

@@ -6,8 +6,8 @@
 ghost use Rattle.std.specs.Prelude.{◌≡◌, true, false, IsTrue};
 ghost use Rattle.async_executor.specs.Answers.{is_ready, IsReadyErr, IsReadyNone};
 
-use crate::futures::storage::{OutputIn, Storage};
 use crate::futures::transactions::{await_handle, take_ended, wait_and_take_ended};
+use crate::futures::{OutputIn, Storage};
 use crate::state::{announce, cells};
 use executor_core::task::{Future, Poll, TaskId, Wake};
 use thiserror::Error;

@@ -1,13 +1,10 @@
-//! The wakers that tasks are polled with.
+//! The wakers of tasks.
 //!
 //! A poll is lent a waker, which cannot be kept: what is kept is a copy. A copy that is woken
-//! schedules its task at once. The lent one is only marked, which takes no lock; the task is woken
-//! when its poll has ended, in the change that ends it.
-ghost use Rattle.std.specs.Prelude.{◌≡◌, true, false, is_some, cond};
-ghost use Rattle.executor_core.specs.Cells.Calls.{after_wake};
+//! schedules its task at once.
 
 use crate::state::{ExecutorState, announce, cells};
-use executor_core::task::{Cells, Notice, OutOfMemory, TaskId, Wake};
+use executor_core::task::{OutOfMemory, TaskId, Wake};
 use std::sync::atomic::{AtomicBool, Ordering};
 use std::sync::{Arc, Wait};
 
@@ -20,64 +17,10 @@ use std::sync::{Arc, Wait};
 /// Example: `uses::receives`, whose copy `uses::send` wakes.
 #[derive(Drop)]
 pub struct TaskWaker<W, R> {
-    state: Arc<ExecutorState<W, R>>,
-    id: TaskId,
+    pub(crate) state: Arc<ExecutorState<W, R>>,
+    pub(crate) id: TaskId,
     // Whether the waker was woken, if it is lent. Other threads may wake it by reference.
-    mark: Option<AtomicBool>,
-}
-
-impl<W, R> TaskWaker<W, R> {
-    /// The waker that is lent to a poll of the task of this id.
-    pub(crate) fn lent(state: Arc<ExecutorState<W, R>>, id: TaskId) -> TaskWaker<W, R>
-        ensures state { result.state ≡ state }
-        ensures id { result.id ≡ id }
-        ensures lent { is_some result.mark ≡ true }
-    {
-        let mark = Some(AtomicBool::new(false));
-        TaskWaker { state, id, mark }
-    }
-
-    /// The share of the state that the waker was made of, and the wake that it owes its task if it is
-    /// lent.
-    pub(crate) fn into_parts(self) -> (Arc<ExecutorState<W, R>>, LentWake)
-        ensures state { result.0 ≡ self.state }
-        ensures copy { is_some self.mark ≡ false → result.1.is_woken ≡ false }
-    {
-        let TaskWaker { state, id: _, mark } = self;
-        let is_woken = match mark {
-            Some(mark) => mark.into_inner(),
-            None => false,
-        };
-        (state, LentWake { is_woken })
-    }
-}
-
-/// Whether the waker that a poll was lent was woken: then its task is still to be woken. It can be
-/// neither copied nor dropped.
-pub(crate) struct LentWake {
-    is_woken: bool,
-}
-
-impl LentWake {
-    /// The `LentWake` of a poll that was lent no waker.
-    #[inline(always)]
-    pub(crate) fn none() -> LentWake
-        ensures { result.is_woken ≡ false }
-    {
-        LentWake { is_woken: false }
-    }
-
-    /// Wakes the task of this id, which is that of the poll, if the waker that was lent was woken.
-    #[inline(always)]
-    pub(crate) fn make<W>(self, id: TaskId, cells: &mut Cells<(), (), W>) -> Option<Notice>
-        ensures { cells.new ≡ cond self.is_woken (after_wake cells.old id) cells.old }
-    {
-        let LentWake { is_woken } = self;
-        if is_woken {
-            return cells.wake(id);
-        }
-        None
-    }
+    pub(crate) mark: Option<AtomicBool>,
 }
 
 impl<W: Wake, R: Wait + Drop> Wake for TaskWaker<W, R> {

@@ -30,7 +30,7 @@ use Rattle.executor_core.proofs.RisingLemmas.{passing, times-rising, idle_rising
 use Rattle.executor_core.specs.declared.task.cell.Cell.{Cell}
 use Rattle.executor_core.specs.declared.task.cell.CellState.{CellState}
 use Rattle.executor_core.specs.declared.task.cell.Numbered.{Numbered}
-use Rattle.executor_core.specs.declared.task.id.TaskId.{TaskId}
+use Rattle.executor_core.specs.declared.task.cell.TaskId.{TaskId}
 
 module _ {P T W : Type 0} (change : Cell P T W → Cell P T W) where
   abbrev pub changed : Slotted P T W → Slotted P T W

@@ -13,7 +13,7 @@ use Rattle.executor_core.proofs.FindLemmas.{cell_of, cell_at_entry}
 use Rattle.executor_core.proofs.StateLemmas.{undropped-state_woken}
 use Rattle.executor_core.specs.declared.task.cell.Cell.{Cell}
 use Rattle.executor_core.specs.declared.task.cell.Numbered.{Numbered}
-use Rattle.executor_core.specs.declared.task.id.TaskId.{TaskId}
+use Rattle.executor_core.specs.declared.task.cell.TaskId.{TaskId}
 
 module _ {P T W : Type 0} where
   pub settled_cancelled : (c : Cell P T W) → Settled c → Settled (cancelled_cell c)

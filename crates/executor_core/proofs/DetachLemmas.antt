@@ -11,7 +11,7 @@ use Rattle.executor_core.proofs.WriteLemmas.{kept_sound}
 use Rattle.executor_core.proofs.StateLemmas.{output_of-state_woken}
 use Rattle.executor_core.specs.declared.task.cell.Cell.{Cell}
 use Rattle.executor_core.specs.declared.task.cell.Numbered.{Numbered}
-use Rattle.executor_core.specs.declared.task.id.TaskId.{TaskId}
+use Rattle.executor_core.specs.declared.task.cell.TaskId.{TaskId}
 
 abbrev pub pair_of : {T W : Type 0} → Option T → Option W → Option T × Option W
 pair_of t w = (t, w)

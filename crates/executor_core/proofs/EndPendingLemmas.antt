@@ -12,7 +12,7 @@ use Rattle.executor_core.proofs.FindLemmas.{cell_of, cell_at_entry}
 use Rattle.executor_core.proofs.StateLemmas.{held_state}
 use Rattle.executor_core.specs.declared.task.cell.Cell.{Cell}
 use Rattle.executor_core.specs.declared.task.cell.Numbered.{Numbered}
-use Rattle.executor_core.specs.declared.task.id.TaskId.{TaskId}
+use Rattle.executor_core.specs.declared.task.cell.TaskId.{TaskId}
 use Rattle.executor_core.specs.declared.task.cell.CellState.TheVariants.{Idle, Scheduled}
 
 module _ {P T W : Type 0} where

@@ -11,7 +11,7 @@ use Rattle.executor_core.proofs.WriteLemmas.{kept_sound}
 use Rattle.executor_core.proofs.StateLemmas.{held_state, ended_state}
 use Rattle.executor_core.specs.declared.task.cell.Cell.{Cell}
 use Rattle.executor_core.specs.declared.task.cell.Numbered.{Numbered}
-use Rattle.executor_core.specs.declared.task.id.TaskId.{TaskId}
+use Rattle.executor_core.specs.declared.task.cell.TaskId.{TaskId}
 use Rattle.executor_core.specs.declared.task.cell.CellState.{CellState}
 use Rattle.executor_core.specs.declared.task.cell.CellState.TheVariants.{Finished, Gone}
 use Rattle.std.proofs.Common.{◌-◌, add-zero}

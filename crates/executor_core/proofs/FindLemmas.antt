@@ -9,7 +9,7 @@ use Rattle.executor_core.specs.Queues.State.{QueueState}
 use Rattle.executor_core.proofs.SlotLemmas.{sees_get, get_sees}
 use Rattle.executor_core.specs.declared.task.cell.Cell.{Cell}
 use Rattle.executor_core.specs.declared.task.cell.Numbered.{Numbered}
-use Rattle.executor_core.specs.declared.task.id.TaskId.{TaskId}
+use Rattle.executor_core.specs.declared.task.cell.TaskId.{TaskId}
 
 -- the slot has the number
 abbrev is_numbered : {C : Type 0} → ℕ → Option (Numbered C) → Bool

@@ -9,7 +9,7 @@ use Rattle.executor_core.specs.Queues.{RunnerQueue, QueueLists, all_entries, emp
 use Rattle.executor_core.specs.Queues.View.{local_of, state_of, runners_of, IsQueues}
 use Rattle.executor_core.specs.Ring.{IdRing}
 use Rattle.executor_core.specs.declared.queue.queues.LocalQueue.{LocalQueue}
-use Rattle.executor_core.specs.declared.task.id.TaskId.{TaskId}
+use Rattle.executor_core.specs.declared.task.cell.TaskId.{TaskId}
 use Rattle.executor_core.proofs.QueueStateLemmas.{with_ring, sound_same}
 
 module _ {X : Type 0} where

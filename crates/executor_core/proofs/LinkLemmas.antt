@@ -12,7 +12,7 @@ use Rattle.executor_core.proofs.SlotLemmas.{set_changes, cleared_changes}
 use Rattle.executor_core.specs.declared.task.cell.Cell.{Cell}
 use Rattle.executor_core.specs.declared.task.cell.Numbered.{Numbered}
 use Rattle.executor_core.specs.declared.task.slots.Slot.{Slot}
-use Rattle.executor_core.specs.declared.task.id.TaskId.{TaskId}
+use Rattle.executor_core.specs.declared.task.cell.TaskId.{TaskId}
 
 module _ {X : Type 0} where
   All-prefix : (P : X → Type 0) (xs ys : List X) → All P (xs ++ ys) → All P xs

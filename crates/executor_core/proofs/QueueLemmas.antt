@@ -11,7 +11,7 @@ use Rattle.std.specs.Prelude.{◌==◌, IsPermutation, option_map, is_some, slic
 use Rattle.std.specs.List.{position, position_from, prefix_len, find, flat_map, remove}
 use Rattle.executor_core.specs.Queues.{QueueLists, RunnerQueue, steal_count, stolen, is_runner, position_of, entries_or, capacity_or, entries_at, capacity_at, set_entries, with_entries, local_entries_at, all_entries, global_front, global_stolen, visits, can_steal, victim, stolen_between, local_front, steal_from, search_shared, search_own, search_at, search, search_global, first_occupied, front_at, any_front, search_any, fair_at, fair_count_at, unregistered_at, map_local, map_queues, fair, fair_count, registered, unregistered, entries_of, is_registered}
 use Rattle.executor_core.specs.Queues.State.{pushed}
-use Rattle.executor_core.specs.declared.task.id.TaskId.{TaskId}
+use Rattle.executor_core.specs.declared.task.cell.TaskId.{TaskId}
 use Rattle.executor_core.proofs.ListLemmas.{get-set_same, get-set_other}
 
 -- lists of which each item is seen as another

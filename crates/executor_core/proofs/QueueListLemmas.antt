@@ -2,7 +2,7 @@
 use Rattle.std.proofs.Common.{◌≡◌, ℕ, zero, suc, ◌+◌, List, [], ◌∷◌, ◌++◌, take, drop, Some, refl, sym, ap, ◌∙◌, add-one, append_assoc}
 use Rattle.std.specs.Prelude.{slice_get}
 use Rattle.executor_core.specs.Ring.{IdRing}
-use Rattle.executor_core.specs.declared.task.id.TaskId.{TaskId}
+use Rattle.executor_core.specs.declared.task.cell.TaskId.{TaskId}
 
 module _ {X : Type 0} where
   take_front : (xs : List X) (i : ℕ) (x : X) → slice_get (drop i xs) 0 ≡ Some x → take (suc i) xs ≡ take i xs ++ x ∷ []

@@ -8,7 +8,7 @@ use Rattle.std.specs.Prelude.{◌==◌, option_map, slice_get}
 use Rattle.std.specs.List.{position, position_from, remove}
 use Rattle.executor_core.specs.Queues.{RunnerQueue, position_of}
 use Rattle.executor_core.specs.Queues.View.{AllDistinct, runners_of}
-use Rattle.executor_core.specs.declared.task.id.TaskId.{TaskId}
+use Rattle.executor_core.specs.declared.task.cell.TaskId.{TaskId}
 use Rattle.executor_core.proofs.ListLemmas.{get-push_last, get-push_other}
 use Rattle.executor_core.proofs.QueueLemmas.{position-map}
 

@@ -5,7 +5,7 @@ use Rattle.std.specs.Prelude.{◌==◌, nat_lt, slice_get}
 use Rattle.std.specs.List.{find, filter, range_with_len}
 use Rattle.executor_core.specs.Queues.{QueueLists, RunnerQueue, steal_count, entries_or, entries_at, capacity_at, set_entries, with_entries, gives, can_steal, victim, position_of, global_front, global_stolen, stolen_between, local_front, steal_from, search_global, search, first_occupied, front_at, any_front, search_any}
 use Rattle.executor_core.specs.Queues.State.{QueueState, with_lists}
-use Rattle.executor_core.specs.declared.task.id.TaskId.{TaskId}
+use Rattle.executor_core.specs.declared.task.cell.TaskId.{TaskId}
 use Rattle.executor_core.proofs.ListLemmas.{set-here}
 use Rattle.executor_core.proofs.QueueLemmas.{find-same, queues_same, victim_moves, search_global-none}
 

@@ -16,7 +16,7 @@ use Rattle.executor_core.proofs.RemoveLemmas.{no_times}
 use Rattle.executor_core.proofs.SlotLemmas.{get_sees}
 use Rattle.executor_core.specs.declared.task.cell.Cell.{Cell}
 use Rattle.executor_core.specs.declared.task.cell.Numbered.{Numbered}
-use Rattle.executor_core.specs.declared.task.id.TaskId.{TaskId}
+use Rattle.executor_core.specs.declared.task.cell.TaskId.{TaskId}
 
 at_most_one : (b : Bool) → cond {A = ℕ} b 1 0 ≤ 1
 at_most_one b = grind arith

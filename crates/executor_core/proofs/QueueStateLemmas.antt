@@ -12,7 +12,7 @@ use Rattle.executor_core.specs.Queues.State.{QueueState, with_lists}
 use Rattle.executor_core.specs.Queues.View.{local_of, state_of, runners_of, AllDistinct, IsQueues}
 use Rattle.executor_core.specs.Ring.{IdRing}
 use Rattle.executor_core.specs.declared.queue.queues.LocalQueue.{LocalQueue}
-use Rattle.executor_core.specs.declared.task.id.TaskId.{TaskId}
+use Rattle.executor_core.specs.declared.task.cell.TaskId.{TaskId}
 use Rattle.executor_core.proofs.ListLemmas.{length-push, get-set_other, set-here}
 use Rattle.executor_core.proofs.QueueLemmas.{remove-map, queues_same}
 use Rattle.executor_core.proofs.QueuePlaceLemmas.{distinct-push, distinct-remove, none_registered, position_of_place}

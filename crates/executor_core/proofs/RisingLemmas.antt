@@ -18,7 +18,7 @@ use Rattle.executor_core.proofs.SlotLemmas.{tied, apart}
 use Rattle.executor_core.proofs.UndroppedLemmas.{AllFresh, no_entries, all_fresh, undropped_slot, undropped_slots}
 use Rattle.executor_core.specs.declared.task.cell.Cell.{Cell}
 use Rattle.executor_core.specs.declared.task.cell.Numbered.{Numbered}
-use Rattle.executor_core.specs.declared.task.id.TaskId.{TaskId}
+use Rattle.executor_core.specs.declared.task.cell.TaskId.{TaskId}
 
 first : (a b : Bool) → Holds (a && b) → Holds a
 first a b p = grind arith

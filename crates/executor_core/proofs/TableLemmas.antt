@@ -16,7 +16,7 @@ use Rattle.executor_core.specs.Cells.Calls.{with_cell}
 use Rattle.executor_core.proofs.SlotLemmas.{within, set_changes, insert_same, insert_other, sees_get, fits_itself, put_distinct, cells_of-put}
 use Rattle.executor_core.specs.declared.task.cell.Cell.{Cell}
 use Rattle.executor_core.specs.declared.task.cell.Numbered.{Numbered}
-use Rattle.executor_core.specs.declared.task.id.TaskId.{TaskId}
+use Rattle.executor_core.specs.declared.task.cell.TaskId.{TaskId}
 
 pub times-push_same : (n : ℕ) (numbers : List ℕ) → times n (numbers ++ n ∷ []) ≡ times n numbers + 1
 times-push_same n numbers = sum_by-append (λ k. cond (k == n) 1 0) numbers (n ∷ []) ∙ rw (eq-eqb n n refl) refl

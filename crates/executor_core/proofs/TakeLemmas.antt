@@ -16,8 +16,8 @@ use Rattle.executor_core.proofs.WriteLemmas.{unqueued_sound, front_cell}
 use Rattle.executor_core.proofs.StateLemmas.{scheduled_state}
 use Rattle.executor_core.specs.declared.task.cell.Cell.{Cell}
 use Rattle.executor_core.specs.declared.task.cell.Numbered.{Numbered}
-use Rattle.executor_core.specs.declared.task.id.TaskId.{TaskId}
-use Rattle.executor_core.specs.declared.task.values.Taken.{Taken}
+use Rattle.executor_core.specs.declared.task.cell.TaskId.{TaskId}
+use Rattle.executor_core.specs.declared.task.polling.Taken.{Taken}
 
 module _ {P T W : Type 0} where
   -- the cell of the first queued id is scheduled

@@ -24,7 +24,7 @@ use Rattle.executor_core.proofs.StateLemmas.{ended_state, undropped_by}
 use Rattle.executor_core.proofs.WriteLemmas.{law_at, front_cell}
 use Rattle.executor_core.specs.declared.task.cell.Cell.{Cell}
 use Rattle.executor_core.specs.declared.task.cell.Numbered.{Numbered}
-use Rattle.executor_core.specs.declared.task.id.TaskId.{TaskId}
+use Rattle.executor_core.specs.declared.task.cell.TaskId.{TaskId}
 
 length-numbers_of : (ids : List TaskId) → length (numbers_of ids) ≡ length ids
 length-numbers_of [] = refl

@@ -13,7 +13,7 @@ use Rattle.executor_core.specs.Cells.View.{changed_slot, idle_id, idle_ids, undr
 use Rattle.executor_core.proofs.RisingLemmas.{undropped_numbers}
 use Rattle.executor_core.specs.declared.task.cell.Cell.{Cell}
 use Rattle.executor_core.specs.declared.task.cell.Numbered.{Numbered}
-use Rattle.executor_core.specs.declared.task.id.TaskId.{TaskId}
+use Rattle.executor_core.specs.declared.task.cell.TaskId.{TaskId}
 
 cons_append : {A : Type 0} (o : Option A) (xs ys : List A) → cons_option o (xs ++ ys) ≡ cons_option o xs ++ ys
 cons_append o xs ys = grind arith

@@ -13,7 +13,7 @@ use Rattle.executor_core.proofs.SlotLemmas.{sees_get, get_sees}
 use Rattle.executor_core.proofs.TableLemmas.{put_sound, times-push_same, times-push_other, numbers_of-push}
 use Rattle.executor_core.specs.declared.task.cell.Cell.{Cell}
 use Rattle.executor_core.specs.declared.task.cell.Numbered.{Numbered}
-use Rattle.executor_core.specs.declared.task.id.TaskId.{TaskId}
+use Rattle.executor_core.specs.declared.task.cell.TaskId.{TaskId}
 
 one_more : (n : ℕ) → 1 + n ≡ n + 1
 one_more n = omega arith

@@ -4,7 +4,7 @@ use Rattle.executor_core.specs.declared.task.polling.Polled.{Polled}
 use Rattle.executor_core.specs.declared.task.polling.Polled.TheVariants as polled
 use Rattle.executor_core.specs.declared.task.polling.Ran.{Ran}
 use Rattle.executor_core.specs.declared.task.polling.Ran.TheVariants.{Pending, Ready, Dropped}
-use Rattle.executor_core.specs.declared.task.values.Taken.{Taken}
+use Rattle.executor_core.specs.declared.task.polling.Taken.{Taken}
 
 module _ {P T : Type 0} where
   -- the task's own Held comes back, to drop if and only if the task was cancelled

@@ -9,7 +9,7 @@ use Rattle.executor_core.specs.Cells.Coding.{slotted_code}
 use Rattle.executor_core.specs.Ring.Coding.{task_id_code}
 use Rattle.executor_core.specs.declared.task.cell.Cell.{Cell}
 use Rattle.executor_core.specs.declared.task.cell.Numbered.{Numbered}
-use Rattle.executor_core.specs.declared.task.id.TaskId.{TaskId}
+use Rattle.executor_core.specs.declared.task.cell.TaskId.{TaskId}
 
 -- what each slot has, and the ids that are queued, from the front on
 pub record LinkedSlots (P T W : Type 0) : Type 0 where

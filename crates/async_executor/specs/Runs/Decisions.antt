@@ -2,21 +2,21 @@
 -- is kept.
 use Rattle.std.specs.Prelude.{ℕ, cond, Option, Some, None}
 use Rattle.executor_core.specs.declared.queue.runner.RunnerKey.{RunnerKey}
-use Rattle.executor_core.specs.declared.task.values.Taken.{Taken}
+use Rattle.executor_core.specs.declared.task.polling.Taken.{Taken}
 use Rattle.async_executor.specs.Runs.{RunAsked, AskFirst, AskRegister, AskOwn, AskTick, AskFair, AskUnregister, AskRelease, asked_by, asked_in, runner_of}
 use Rattle.async_executor.specs.Runs.Rows.{kept_in}
 use Rattle.async_executor.specs.Runs.Table.{Kept, Next, Ask, End, Row, table}
 use Rattle.async_executor.specs.Ticks.{Asked, AskNotify, AskRun, AskWake, is_return}
 use Rattle.async_executor.specs.Ticks.Decisions.{waiting_for}
-use Rattle.async_executor.specs.declared.machine.run.Runner.{Runner}
+use Rattle.async_executor.specs.declared.machine.run_steps.Runner.{Runner}
 use Rattle.async_executor.specs.declared.machine.run.RunMachine.{RunMachine}
 use Rattle.async_executor.specs.declared.machine.run.RunNext.{RunNext}
 use Rattle.async_executor.specs.declared.machine.run.RunNext.TheVariants.{Act, Rest}
 use Rattle.async_executor.specs.declared.machine.run.RunReply.{RunReply}
 use Rattle.async_executor.specs.declared.machine.run.RunState.{RunState}
 use Rattle.async_executor.specs.declared.machine.run.RunState.TheVariants.{Resting, Registering, PollingOwn, Waiting, Sharing, Running, Unregistering, PassingOn, Releasing}
-use Rattle.async_executor.specs.declared.machine.run.Stage.{Stage}
-use Rattle.async_executor.specs.declared.machine.run.Stage.TheVariants.{New, Joined, Ended}
+use Rattle.async_executor.specs.declared.machine.run_steps.Stage.{Stage}
+use Rattle.async_executor.specs.declared.machine.run_steps.Stage.TheVariants.{New, Joined, Ended}
 use Rattle.async_executor.specs.declared.machine.run_steps.Begun.{Begun}
 use Rattle.async_executor.specs.declared.machine.run_steps.Begun.TheVariants.{Register, PollOwn}
 use Rattle.async_executor.specs.declared.machine.waiting.Spending.{Spending}

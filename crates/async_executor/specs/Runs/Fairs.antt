@@ -2,7 +2,7 @@
 use Rattle.std.specs.Prelude.{◌≡◌, ◌≢◌, ℕ, suc, ◌%◌}
 use Rattle.async_executor.specs.Runs.{runner_of}
 use Rattle.async_executor.specs.Runs.Counts.{IsCountOf}
-use Rattle.async_executor.specs.declared.machine.run.Runner.{Runner}
+use Rattle.async_executor.specs.declared.machine.run_steps.Runner.{Runner}
 use Rattle.async_executor.specs.declared.machine.run.RunState.{RunState}
 use Rattle.async_executor.specs.declared.machine.run.RunState.TheVariants.{Sharing}
 use Rattle.async_executor.specs.declared.machine.run.RunAction.TheVariants as asks

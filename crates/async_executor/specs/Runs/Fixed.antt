@@ -1,7 +1,7 @@
 -- What is fixed of a run from its making on: the key of its runner, and its limits.
 use Rattle.std.specs.Prelude.{ℕ, ◌<◌, Result, Ok, Err}
 use Rattle.executor_core.specs.declared.queue.runner.RunnerKey.{RunnerKey}
-use Rattle.async_executor.specs.declared.machine.run.Runner.{Runner}
+use Rattle.async_executor.specs.declared.machine.run_steps.Runner.{Runner}
 use Rattle.async_executor.specs.declared.machine.run_steps.OwnPolled.{OwnPolled}
 use Rattle.async_executor.specs.declared.machine.run_steps.OwnPolled.TheVariants as own
 use Rattle.async_executor.specs.Steps.{actor_going}

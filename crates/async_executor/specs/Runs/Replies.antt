@@ -1,6 +1,6 @@
 -- What comes of a reply to a step of a run that waits for it.
 use Rattle.std.specs.Prelude.{cond, None, Result, Ok, Err}
-use Rattle.executor_core.specs.declared.task.values.Taken.{Taken}
+use Rattle.executor_core.specs.declared.task.polling.Taken.{Taken}
 use Rattle.async_executor.specs.Runs.Counts.{goes_on, more, anew}
 use Rattle.async_executor.specs.Steps.{departing}
 use Rattle.async_executor.specs.Ticks.Replies as ticks
@@ -8,12 +8,12 @@ use Rattle.async_executor.specs.declared.machine.run.RunAction.{RunAction}
 use Rattle.async_executor.specs.declared.machine.run.RunAction.TheVariants as asks
 use Rattle.async_executor.specs.declared.machine.run.RunNext.{RunNext}
 use Rattle.async_executor.specs.declared.machine.run.RunNext.TheVariants.{Act, Rest}
-use Rattle.async_executor.specs.declared.machine.run.RunRest.{RunRest}
+use Rattle.async_executor.specs.declared.machine.run_steps.RunRest.{RunRest}
 use Rattle.async_executor.specs.declared.machine.run.RunState.{RunState}
 use Rattle.async_executor.specs.declared.machine.run.RunState.TheVariants as state
-use Rattle.async_executor.specs.declared.machine.run.Runner.{Runner}
-use Rattle.async_executor.specs.declared.machine.run.Stage.{Stage}
-use Rattle.async_executor.specs.declared.machine.run.Stage.TheVariants as stage
+use Rattle.async_executor.specs.declared.machine.run_steps.Runner.{Runner}
+use Rattle.async_executor.specs.declared.machine.run_steps.Stage.{Stage}
+use Rattle.async_executor.specs.declared.machine.run_steps.Stage.TheVariants as stage
 use Rattle.async_executor.specs.declared.machine.run_steps.Begun.{Begun}
 use Rattle.async_executor.specs.declared.machine.run_steps.Begun.TheVariants.{Register, PollOwn}
 use Rattle.async_executor.specs.declared.machine.run_steps.Dropped.{Dropped}

@@ -5,13 +5,13 @@ use Rattle.async_executor.specs.Ticks.Rows as ticks
 use Rattle.async_executor.specs.Ticks.Table as tick
 use Rattle.async_executor.specs.Runs.{asked_in}
 use Rattle.async_executor.specs.Runs.Table.{Kept, Next, Ask, End, Row, table}
-use Rattle.async_executor.specs.declared.machine.run.Runner.{Runner}
+use Rattle.async_executor.specs.declared.machine.run_steps.Runner.{Runner}
 use Rattle.async_executor.specs.declared.machine.run.RunMachine.{RunMachine}
 use Rattle.async_executor.specs.declared.machine.run.RunNext.{RunNext}
 use Rattle.async_executor.specs.declared.machine.run.RunNext.TheVariants.{Act, Rest}
 use Rattle.async_executor.specs.declared.machine.run.RunReply.{RunReply}
-use Rattle.async_executor.specs.declared.machine.run.Stage.{Stage}
-use Rattle.async_executor.specs.declared.machine.run.Stage.TheVariants as stage
+use Rattle.async_executor.specs.declared.machine.run_steps.Stage.{Stage}
+use Rattle.async_executor.specs.declared.machine.run_steps.Stage.TheVariants as stage
 use Rattle.async_executor.specs.declared.machine.run.RunState.{RunState}
 use Rattle.async_executor.specs.declared.machine.run.RunState.TheVariants as state
 use Rattle.async_executor.specs.declared.machine.run_steps.Begun.{Begun}

@@ -3,7 +3,7 @@
 use Rattle.std.specs.Prelude.{ℕ, ◌==◌, Bool, true, false, Option, Some, None, cond, is_some, unwrap_or}
 use Rattle.executor_core.specs.World.Tickers.{polled, ended, left}
 use Rattle.executor_core.specs.declared.interleave.ticker.Ticker.{Ticker}
-use Rattle.executor_core.specs.declared.task.values.Taken.{Taken}
+use Rattle.executor_core.specs.declared.task.polling.Taken.{Taken}
 use Rattle.async_executor.specs.Ticks.{Asked, AskStart, AskRun}
 use Rattle.async_executor.specs.Ticks.Table as tick
 use Rattle.async_executor.specs.Runs.{RunAsked, AskFirst, AskRegister, AskOwn, AskTick, AskFair, AskUnregister, AskRelease}

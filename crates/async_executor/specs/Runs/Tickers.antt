@@ -8,9 +8,9 @@ use Rattle.executor_core.specs.declared.interleave.ticker.Ticker.{Ticker}
 use Rattle.async_executor.specs.Steps.Tickers.{MakesAt, of_searching, ticker_at}
 use Rattle.async_executor.specs.Ticks.Replies.{actor_of}
 use Rattle.async_executor.specs.Ticks.Tickers as ticks
-use Rattle.async_executor.specs.declared.machine.run.Runner.{Runner}
-use Rattle.async_executor.specs.declared.machine.run.Stage.{Stage}
-use Rattle.async_executor.specs.declared.machine.run.Stage.TheVariants as stage
+use Rattle.async_executor.specs.declared.machine.run_steps.Runner.{Runner}
+use Rattle.async_executor.specs.declared.machine.run_steps.Stage.{Stage}
+use Rattle.async_executor.specs.declared.machine.run_steps.Stage.TheVariants as stage
 use Rattle.async_executor.specs.declared.machine.run.RunState.{RunState}
 use Rattle.async_executor.specs.declared.machine.run.RunState.TheVariants as state
 use Rattle.async_executor.specs.declared.machine.run.RunAction.{RunAction}
@@ -18,7 +18,7 @@ use Rattle.async_executor.specs.declared.machine.run.RunAction.TheVariants as as
 use Rattle.async_executor.specs.declared.machine.run.RunMachine.{RunMachine}
 use Rattle.async_executor.specs.declared.machine.run.RunNext.{RunNext}
 use Rattle.async_executor.specs.declared.machine.run.RunNext.TheVariants.{Act, Rest}
-use Rattle.async_executor.specs.declared.machine.run.RunRest.{RunRest}
+use Rattle.async_executor.specs.declared.machine.run_steps.RunRest.{RunRest}
 use Rattle.async_executor.specs.declared.machine.run_steps.Begun.{Begun}
 use Rattle.async_executor.specs.declared.machine.run_steps.Begun.TheVariants as begun
 use Rattle.async_executor.specs.declared.machine.run_steps.Dropped.{Dropped}

@@ -1,7 +1,7 @@
 -- The decision of a tick, read off the row of its table: the machine waits for what is asked, with what is kept.
 use Rattle.std.specs.Prelude.{ℕ, Option, Some, None}
 use Rattle.executor_core.specs.declared.task.values.Notice.{Notice}
-use Rattle.executor_core.specs.declared.task.values.Taken.{Taken}
+use Rattle.executor_core.specs.declared.task.polling.Taken.{Taken}
 use Rattle.async_executor.specs.Ticks.{Asked, AskStart, AskSearch, AskUpdate, AskStore, AskRemove, AskStoreRemoved, AskExchange, AskNotify, AskWake, AskRun, asked_by, asked_in, is_return}
 use Rattle.async_executor.specs.Ticks.Rows.{kept_in}
 use Rattle.async_executor.specs.Ticks.Table.{Kept, Next, Ask, End, Row, table}

@@ -1,7 +1,7 @@
 -- What the table of a tick sees of its machine, and that a decision is a row of it.
 use Rattle.std.specs.Prelude.{◌≡◌, ℕ, false, Some}
 use Rattle.executor_core.specs.declared.task.values.Notice.{Notice}
-use Rattle.executor_core.specs.declared.task.values.Taken.{Taken}
+use Rattle.executor_core.specs.declared.task.polling.Taken.{Taken}
 use Rattle.async_executor.specs.Ticks.{Asked, asked_in}
 use Rattle.async_executor.specs.Ticks.Replies.{runs}
 use Rattle.async_executor.specs.Ticks.Table.{Kept, keeps, nothing, Next, Ask, End, Row, table}

@@ -2,7 +2,7 @@
 ghost use Rattle.std.specs.Prelude.{◌≡◌, IsTrue};
 ghost use Rattle.async_executor.specs.Answers.{is_ready, IsReadyErr, IsReadyNone};
 
-use crate::futures::shared::SharedStorage;
+use crate::futures::SharedStorage;
 use crate::scheduler::Handle;
 use crate::task::{Cancelled, TaskIn, some_if_ok};
 use crate::waker::TaskWaker;

@@ -5,7 +5,7 @@ ghost use Rattle.async_executor.specs.Runs.{has_ended};
 ghost use Rattle.async_executor.specs.Runs.Fixed.{fixed};
 
 use crate::executor::Executor;
-use crate::futures::shared::SharedStorage;
+use crate::futures::SharedStorage;
 use crate::runner::WorkerIn;
 use crate::sleeper::SleeperIn;
 use crate::waker::TaskWaker;

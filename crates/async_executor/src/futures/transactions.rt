@@ -7,17 +7,43 @@ ghost use Rattle.std.specs.Prelude.{◌≡◌, false, IfErr};
 ghost use Rattle.executor_core.specs.SpawnError.{refused_future};
 ghost use Rattle.async_executor.specs.Deferred.{IsHeldRight, IsDeferredRight, IsEndRight};
 
-use crate::deferred::{BeforeEnd, Deferred, EndThenSearch, finished};
-use crate::futures::storage::{OutIn, OutputIn, Shareable, Storage, futures};
-use crate::futures::{FutureTable, Out};
-use crate::machine::Search;
-use crate::runner::random_generator::RandomGenerator;
+use crate::futures::{FutureTable, OutIn, OutputIn, Shareable, Storage, futures};
+use crate::machine::{NextTask, RandomGenerator, Search};
+use crate::poller::{LentWake, Out};
 use crate::state::{ExecutorState, cells};
-use crate::waker::{LentWake, TaskWaker};
+use crate::waker::TaskWaker;
 use executor_core::task::{
-    Cells, EndPending, EndReady, Held, Notice, PollHandle, Ran, SpawnError, Taken, TaskId, Wakeup,
+    Cells, EndPending, EndReady, Held, Notice, PollHandle, Ran, SpawnError, TaskId, Wakeup,
 };
 use std::sync::{Arc, MutexGuard};
+
+/// What the end of a task leaves to do.
+pub enum Deferred<W, T> {
+    /// The task is still held. This is to be done, and then it is to be ended.
+    Unended(Held, BeforeEnd),
+    /// The output is to be dropped, and the awaiter to be woken.
+    Finished(Option<T>, Option<Wakeup<W>>),
+}
+
+/// What is to be done before the end of a task that is held.
+pub enum BeforeEnd {
+    /// The future has no place. It is to be dropped.
+    Refused,
+    /// The task was woken during its poll, and the notice of that is to be spent.
+    Woken(Notice),
+    /// The task was cancelled meanwhile. The future is to be dropped.
+    ToDrop,
+}
+
+/// What came of the end of a task and of a search after it, made as one change.
+pub enum EndThenSearch<W, T> {
+    /// The task was ended, with a notice if it was queued. This is what the search found.
+    Searched(Option<Notice>, Option<NextTask>),
+    /// The task was ended, and the search was in vain. The awaiter is to be woken.
+    InVain(Wakeup<W>),
+    /// The end leaves something to do first, so nothing was searched.
+    Unfinished(Deferred<W, T>),
+}
 
 /// Makes a task of this future and keeps the future. Its place is made before the task is queued.
 /// If that is refused, all is as before.
@@ -98,6 +124,20 @@ pub(crate) fn end_then_search<'a, S: Storage>(
     futures
         .get()
         .end_then_search(cells, id, ran, out, search, random)
+}
+
+// What is left to do of a task that has ended.
+#[inline(always)]
+fn finished<W, T>(
+    unwanted: Option<T>,
+    awaiter: Option<Wakeup<W>>,
+) -> Result<Option<Notice>, Deferred<W, T>>
+    ensures { IfErr result (λ deferred. IsDeferredRight deferred) }
+{
+    match (unwanted, awaiter) {
+        (None, None) => Ok(None),
+        (unwanted, awaiter) => Err(Deferred::Finished(unwanted, awaiter)),
+    }
 }
 
 // Whether no queue has a task, so that the search of `end_then_search` is in vain.

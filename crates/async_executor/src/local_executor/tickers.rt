@@ -4,7 +4,7 @@ ghost use Rattle.async_executor.specs.Answers.{is_ready};
 ghost use Rattle.async_executor.specs.Runs.{has_ended};
 ghost use Rattle.async_executor.specs.Runs.Fixed.{fixed};
 
-use crate::futures::local::LocalStorage;
+use crate::futures::LocalStorage;
 use crate::runner::RunIn;
 use crate::ticker::TickIn;
 use crate::waker::TaskWaker;

@@ -3,175 +3,29 @@
 //! A machine keeps the step that waits for the reply to its last action. Between two polls of its
 //! own future a run goes the steps of a tick, so it shares what those come to. What the types leave
 //! open is the table of `specs/Runs/Table.antt`, keyed by the reply.
-ghost use Rattle.std.specs.Prelude.{◌≡◌, cond, Bool, true, false, Ok, Err, MatchResult};
+ghost use Rattle.std.specs.Prelude.{◌≡◌, Bool, true, false, Ok, Err};
 ghost use Rattle.executor_core.specs.Limits.{is_lawful, default_limits};
 ghost use Rattle.async_executor.specs.Runs.{answers, asked, has_ended, new_rest, runner_of, store_asked, store_after, AskFirst, IsAsked};
-ghost use Rattle.async_executor.specs.Runs.Counts.{goes_on, more, anew};
 ghost use Rattle.async_executor.specs.Runs.Decisions.{decided};
 ghost use Rattle.async_executor.specs.Runs.Fairs.{HasFound, FairGoesOn};
-ghost use Rattle.async_executor.specs.Runs.Fixed.{fixed, IsWithin};
+ghost use Rattle.async_executor.specs.Runs.Fixed.{IsWithin};
 ghost use Rattle.async_executor.specs.Runs.Replies.{ask, begun, decision, dropped, drops, leaves, polls, runs, searches};
 ghost use Rattle.async_executor.specs.Runs.Rows.{IsRow};
 ghost use Rattle.async_executor.specs.Runs.Steps.{leads, may_lead};
-ghost use Rattle.async_executor.specs.Runs.Tickers.{ticker_of, ticker_after, rest_ticker, of_begun, of_dropped};
+ghost use Rattle.async_executor.specs.Runs.Tickers.{ticker_of, ticker_after, rest_ticker};
 ghost use Rattle.async_executor.specs.Runs.Turns.{TurnGoesOn};
 ghost use Rattle.async_executor.specs.Ticks.Replies.{actor_of};
 
-use crate::machine::count::Count;
 use crate::machine::run_steps::{
-    Begun, Dropped, Left, PollingOwn, Registering, Releasing, Search, Sharing, Started, UnderWay,
-    Unregistering,
+    Begun, Count, Dropped, Left, PollingOwn, Registering, Releasing, RunRest, Runner, Sharing,
+    Started, UnderWay, Unregistering,
 };
 use crate::machine::steps::Searching;
 use crate::machine::waiting::Spending::{self, Exchanging};
 use crate::machine::waiting::{Came, TickAction, TickEnd, TickReply, Waiting, depart};
-use Stage::{Ended, Joined, New};
 use executor_core::limits::Limits;
 use executor_core::queue::RunnerKey;
 use executor_core::task::{Notice, Taken};
-
-/// What a run keeps between its polls: its runner, what it counts, and how far it is.
-#[derive(Debug, Clone, Copy, PartialEq, Eq)]
-pub struct RunRest {
-    runner: Runner,
-    stage: Stage,
-}
-
-/// The runner of a run, with how many tasks it ran in this turn, and how many it found since its last
-/// fair part.
-#[derive(Debug, Clone, Copy, PartialEq, Eq)]
-pub(crate) struct Runner {
-    key: RunnerKey,
-    // Each keeps its limit, from when the run is made: no poll looks it up, and none changes it.
-    count: Count,
-    found: Count,
-}
-
-impl Runner {
-    /// The key of a run's `Runner`, which its `RunRest` keeps.
-    #[inline(always)]
-    pub(in crate::machine) fn key(&self) -> RunnerKey
-        ensures { result ≡ self.now.key }
-    {
-        self.key
-    }
-
-    // Both counts of a run's `Runner` are below their limits, by their type. It does nothing.
-    #[inline(always)]
-    fn counts(&self)
-        ensures { IsWithin self.now }
-    {
-        self.count.is_below();
-        self.found.is_below();
-    }
-
-    /// A run's `Runner` after one task more was run, or, if that was the last of its turn, at the start of
-    /// the next one.
-    #[inline(always)]
-    pub(in crate::machine) fn ran(self) -> Result<Runner, Runner>
-        ensures fixed { MatchResult result (λ runner. fixed runner ≡ fixed self) (λ runner. fixed runner ≡ fixed self) }
-        ensures ran { result ≡ cond (goes_on self.count) (Ok (record self { count = more self.count })) (Err (record self { count = anew self.count })) }
-    {
-        let mut runner = self;
-        if runner.count.one_more() {
-            return Err(runner);
-        }
-        Ok(runner)
-    }
-
-    /// A run's `Runner` after one task more was found, and whether it takes its fair part before that runs.
-    #[inline(always)]
-    pub(in crate::machine) fn found(self) -> (Runner, bool)
-        ensures fixed { fixed result.0 ≡ fixed self }
-        ensures found { result ≡ cond (goes_on self.found) (record self { found = more self.found }, false) (record self { found = anew self.found }, true) }
-    {
-        let mut runner = self;
-        let is_fair = runner.found.one_more();
-        (runner, is_fair)
-    }
-}
-
-// How far a run is that rests. One whose runner was registered has a number under which it sleeps,
-// or 0.
-#[derive(Debug, Clone, Copy, PartialEq, Eq)]
-enum Stage {
-    New,
-    Joined(usize),
-    Ended,
-}
-
-impl RunRest {
-    /// Whether the run of this `RunRest` has ended or was dropped. Nothing is left for it to do then.
-    pub fn is_ended(&self) -> bool
-        ensures { result ≡ has_ended self.now }
-    {
-        // Borrowed, as `search` is: a `Copy` value with a `Count` in it cannot be used twice in one
-        // function.
-        matches!(self.stage, Ended)
-    }
-
-    /// What the run of this `RunRest` searches with in its poll.
-    #[inline(always)]
-    pub(crate) fn search(&self) -> Search
-        ensures { result ≡ record { key = self.now.runner.key } }
-    {
-        Search {
-            key: self.runner.key,
-        }
-    }
-
-    // The `RunRest` of a run whose runner was not registered.
-    pub(in crate::machine) fn of_new(runner: Runner) -> RunRest
-        ensures { result ≡ record { runner = runner; stage = Stage.New } }
-    {
-        RunRest { runner, stage: New }
-    }
-
-    // The `RunRest` of a run whose runner is registered, and which sleeps under this number, if it is not 0.
-    #[inline(always)]
-    pub(in crate::machine) fn of_joined(runner: Runner, number: usize) -> RunRest
-        ensures { result ≡ record { runner = runner; stage = Stage.Joined number } }
-    {
-        RunRest {
-            runner,
-            stage: Joined(number),
-        }
-    }
-
-    // The `RunRest` of a run that has ended.
-    pub(in crate::machine) fn of_ended(runner: Runner) -> RunRest
-        ensures { result ≡ record { runner = runner; stage = Stage.Ended } }
-    {
-        RunRest {
-            runner,
-            stage: Ended,
-        }
-    }
-
-    /// The run of this `RunRest` is polled.
-    #[inline(always)]
-    pub(crate) fn begin(self) -> Begun
-        requires { has_ended self ≡ false }
-        ensures step { result ≡ begun self }
-        ensures world { of_begun result ≡ rest_ticker self }
-    {
-        let RunRest { runner, stage } = self;
-        match stage {
-            New => Begun::Register(Registering { runner }),
-            Joined(number) => Begun::PollOwn(PollingOwn { runner, number }),
-            Ended => unreachable!(),
-        }
-    }
-
-    /// The run of this `RunRest` is dropped. Its own future was dropped before.
-    pub(crate) fn depart(self) -> Dropped
-        requires { has_ended self ≡ false }
-        ensures step { result ≡ dropped (begun self) }
-        ensures world { of_dropped result ≡ rest_ticker self }
-    {
-        self.begin().depart()
-    }
-}
 
 /// What a run asks for next. Each action is one step on what is shared, spends a value of its own,
 /// or polls the run's own future.

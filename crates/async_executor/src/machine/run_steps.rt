@@ -1,5 +1,5 @@
-//! The steps that a run alone goes, each a value that must be spent. Between them it goes those of a
-//! tick, with its `Runner` for A.
+//! The steps that a run alone goes, each a value that must be spent, and what it keeps between its polls.
+//! Between these steps it goes those of a tick, with its `Runner` for A.
 //!
 //! | step | what the run does | what comes next |
 //! |---|---|---|
@@ -12,23 +12,235 @@
 //! | `Unregistering` | ends the queue of its runner | `Left`, with the notice of that |
 //! | `Left` | spends that notice | `Departing` |
 //! | `Releasing` | gives the place of a runner back that was never registered | `Departed` |
-ghost use Rattle.std.specs.Prelude.{◌≡◌, [], Ok, Err, Some, None, cond, IfErr, IfNone, IfSome, MatchResult};
+ghost use Rattle.std.specs.Prelude.{◌≡◌, ◌<◌, not, [], false, true, Ok, Err, Some, None, cond, IfErr, IfNone, IfSome, MatchResult};
 ghost use Rattle.executor_core.specs.Cells.Calls.{after_register, after_search, search_in, after_unregister, after_fair, after_release_runner, TakesFound};
 ghost use Rattle.executor_core.specs.World.Phases.{at_rest, in_leaving};
 ghost use Rattle.executor_core.specs.World.Tickers.{ended, left, polled};
 ghost use Rattle.async_executor.specs.Runs.{has_ended};
-ghost use Rattle.async_executor.specs.Runs.Counts.{goes_on, more, anew};
-ghost use Rattle.async_executor.specs.Runs.Fixed.{fixed, runner_polled, runner_started, runner_turned};
-ghost use Rattle.async_executor.specs.Runs.Replies.{dropped, started, turned};
+ghost use Rattle.async_executor.specs.Runs.Counts.{CountsEach, anew, goes_on, more, up_to};
+ghost use Rattle.async_executor.specs.Runs.Fixed.{IsWithin, fixed, runner_polled, runner_started, runner_turned};
+ghost use Rattle.async_executor.specs.Runs.Replies.{begun, dropped, started, turned};
 ghost use Rattle.async_executor.specs.Runs.Tickers.{runner_in, rest_ticker, of_begun, of_dropped, of_left, of_not_registered, of_polling, of_registered, of_registering, of_releasing, of_sharing, of_started, of_turn_over, of_under_way, of_unregistering, LeadsRun, PollsOwn, GoesOn};
 ghost use Rattle.async_executor.specs.Steps.{IsFound, departing};
 ghost use Rattle.async_executor.specs.Steps.Tickers.{MakesAt, left_awake, stays, of_departed, of_departing, of_rested, of_running};
-ghost use Rattle.async_executor.specs.declared.machine.run.Stage.TheVariants as stage;
+ghost use Rattle.async_executor.specs.declared.machine.run_steps.Stage.TheVariants as stage;
+ghost use Rattle.rand_xoshiro.specs.SplitMix64.{splitmix_seed};
+ghost use Rattle.rand_xoshiro.specs.Xoshiro256.{of_seed, plus_plus};
 
-use crate::machine::run::{RunRest, Runner};
 use crate::machine::steps::{Departed, Departing, Found, Rested, Running, Searching};
+use Stage::{Ended, Joined, New};
 use executor_core::queue::{Ring, RunnerKey};
 use executor_core::task::{Again, Cells, Future, Notice, Poll, Taken, TaskId, Wake};
+use rand_xoshiro::Xoshiro256PlusPlus;
+use rand_xoshiro::rand_core::SeedableRng;
+use rand_xoshiro::rand_core::utils::NextWord;
+use std::marker::Model;
+
+/// What a run keeps between its polls: its runner, what it counts, and how far it is.
+#[derive(Debug, Clone, Copy, PartialEq, Eq)]
+pub struct RunRest {
+    runner: Runner,
+    stage: Stage,
+}
+
+/// The runner of a run, with how many tasks it ran in this turn, and how many it found since its last
+/// fair part.
+#[derive(Debug, Clone, Copy, PartialEq, Eq)]
+pub(crate) struct Runner {
+    pub(in crate::machine) key: RunnerKey,
+    // Each keeps its limit, from when the run is made: no poll looks it up, and none changes it.
+    pub(in crate::machine) count: Count,
+    pub(in crate::machine) found: Count,
+}
+
+impl Runner {
+    /// The key of a run's `Runner`, which its `RunRest` keeps.
+    #[inline(always)]
+    pub(in crate::machine) fn key(&self) -> RunnerKey
+        ensures { result ≡ self.now.key }
+    {
+        self.key
+    }
+
+    // Both counts of a run's `Runner` are below their limits, by their type. It does nothing.
+    #[inline(always)]
+    pub(in crate::machine) fn counts(&self)
+        ensures { IsWithin self.now }
+    {
+        self.count.is_below();
+        self.found.is_below();
+    }
+
+    /// A run's `Runner` after one task more was run, or, if that was the last of its turn, at the start of
+    /// the next one.
+    #[inline(always)]
+    pub(in crate::machine) fn ran(self) -> Result<Runner, Runner>
+        ensures fixed { MatchResult result (λ runner. fixed runner ≡ fixed self) (λ runner. fixed runner ≡ fixed self) }
+        ensures ran { result ≡ cond (goes_on self.count) (Ok (record self { count = more self.count })) (Err (record self { count = anew self.count })) }
+    {
+        let mut runner = self;
+        if runner.count.one_more() {
+            return Err(runner);
+        }
+        Ok(runner)
+    }
+
+    /// A run's `Runner` after one task more was found, and whether it takes its fair part before that runs.
+    #[inline(always)]
+    pub(in crate::machine) fn found(self) -> (Runner, bool)
+        ensures fixed { fixed result.0 ≡ fixed self }
+        ensures found { result ≡ cond (goes_on self.found) (record self { found = more self.found }, false) (record self { found = anew self.found }, true) }
+    {
+        let mut runner = self;
+        let is_fair = runner.found.one_more();
+        (runner, is_fair)
+    }
+}
+
+// How far a run is that rests. One whose runner was registered has a number under which it sleeps,
+// or 0.
+#[derive(Debug, Clone, Copy, PartialEq, Eq)]
+enum Stage {
+    New,
+    Joined(usize),
+    Ended,
+}
+
+impl RunRest {
+    /// Whether the run of this `RunRest` has ended or was dropped. Nothing is left for it to do then.
+    pub fn is_ended(&self) -> bool
+        ensures { result ≡ has_ended self.now }
+    {
+        // Borrowed, as `search` is: a `Copy` value with a `Count` in it cannot be used twice in one
+        // function.
+        matches!(self.stage, Ended)
+    }
+
+    /// What the run of this `RunRest` searches with in its poll.
+    #[inline(always)]
+    pub(crate) fn search(&self) -> Search
+        ensures { result ≡ record { key = self.now.runner.key } }
+    {
+        Search {
+            key: self.runner.key,
+        }
+    }
+
+    // The `RunRest` of a run whose runner was not registered.
+    pub(in crate::machine) fn of_new(runner: Runner) -> RunRest
+        ensures { result ≡ record { runner = runner; stage = Stage.New } }
+    {
+        RunRest { runner, stage: New }
+    }
+
+    // The `RunRest` of a run whose runner is registered, and which sleeps under this number, if it is not 0.
+    #[inline(always)]
+    pub(in crate::machine) fn of_joined(runner: Runner, number: usize) -> RunRest
+        ensures { result ≡ record { runner = runner; stage = Stage.Joined number } }
+    {
+        RunRest {
+            runner,
+            stage: Joined(number),
+        }
+    }
+
+    // The `RunRest` of a run that has ended.
+    pub(in crate::machine) fn of_ended(runner: Runner) -> RunRest
+        ensures { result ≡ record { runner = runner; stage = Stage.Ended } }
+    {
+        RunRest {
+            runner,
+            stage: Ended,
+        }
+    }
+
+    /// The run of this `RunRest` is polled.
+    #[inline(always)]
+    pub(crate) fn begin(self) -> Begun
+        requires { has_ended self ≡ false }
+        ensures step { result ≡ begun self }
+        ensures world { of_begun result ≡ rest_ticker self }
+    {
+        let RunRest { runner, stage } = self;
+        match stage {
+            New => Begun::Register(Registering { runner }),
+            Joined(number) => Begun::PollOwn(PollingOwn { runner, number }),
+            Ended => unreachable!(),
+        }
+    }
+
+    /// The run of this `RunRest` is dropped. Its own future was dropped before.
+    pub(crate) fn depart(self) -> Dropped
+        requires { has_ended self ≡ false }
+        ensures step { result ≡ dropped (begun self) }
+        ensures world { of_dropped result ≡ rest_ticker self }
+    {
+        self.begin().depart()
+    }
+}
+
+/// A count up to a limit. The last one of so many begins it anew, so it is below that limit.
+#[derive(Debug, Clone, Copy, PartialEq, Eq)]
+pub(crate) struct Count {
+    // 64 bits each, though both are below 2^32: two halves of a register would be packed and unpacked at
+    // each task.
+    counted: u64,
+    limit: u64,
+}
+
+impl Model for Count {
+    ghost use Rattle.std.specs.Prelude.{◌<◌};
+    ghost use Rattle.async_executor.specs.Runs.Counts.{Counted, counted_code};
+
+    ghost Value = { Counted };
+
+    ghost coded = { counted_code };
+
+    ghost view = { λ c. record { counted = c.counted; limit = c.limit } };
+
+    ghost invariant = { λ c. c.counted < c.limit };
+
+    ghost inverse = { λ d. record { counted = d.counted; limit = d.limit } };
+}
+
+impl Count {
+    /// A `Count` that begins, up to this limit.
+    #[inline(always)]
+    pub(in crate::machine) fn up_to(limit: u32) -> Count
+        requires { 0 < limit }
+        ensures { result ≡ up_to limit }
+    {
+        Count {
+            counted: 0,
+            limit: u64::from(limit),
+        }
+    }
+
+    /// A `Count` is below its limit, by its type. It does nothing.
+    #[inline(always)]
+    pub(in crate::machine) fn is_below(&self)
+        ensures { self.now.counted < self.now.limit }
+    {
+        let _counted = self.counted;
+    }
+
+    /// Counts one more where the count stands, so that it is not packed and unpacked, and says whether
+    /// that was the last of so many.
+    #[inline(always)]
+    pub(in crate::machine) fn one_more(&mut self) -> bool
+        ensures counted { self.new ≡ cond (goes_on self.old) (more self.old) (anew self.old) }
+        ensures last { result ≡ not (goes_on self.old) }
+        ensures each { CountsEach self.old self.new result }
+    {
+        let counted = self.counted + 1;
+        if counted < self.limit {
+            self.counted = counted;
+            return false;
+        }
+        self.counted = 0;
+        true
+    }
+}
 
 /// A poll of a run begins.
 pub(crate) enum Begun {
@@ -191,6 +403,31 @@ impl PollingOwn {
     {
         let PollingOwn { runner, number } = self;
         Unregistering { runner, number }
+    }
+}
+
+/// A generator of random words, a `Xoshiro256PlusPlus`. Its words spread the runners, and are not secret.
+#[derive(Drop)]
+pub struct RandomGenerator {
+    generator: Xoshiro256PlusPlus,
+}
+
+impl RandomGenerator {
+    /// The `RandomGenerator` that `seed_from_u64` gives for this number.
+    pub fn new(number: u64) -> RandomGenerator
+        ensures { result.generator ≡ of_seed (splitmix_seed 32 number) }
+    {
+        RandomGenerator {
+            generator: Xoshiro256PlusPlus::seed_from_u64(number),
+        }
+    }
+
+    /// The next word of this `RandomGenerator`.
+    #[inline(always)]
+    pub fn next(&mut self) -> u64
+        ensures { (result, self.new.generator) ≡ plus_plus self.old.generator }
+    {
+        self.generator.next_word()
     }
 }
 

@@ -3,8 +3,7 @@ ghost use Rattle.std.specs.Prelude.{◌≡◌, false};
 ghost use Rattle.async_executor.specs.Runs.{has_ended};
 ghost use Rattle.async_executor.specs.Steps.{actor_going};
 
-use crate::machine::run::{RunRest, Runner};
-use crate::machine::run_steps::{NotRegistered, PollingOwn, TurnOver};
+use crate::machine::run_steps::{NotRegistered, PollingOwn, RunRest, Runner, TurnOver};
 use crate::machine::steps::{GoingToSleep, Searching, Yielding};
 
 impl PollingOwn {

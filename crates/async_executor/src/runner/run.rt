@@ -10,20 +10,19 @@ ghost use Rattle.async_executor.specs.RunError.{run_cause, run_future};
 ghost use Rattle.async_executor.specs.Answers.{is_ready};
 ghost use Rattle.async_executor.specs.Runs.{has_ended, ids_in, new_rest, IsNewRun};
 ghost use Rattle.async_executor.specs.Runs.Fixed.{fixed, runner_worked};
-ghost use Rattle.async_executor.specs.Steps.{actor_going};
 ghost use Rattle.async_executor.specs.Deferred.{IsHeldRight, IsDeferredRight};
 
 mod worker;
 
-use crate::deferred::{Deferred, EndThenSearch};
-use crate::futures::storage::{OutIn, OutputIn, Storage, futures};
-use crate::futures::transactions;
+use crate::futures::transactions::{self, Deferred, EndThenSearch};
+use crate::futures::{OutIn, OutputIn, Storage, futures};
 use crate::machine::{
-    Begun, Dropped, GoingToSleep, NextTask, NotRegistered, OwnPolled, PollingOwn, Registering,
-    RunMachine, RunRest, Runner, Running, Search, Searching, Started, TurnOver, Unregistering,
+    Begun, Dropped, GoingToSleep, NextTask, NotRegistered, OwnPolled, PollingOwn, RandomGenerator,
+    Registering, RunMachine, RunRest, Runner, Running, Search, Searching, Started, TurnOver,
+    Unregistering,
 };
-use crate::runner::random_generator::RandomGenerator;
-use crate::scheduler::{ExecutorIn, poll_taken};
+use crate::poller::poll_taken;
+use crate::scheduler::ExecutorIn;
 use crate::sleeping::{Slept, announce_found, leave, sleep};
 use crate::state::{ExecutorState, announce, cells};
 use executor_core::limits::Limits;
@@ -106,7 +105,7 @@ impl<S: Storage> ExecutorIn<S> {
         ensures limits { IfOk result (λ run. IsNewRun self.now.limits run.rest run.own.ring) }
         ensures refused { IfErr result (λ e. run_future e ≡ future) }
     {
-        let state = self.state();
+        let state = self.storage.state();
         let Ok(ring) = Ring::new(state.alloc(), self.limits.local) else {
             return Err(RunError::OutOfMemory(future));
         };
@@ -175,7 +174,7 @@ impl<'x, 'y, S: Storage, G: Drop> Driver<'x, 'y, S, G> {
         let found = self.search.make(&mut *cells!(self.state), word, again);
         if let Some(next) = &found {
             // Nobody else takes the future of a task that was taken, and no other one is out.
-            let mut futures = futures!(self.executor.storage());
+            let mut futures = futures!(&self.executor.storage);
             self.out = futures.get().take(next.id());
         }
         found
@@ -196,7 +195,7 @@ impl<'x, 'y, S: Storage, G: Drop> Driver<'x, 'y, S, G> {
                 }
             };
             let id = taken.id();
-            let ran = poll_taken::<S>(taken, &mut self.out);
+            let ran = poll_taken(taken, &mut self.out);
             let searching = match under_way.ran() {
                 Ok(searching) => searching,
                 // The task is ended, and none is taken that would wait until the next poll.
@@ -221,7 +220,7 @@ impl<'x, 'y, S: Storage, G: Drop> Driver<'x, 'y, S, G> {
         requires { IsHeldRight ran }
     {
         let own = &mut *self.own;
-        let (storage, out, random) = (self.executor.storage(), &mut self.out, &mut own.random);
+        let (storage, out, random) = (&self.executor.storage, &mut self.out, &mut own.random);
         match transactions::end_then_search(
             storage,
             self.state,
@@ -285,7 +284,7 @@ impl<'x, 'y, S: Storage, G: Drop> Driver<'x, 'y, S, G> {
 fn cells_for_a_share<S: Storage>(
     executor: &ExecutorIn<S>,
 ) -> MutexGuard<'_, Cells<(), (), S::Waker>> {
-    cells!(executor.state())
+    cells!(executor.storage.state())
 }
 
 // Runs tasks until none is found and the run sleeps, or its turn is over.
@@ -299,7 +298,7 @@ fn work<S: Storage, G: Drop>(
     ensures fixed { fixed result.runner ≡ fixed searching.actor }
     ensures goes_on { has_ended result ≡ false }
 {
-    let state = executor.state();
+    let state = executor.storage.state();
     let mut driver = Driver {
         executor,
         state,
@@ -345,7 +344,7 @@ fn register<S: Storage, G: Drop>(
     let Some(ring) = own.ring.take() else {
         return Err(registering.refused());
     };
-    let mut cells = executor.state().cells();
+    let mut cells = executor.storage.state().cells();
     match registering.make(&mut cells, ring) {
         Ok(polling) => Ok(polling),
         Err((refused, ring)) => {
@@ -361,7 +360,7 @@ fn end<S: Storage>(executor: &ExecutorIn<S>, unregistering: Unregistering) -> Ru
     ensures runner { result.runner ≡ unregistering.runner }
     ensures ended { has_ended result ≡ true }
 {
-    let state = executor.state();
+    let state = executor.storage.state();
     let mut cells = state.cells();
     let (notice, left) = unregistering.make(&mut cells);
     drop(cells);
@@ -456,7 +455,7 @@ impl<S: Storage, G: Future<S::Waker>> Drop for RunIn<'_, S, G> {
                 end(executor, unregistering);
             }
             Dropped::Release(releasing) => {
-                let state = executor.state();
+                let state = executor.storage.state();
                 let mut cells = state.cells();
                 let departed = releasing.make(&mut cells);
                 drop(cells);

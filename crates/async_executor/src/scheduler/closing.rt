@@ -2,8 +2,7 @@
 ghost use Rattle.async_executor.specs.Deferred.{IsHeldRight};
 
 use crate::dropper::TaskDropper;
-use crate::futures::storage::{OutIn, OutputIn, Storage};
-use crate::futures::transactions;
+use crate::futures::{OutIn, OutputIn, Storage, transactions};
 use crate::scheduler::ExecutorIn;
 use crate::state::announce;
 use executor_core::task::{Ran, Taken, run_taken};
@@ -15,7 +14,7 @@ impl<S: Storage> ExecutorIn<S> {
     ///
     /// What other parties queue meanwhile is dropped too. It takes no memory.
     pub(crate) fn close(&self) {
-        let state = self.state();
+        let state = self.storage.state();
         let closed = state.cells().close();
         // Before the first future is dropped, which may take long.
         if let Some(notice) = closed {

@@ -4,8 +4,7 @@ ghost use Rattle.std.specs.Iterator.{IsFinite};
 ghost use Rattle.executor_core.specs.SpawnError.{refused_future};
 ghost use Rattle.async_executor.specs.SpawnMany.{spawn_cause, spawned, SpawnsInTurn, AddsHandle, AddsHandles, HasPlace};
 
-use crate::futures::storage::{Shareable, Storage};
-use crate::futures::transactions;
+use crate::futures::{Shareable, Storage, transactions};
 use crate::scheduler::ExecutorIn;
 use crate::task::TaskIn;
 use executor_core::queue::RunnerError;
@@ -112,7 +111,7 @@ impl<S: Shareable> ExecutorIn<S> {
     {
         // No table is then copied as it grows. If this is refused, each spawn makes its own room.
         let tasks = expect_handles(handles, &futures);
-        transactions::reserve(self.storage(), tasks);
+        transactions::reserve(&self.storage, tasks);
         let before = handles.len();
         // One `spawn` each: a hold of the locks over several would keep others out, and the iterator
         // could not use the executor.

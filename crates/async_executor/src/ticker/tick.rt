@@ -2,7 +2,7 @@
 ghost use Rattle.std.specs.Prelude.{◌≡◌, true, false, Some, None, IfOk, IsTrue};
 ghost use Rattle.async_executor.specs.Answers.{is_ready};
 
-use crate::futures::storage::Storage;
+use crate::futures::Storage;
 use crate::machine::{TickMachine, TickRest};
 use crate::scheduler::ExecutorIn;
 use crate::sleeping::{Slept, announce_found, leave, sleep};
@@ -22,7 +22,7 @@ impl<S: Storage> ExecutorIn<S> {
     pub(crate) fn tick(&self) -> Result<TickIn<'_, S>, OutOfMemory>
         ensures { IfOk result (λ tick. tick.rest ≡ record { number = 0; ended = false }) }
     {
-        self.state().reserve_sleeper()?;
+        self.storage.state().reserve_sleeper()?;
         Ok(TickIn::new(self))
     }
 }
@@ -54,7 +54,7 @@ impl<S: Storage> Future<S::Waker> for TickIn<'_, S> {
             return Poll::Ready(());
         }
         let executor = self.executor;
-        let state = executor.state();
+        let state = executor.storage.state();
         let mut searching = self.rest.begin();
         let mut again = None;
         let mut is_listed = false;
@@ -90,7 +90,7 @@ impl<S: Storage> Drop for TickIn<'_, S> {
         if rest.is_ended() {
             return;
         }
-        leave(executor.state(), rest.depart()).end();
-        executor.state().release_sleeper();
+        leave(executor.storage.state(), rest.depart()).end();
+        executor.storage.state().release_sleeper();
     }
 }

@@ -23,7 +23,7 @@ use Rattle.executor_core.proofs.ListLemmas.{within_get, get-set_same, get-set_ot
 use Rattle.executor_core.proofs.SlotLemmas.{insert_same, insert_other, remove_same, remove_other}
 use Rattle.executor_core.specs.declared.task.cell.Cell.{Cell}
 use Rattle.executor_core.specs.declared.task.cell.CellState.{CellState}
-use Rattle.executor_core.specs.declared.task.id.TaskId.{TaskId}
+use Rattle.executor_core.specs.declared.task.cell.TaskId.{TaskId}
 use Rattle.executor_core.specs.declared.interleave.entry.TaskInfo.{TaskInfo}
 use Rattle.executor_core.specs.declared.interleave.entry.TaskEntry.{TaskEntry}
 use Rattle.executor_core.specs.declared.interleave.event.Event.{Event}

@@ -33,7 +33,7 @@ use Rattle.executor_core.proofs.World.Room.{room_again}
 use Rattle.executor_core.proofs.World.Runners.{shapes, fixed_part, same_locals, same_closed, runners_shaped, runners_same}
 use Rattle.executor_core.proofs.World.Steps.{stepped, Done, stepped_sound}
 use Rattle.executor_core.proofs.World.Tickers.{known}
-use Rattle.executor_core.specs.declared.task.values.Taken.{Taken}
+use Rattle.executor_core.specs.declared.task.polling.Taken.{Taken}
 use Rattle.executor_core.specs.declared.plain_core.Core.{Core}
 use Rattle.executor_core.specs.declared.interleave.World.TheInside.{Inside}
 use Rattle.executor_core.specs.declared.interleave.entry.TaskEntry.{TaskEntry}

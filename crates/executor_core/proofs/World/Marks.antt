@@ -26,7 +26,7 @@ use Rattle.executor_core.proofs.World.Agreement.{id_of, undropped_is, idle_state
 use Rattle.executor_core.specs.declared.task.cell.Cell.{Cell}
 use Rattle.executor_core.specs.declared.task.cell.CellState.{CellState}
 use Rattle.executor_core.specs.declared.plain_core.Core.{Core}
-use Rattle.executor_core.specs.declared.task.id.TaskId.{TaskId}
+use Rattle.executor_core.specs.declared.task.cell.TaskId.{TaskId}
 use Rattle.executor_core.specs.declared.interleave.World.TheInside.{Inside}
 use Rattle.executor_core.specs.declared.interleave.entry.TaskEntry.{TaskEntry}
 use Rattle.executor_core.specs.declared.interleave.entry.TaskInfo.{TaskInfo}

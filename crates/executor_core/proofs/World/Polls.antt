@@ -34,10 +34,10 @@ use Rattle.executor_core.proofs.World.Agreement.{id_of, out_is, held_by_state, s
 use Rattle.executor_core.specs.declared.task.cell.CellState.{CellState}
 use Rattle.executor_core.specs.declared.task.cell.CellState.TheVariants.{Idle, Scheduled, Held, Finished, Gone}
 use Rattle.executor_core.specs.declared.plain_core.Core.{Core}
-use Rattle.executor_core.specs.declared.task.id.TaskId.{TaskId}
+use Rattle.executor_core.specs.declared.task.cell.TaskId.{TaskId}
 use Rattle.executor_core.specs.declared.task.table.EndReady.{EndReady}
-use Rattle.executor_core.specs.declared.task.values.Held.{Held as HeldTask}
-use Rattle.executor_core.specs.declared.task.values.Taken.{Taken}
+use Rattle.executor_core.specs.declared.task.polling.Held.{Held as HeldTask}
+use Rattle.executor_core.specs.declared.task.polling.Taken.{Taken}
 use Rattle.executor_core.specs.declared.task.values.Wakeup.{Wakeup}
 use Rattle.executor_core.specs.declared.interleave.World.TheInside.{Inside}
 use Rattle.executor_core.specs.declared.interleave.entry.TaskInfo.{TaskInfo}

@@ -35,7 +35,7 @@ use Rattle.executor_core.proofs.World.Steps.{stepped, Done}
 use Rattle.executor_core.proofs.World.Tickers.{known, stores_same, stores_taken, stores_given, place_free, number_used, tied_phase, tied_ended, tied_inserted, tied_removed, tied_added, stores_added, reserve_release}
 use Rattle.executor_core.specs.declared.task.values.Again.{Again}
 use Rattle.executor_core.specs.declared.task.values.Change.{Change}
-use Rattle.executor_core.specs.declared.task.values.Taken.{Taken}
+use Rattle.executor_core.specs.declared.task.polling.Taken.{Taken}
 use Rattle.executor_core.specs.declared.sleepers.list.Update.TheVariants.{Asleep, WasNotified, Unknown}
 use Rattle.executor_core.specs.declared.plain_core.Core.{Core}
 use Rattle.executor_core.specs.declared.interleave.World.TheInside.{Inside}

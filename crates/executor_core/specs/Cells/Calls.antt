@@ -10,9 +10,9 @@ use Rattle.executor_core.specs.Cell.{is_idle, is_held, is_scheduled, is_undroppe
 use Rattle.executor_core.specs.Cell.Changes.{new_cell, woken, taken, pended, readied, awaited, cancelled_cell, detached, disposed, takes_back, output_of, is_finished_state, wakeup_of}
 use Rattle.executor_core.specs.declared.task.cell.Cell.{Cell}
 use Rattle.executor_core.specs.declared.task.cell.CellState.TheVariants.{Scheduled}
-use Rattle.executor_core.specs.declared.task.id.TaskId.{TaskId}
-use Rattle.executor_core.specs.declared.task.values.Taken.{Taken}
-use Rattle.executor_core.specs.declared.task.values.Held.{Held}
+use Rattle.executor_core.specs.declared.task.cell.TaskId.{TaskId}
+use Rattle.executor_core.specs.declared.task.polling.Taken.{Taken}
+use Rattle.executor_core.specs.declared.task.polling.Held.{Held}
 use Rattle.executor_core.specs.declared.task.values.Wakeup.{Wakeup}
 use Rattle.executor_core.specs.declared.task.table.EndReady.{EndReady}
 use Rattle.executor_core.specs.declared.task.handles.PollHandle.{PollHandle}

@@ -12,8 +12,8 @@ use Rattle.executor_core.specs.Cells.Law.{ScheduledOnce}
 use Rattle.executor_core.specs.declared.task.cell.Cell.{Cell}
 use Rattle.executor_core.specs.declared.task.cell.Numbered.{Numbered}
 use Rattle.executor_core.specs.declared.task.cell.CellState.TheVariants.{Scheduled}
-use Rattle.executor_core.specs.declared.task.id.TaskId.{TaskId}
-use Rattle.executor_core.specs.declared.task.values.Taken.{Taken}
+use Rattle.executor_core.specs.declared.task.cell.TaskId.{TaskId}
+use Rattle.executor_core.specs.declared.task.polling.Taken.{Taken}
 
 abbrev pub numbers_of : List TaskId → List ℕ
 numbers_of ids = map (λ id. id.number) ids

@@ -3,7 +3,7 @@ use Rattle.std.specs.Borrow.{Lends, Fml, RattleType, MutBor}
 use Rattle.executor_core.specs.Queues.Slots.{QueuedSlots}
 use Rattle.executor_core.specs.Slots.{put_cell}
 use Rattle.executor_core.specs.declared.task.cell.Cell.{Cell}
-use Rattle.executor_core.specs.declared.task.id.TaskId.{TaskId}
+use Rattle.executor_core.specs.declared.task.cell.TaskId.{TaskId}
 use Rattle.executor_core.specs.contracts.queue.queues.Queues.{the_row}
 use Rattle.executor_core.specs.contracts.task.cell.Cell.{the_row as cell_row}
 

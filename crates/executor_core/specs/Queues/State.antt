@@ -3,7 +3,7 @@ use Rattle.std.specs.Prelude.{ℕ, List, [], ◌∷◌, ◌++◌, refl}
 use Rattle.std.specs.Coded.{Coded, code_by, coded×, coded_ℕ, coded_list}
 use Rattle.executor_core.specs.Queues.{QueueLists, RunnerQueue, runner_queue_code}
 use Rattle.executor_core.specs.Ring.Coding.{task_id_code}
-use Rattle.executor_core.specs.declared.task.id.TaskId.{TaskId}
+use Rattle.executor_core.specs.declared.task.cell.TaskId.{TaskId}
 
 -- the queues, the number that the next runner gets, and how many reserved places for runners are free
 pub record QueueState : Type 0 where

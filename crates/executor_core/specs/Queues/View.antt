@@ -3,7 +3,7 @@ use Rattle.std.specs.Prelude.{◌≡◌, ℕ, ◌+◌, ◌≤◌, List, length, 
 use Rattle.executor_core.specs.Queues.{RunnerQueue}
 use Rattle.executor_core.specs.Queues.State.{QueueState}
 use Rattle.executor_core.specs.declared.queue.queues.LocalQueue.{LocalQueue}
-use Rattle.executor_core.specs.declared.task.id.TaskId.{TaskId}
+use Rattle.executor_core.specs.declared.task.cell.TaskId.{TaskId}
 
 abbrev pub local_of : LocalQueue → RunnerQueue TaskId
 local_of l = record { runner = l.runner; entries = l.ring.ids; capacity = l.ring.capacity }

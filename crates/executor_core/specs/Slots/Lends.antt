@@ -2,7 +2,7 @@
 use Rattle.std.specs.Borrow.{Lends, Fml, RattleType, MutBor}
 use Rattle.executor_core.specs.Slots.{LinkedSlots, with_cell_at}
 use Rattle.executor_core.specs.declared.task.cell.Cell.{Cell}
-use Rattle.executor_core.specs.declared.task.id.TaskId.{TaskId}
+use Rattle.executor_core.specs.declared.task.cell.TaskId.{TaskId}
 use Rattle.executor_core.specs.contracts.task.slots.Slots.{the_row}
 use Rattle.executor_core.specs.contracts.task.cell.Cell.{the_row as cell_row}
 

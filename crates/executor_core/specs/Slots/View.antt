@@ -4,7 +4,7 @@ use Rattle.executor_core.specs.Slots.{LinkedSlots, Beside, SlotsApart}
 use Rattle.executor_core.specs.declared.task.slots.Slot.{Slot}
 use Rattle.executor_core.specs.declared.task.cell.Cell.{Cell}
 use Rattle.executor_core.specs.declared.task.cell.Numbered.{Numbered}
-use Rattle.executor_core.specs.declared.task.id.TaskId.{TaskId}
+use Rattle.executor_core.specs.declared.task.cell.TaskId.{TaskId}
 
 -- the link of a slot that none follows
 abbrev pub no_slot : ℕ

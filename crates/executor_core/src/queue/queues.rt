@@ -7,33 +7,198 @@
 //! A runner finds its queue where it stood the last time: `positions` keeps that for each runner,
 //! and is only a hint. If the queue stands there no more, since another runner left, it is looked
 //! for.
-ghost use Rattle.std.specs.Prelude.{◌≡◌, ◌≢◌, ◌+◌, ◌-◌, ◌<◌, ◌%◌, ◌≤◌, ◌^◌, ◌↔◌, ◌&&◌, ◌∷◌, ◌++◌, nat_lt, not, true, false, is_some, cond, [], Some, None, ◌==◌, map, drop, IfOk, IfErr, IsOk, IsErr, OnOk, OnErr, length, option_copied, option_map, unwrap_or, slice_get, slice_index_or, slice_set};
+ghost use Rattle.std.specs.Prelude.{◌≡◌, ◌≢◌, ◌+◌, ◌-◌, ◌<◌, ◌%◌, ◌≤◌, ◌^◌, ◌↔◌, ◌&&◌, ◌∷◌, ◌++◌, take, nat_lt, not, false, is_some, [], Some, None, ◌==◌, map, drop, IfOk, IfErr, IsOk, OnOk, length, option_copied, option_map, unwrap_or, slice_get, slice_index_or, slice_set};
 ghost use Rattle.std.specs.List.{position, find, range_with_len};
-ghost use Rattle.executor_core.specs.SpawnError.{last_number};
-ghost use Rattle.executor_core.specs.Queues.{position_of, is_registered, search_global, search, search_any, first_occupied, gives, victim, fair, fair_count, registered, unregistered, unregistered_at, stolen_between, stolen_locals, global_stolen, stolen, with_entries, entries_at, capacity_at, entries_of, emptied, local_entries, gathered};
+ghost use Rattle.executor_core.specs.Queues.{position_of, is_registered, search_global, search, search_any, first_occupied, gives, victim, fair, fair_count, stolen_between, stolen_locals, global_stolen, stolen, with_entries, entries_at, capacity_at, emptied, local_entries, gathered};
 ghost use Rattle.executor_core.specs.Queues.View.{local_of};
 ghost use Rattle.executor_core.specs.Queues.State.{no_queues, with_lists, pushed};
-ghost use Rattle.executor_core.specs.Queues.Slots.{with_state};
 ghost use Rattle.executor_core.specs.Slots.{Changes, HasCell, IsQueue, numbered, with_queue};
 ghost use Rattle.executor_core.specs.Cell.Changes.{new_cell};
 ghost use Rattle.std.specs.Borrow.{sem};
 
-use crate::queue::ring::{Ring, steal};
-use crate::queue::runner::{RunnerError, RunnerKey};
-use crate::task::cell::{Cell, Numbered};
-use crate::task::id::TaskId;
+use crate::queue::runner::RunnerKey;
+use crate::task::cell::{Cell, Numbered, TaskId};
+use crate::task::error::OutOfMemory;
 use crate::task::slots::{QueuedNumbers, Slots};
 use crate::task::values::Notice;
+use circular_buffer::HeapCircularBuffer;
 use std::alloc::{AllocError, Global};
+use std::cmp::min;
 use std::marker::Model;
+
+/// The ids of queued tasks, in the order in which they were queued, and room for so many.
+///
+/// A contract sees it as an `IdRing`: the ids from the front on, and the capacity.
+#[derive(Drop)]
+pub struct Ring {
+    ids: HeapCircularBuffer<TaskId>,
+}
+
+impl Model for Ring {
+    ghost use Rattle.executor_core.specs.Ring.{IdRing};
+    ghost use Rattle.executor_core.specs.Ring.Coding.{id_ring_code};
+
+    ghost Value = { IdRing };
+
+    ghost coded = { id_ring_code };
+
+    ghost view = { λ r. record { ids = r.ids.items; capacity = r.ids.capacity } };
+}
+
+impl Ring {
+    /// An empty ring with room for so many ids.
+    ///
+    /// # Errors
+    ///
+    /// `OutOfMemory` if its memory was refused.
+    pub fn new(alloc: Global, capacity: usize) -> Result<Self, OutOfMemory>
+        ensures { IfOk result (λ ring. ring ≡ record { ids = []; capacity = capacity }) }
+    {
+        let ids = HeapCircularBuffer::with_capacity(alloc, capacity)?;
+        Ok(Ring { ids })
+    }
+
+    /// Puts the id at the end of the ring. It takes no memory.
+    ///
+    /// # Errors
+    ///
+    /// The id comes back exactly if the ring is full, and nothing changes.
+    pub fn push(&mut self, id: TaskId) -> Result<(), TaskId>
+        ensures variant { IsOk result ↔ (length self.old.ids < self.old.capacity) }
+        ensures ok { OnOk result (self.new ≡ record self.old { ids = self.old.ids ++ id ∷ [] }) }
+        ensures full { IfErr result (λ back. (back ≡ id) × (self.new ≡ self.old)) }
+    {
+        self.ids.try_push_back(id)
+    }
+
+    /// Takes the id at the front, or none if the ring is empty.
+    pub fn pop(&mut self) -> Option<TaskId>
+        ensures front { result ≡ slice_get self.old.ids 0 }
+        ensures rest { self.new ≡ record self.old { ids = drop 1 self.old.ids } }
+    {
+        self.ids.pop_front()
+    }
+
+    /// How many ids stand in the ring.
+    pub fn len(&self) -> usize
+        ensures len { result ≡ length self.now.ids }
+        ensures within { result ≤ self.now.capacity }
+    {
+        self.ids.len()
+    }
+
+    /// Whether no id stands in the ring.
+    pub fn is_empty(&self) -> bool
+        ensures { result ≡ (length self.now.ids == 0) }
+    {
+        self.ids.is_empty()
+    }
+
+    // The number of the task at this place of the ring, the front being 0.
+    pub(crate) fn number_at(&self, place: usize) -> Option<u64>
+        ensures { result ≡ option_map (λ id. id.number) (slice_get self.now.ids place) }
+    {
+        match self.ids.get(place) {
+            Some(id) => Some(id.number),
+            None => None,
+        }
+    }
+
+    /// For how many ids the ring has room.
+    pub fn capacity(&self) -> usize
+        ensures capacity { result ≡ self.now.capacity }
+        ensures within { result < 2 ^ 63 }
+    {
+        self.ids.capacity()
+    }
+}
+
+/// Moves the first half of the source, rounded up, to the end of the target, in order, as far as
+/// there is room, and says how many that are.
+///
+/// It takes no memory. Source in the Rust crate: `steal` of `src/lib.rs`.
+pub fn steal(source: &mut Ring, target: &mut Ring) -> usize
+    ensures count { result ≡ stolen source.old.ids target.old.ids target.old.capacity }
+    ensures source { source.new ≡ record source.old { ids = drop result source.old.ids } }
+    ensures target { target.new ≡ record target.old { ids = target.old.ids ++ take result source.old.ids } }
+{
+    let free = target.capacity() - target.len();
+    let count = min(source.len().div_ceil(2), free);
+    move_first(source, target, count);
+    count
+}
+
+// Moves so many ids from the front of the source to the end of the target, in order.
+fn move_first(source: &mut Ring, target: &mut Ring, count: usize)
+    requires there { count ≤ length source.old.ids }
+    requires room { length target.old.ids + count ≤ target.old.capacity }
+    ensures source { source.new ≡ record source.old { ids = drop count source.old.ids } }
+    ensures target { target.new ≡ record target.old { ids = target.old.ids ++ take count source.old.ids } }
+{
+    for _ in 0..count {
+        let Some(id) = source.pop() else {
+            unreachable!()
+        };
+        let Ok(()) = target.push(id) else {
+            unreachable!()
+        };
+    }
+}
+
+// Moves the first half of the linked queue, rounded up, to the end of the ring, in order, as far as
+// there is room, and says how many tasks that are.
+fn steal_linked<P, T, W>(slots: &mut Slots<P, T, W>, ring: &mut Ring) -> usize
+    ensures count { result ≡ stolen slots.old.queue ring.old.ids ring.old.capacity }
+    ensures queue { slots.new ≡ with_queue (drop result slots.old.queue) slots.old }
+    ensures ring { ring.new ≡ record ring.old { ids = ring.old.ids ++ take result slots.old.queue } }
+{
+    if slots.len() == 0 {
+        return 0;
+    }
+    let free = ring.capacity() - ring.len();
+    let count = min(slots.len().div_ceil(2), free);
+    move_linked(slots, ring, count);
+    count
+}
+
+// Moves so many tasks from the front of the linked queue to the end of the ring, in order.
+fn move_linked<P, T, W>(slots: &mut Slots<P, T, W>, ring: &mut Ring, count: usize)
+    requires there { count ≤ length slots.old.queue }
+    requires room { length ring.old.ids + count ≤ ring.old.capacity }
+    ensures queue { slots.new ≡ with_queue (drop count slots.old.queue) slots.old }
+    ensures ring { ring.new ≡ record ring.old { ids = ring.old.ids ++ take count slots.old.queue } }
+{
+    // The links of these are cleared one by one. Their slots are the ones that the takes go to next.
+    for _ in 0..count {
+        let Some(id) = slots.pop() else {
+            unreachable!()
+        };
+        let Ok(()) = ring.push(id) else {
+            unreachable!()
+        };
+    }
+}
+
+// Moves all that stands in the ring behind the last task of the linked queue, in order.
+pub(in crate::queue) fn append<P, T, W>(slots: &mut Slots<P, T, W>, ring: &mut Ring)
+    requires queue { IsQueue slots.old.slots (slots.old.queue ++ ring.old.ids) }
+    requires counted { length slots.old.queue + length ring.old.ids < 2 ^ 64 }
+    ensures queue { slots.new ≡ with_queue (slots.old.queue ++ ring.old.ids) slots.old }
+    ensures ring { ring.new ≡ record ring.old { ids = [] } }
+{
+    for _ in 0..ring.len() {
+        let Some(id) = ring.pop() else { unreachable!() };
+        slots.push(id);
+    }
+}
 
 // The queue of a registered runner, which has this number. Those of two runners share no cache line,
 // nor two lines that a processor asks for together.
 #[derive(Drop)]
-struct LocalQueue {
-    runner: u64,
-    ring: Ring,
-    before_next: [u64; 16],
+pub(in crate::queue) struct LocalQueue {
+    pub(in crate::queue) runner: u64,
+    pub(in crate::queue) ring: Ring,
+    pub(in crate::queue) before_next: [u64; 16],
 }
 
 /// The queues, and the places that are reserved for runners.
@@ -43,14 +208,14 @@ struct LocalQueue {
 #[derive(Drop)]
 pub(crate) struct Queues<P, T, W> {
     // A type of its own, with a model of its own: another form of the queues changes no body there.
-    slots: Slots<P, T, W>,
+    pub(in crate::queue) slots: Slots<P, T, W>,
     // In order of registration.
-    locals: Vec<LocalQueue>,
-    next_runner: u64,
-    free_places: usize,
+    pub(in crate::queue) locals: Vec<LocalQueue>,
+    pub(in crate::queue) next_runner: u64,
+    pub(in crate::queue) free_places: usize,
     // Where the queue of a runner stood the last time, by its number modulo the length, which is a power
     // of two.
-    positions: Vec<usize>,
+    pub(in crate::queue) positions: Vec<usize>,
 }
 
 impl<P, T, W> Model for Queues<P, T, W> {
@@ -249,115 +414,12 @@ fn move_all<P, T, W>(locals: &mut [LocalQueue], slots: &mut Slots<P, T, W>)
     ensures queue { slots.new ≡ with_queue (slots.old.queue ++ local_entries (map local_of locals.old)) slots.old }
 {
     for position in 0..locals.len() {
-        slots.append(&mut locals[position].ring);
+        append(slots, &mut locals[position].ring);
     }
 }
 
-// The places of the runners.
+// The places of the queues.
 impl<P, T, W> Queues<P, T, W> {
-    // `Cells::reserve_runner`, for `Queues`: one place more, and the key of a new runner.
-    pub(crate) fn reserve_runner(&mut self) -> Result<RunnerKey, RunnerError>
-        ensures slots { self.new.slots ≡ self.old.slots }
-        ensures lists { self.new.state.lists ≡ self.old.state.lists }
-        ensures ok { IfOk result (λ key. self.new ≡ with_state (record self.old.state { next_runner = self.old.state.next_runner + 1; free_places = self.old.state.free_places + 1 }) self.old) }
-        ensures key { IfOk result (λ key. key.number ≡ self.old.state.next_runner) }
-        ensures refused { OnErr result (self.new ≡ self.old) }
-        ensures cause { IfErr result (λ error. (error ≡ RunnerError.Exhausted) ↔ (self.old.state.next_runner ≡ last_number)) }
-        ensures exhausted { self.old.state.next_runner ≡ last_number → IsErr result }
-    {
-        if self.next_runner == u64::MAX {
-            return Err(RunnerError::Exhausted);
-        }
-        self.grow_positions()?;
-        // The free places have room already.
-        self.locals.reserve(self.free_places + 1)?;
-        let key = RunnerKey {
-            number: self.next_runner,
-        };
-        self.next_runner += 1;
-        self.free_places += 1;
-        Ok(key)
-    }
-
-    // As many positions as twice the runners that may be, so that two seldom share one.
-    fn grow_positions(&mut self) -> Result<(), AllocError>
-        ensures { self.new ≡ self.old }
-    {
-        let runners = self.locals.len() + self.free_places + 1;
-        let length = self.positions.len();
-        if runners.saturating_mul(2) > length {
-            self.positions.resize(length.saturating_mul(2).max(4), 0)?;
-        }
-        Ok(())
-    }
-
-    // `Cells::release_runner`, for `Queues`: gives a free place back, unless the runner is registered.
-    pub(crate) fn release_runner(&mut self, key: RunnerKey)
-        ensures slots { self.new.slots ≡ self.old.slots }
-        ensures lists { self.new.state.lists ≡ self.old.state.lists }
-        ensures places { self.new ≡ cond (is_registered key.number self.old.state.lists.locals) self.old (with_state (record self.old.state { free_places = self.old.state.free_places - 1 }) self.old) }
-    {
-        if self.find(key).is_none() && self.free_places > 0 {
-            self.free_places -= 1;
-        }
-    }
-
-    // `Cells::register`, for `Queues`: makes the ring the runner's queue, the last in order of
-    // registration.
-    pub(crate) fn register(&mut self, key: RunnerKey, ring: Ring) -> Result<(), Ring>
-        requires { ring.ids ≡ [] }
-        ensures variant { IsOk result ↔ ((nat_lt 0 self.old.state.free_places && not (is_registered key.number self.old.state.lists.locals)) ≡ true) }
-        ensures ok { OnOk result (self.new ≡ with_state (record (with_lists (registered key.number ring.capacity self.old.state.lists) self.old.state) { free_places = self.old.state.free_places - 1 }) self.old) }
-        ensures refused { IfErr result (λ back. (back ≡ ring) × (self.new ≡ self.old)) }
-    {
-        if self.free_places == 0 || self.find(key).is_some() {
-            return Err(ring);
-        }
-        self.free_places -= 1;
-        self.locals.push_reserved(LocalQueue {
-            runner: key.number,
-            ring,
-            before_next: [0; 16],
-        });
-        Ok(())
-    }
-
-    // `Cells::unregister`, for `Queues`: takes the runner's queue and its place away. What stood there
-    // goes to the global end.
-    pub(crate) fn unregister(&mut self, key: RunnerKey) -> Option<Notice>
-        requires queue { IsQueue self.old.slots (self.old.state.lists.global ++ entries_of key.number self.old.state.lists.locals) }
-        requires counted { length (self.old.state.lists.global ++ entries_of key.number self.old.state.lists.locals) < 2 ^ 64 }
-        ensures slots { self.new.slots ≡ self.old.slots }
-        ensures lists { self.new.state ≡ with_lists (unregistered key.number self.old.state.lists) self.old.state }
-        ensures notice { is_some result ≡ nat_lt 0 (length (entries_of key.number self.old.state.lists.locals)) }
-    {
-        let position = self.find(key)?;
-        if self.remove_local(position) == 0 {
-            return None;
-        }
-        Some(Notice { unspent: () })
-    }
-
-    // The queue at this position goes, and what stood there goes to the global end. Says how many
-    // tasks that are.
-    fn remove_local(&mut self, position: usize) -> usize
-        requires within { position < length self.old.state.lists.locals }
-        requires queue { IsQueue self.old.slots (self.old.state.lists.global ++ entries_at position self.old.state.lists.locals) }
-        requires counted { length (self.old.state.lists.global ++ entries_at position self.old.state.lists.locals) < 2 ^ 64 }
-        ensures slots { self.new.slots ≡ self.old.slots }
-        ensures lists { self.new.state ≡ with_lists (unregistered_at (Some position) self.old.state.lists) self.old.state }
-        ensures count { result ≡ length (entries_at position self.old.state.lists.locals) }
-    {
-        let LocalQueue {
-            runner: _,
-            mut ring,
-            before_next: _,
-        } = self.locals.remove(position);
-        let count = ring.len();
-        self.slots.append(&mut ring);
-        count
-    }
-
     // Gathers all queues in one: what stands in the runners' goes to the global end, in order of
     // registration. Says whether there was something.
     pub(crate) fn gather(&mut self) -> bool
@@ -373,7 +435,7 @@ impl<P, T, W> Queues<P, T, W> {
     }
 
     // At which position the runner's queue stands.
-    fn find(&mut self, key: RunnerKey) -> Option<usize>
+    pub(in crate::queue) fn find(&mut self, key: RunnerKey) -> Option<usize>
         ensures same { self.new ≡ self.old }
         ensures found { result ≡ position_of key.number self.old.state.lists.locals }
     {
@@ -472,7 +534,7 @@ impl<P, T, W> Queues<P, T, W> {
         self.locals[own].ring.pop()
     }
 
-    // `Slots::steal`, for `Queues`: moves half of the global queue to the one at this position, and says
+    // `steal_linked`, for `Queues`: moves half of the global queue to the one at this position, and says
     // how many tasks that are.
     fn steal_global(&mut self, own: usize) -> usize
         requires { own < length self.old.state.lists.locals }
@@ -480,7 +542,7 @@ impl<P, T, W> Queues<P, T, W> {
         ensures lists { self.new.state ≡ with_lists (global_stolen own self.old.state.lists) self.old.state }
         ensures count { result ≡ stolen self.old.state.lists.global (entries_at own self.old.state.lists.locals) (capacity_at own self.old.state.lists.locals) }
     {
-        self.slots.steal(&mut self.locals[own].ring)
+        steal_linked(&mut self.slots, &mut self.locals[own].ring)
     }
 
     // The first of the other queues, in the order in which a search with this word visits them, from

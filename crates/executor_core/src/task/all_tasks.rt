@@ -8,8 +8,7 @@ ghost use Rattle.executor_core.specs.Cells.View.{change_by, changed_slot, idle_i
 ghost use Rattle.executor_core.specs.Cells.Calls.{SlotsDiffer, after_wake_all, wake_all_queues, after_close, close_queues};
 
 use crate::queue::queues::Queues;
-use crate::task::cell::{cancel_cell, wake_cell};
-use crate::task::id::TaskId;
+use crate::task::cell::{TaskId, cancel_cell, wake_cell};
 use crate::task::table::Cells;
 use crate::task::values::Notice;
 

@@ -1,4 +1,4 @@
-//! The cell of one task, and what each call makes of it.
+//! The cell of one task, its id, and what each call makes of it.
 //!
 //! Each function here reads one cell, changes it in its place, or ends a removed one, and gives
 //! what comes out of it.
@@ -8,6 +8,30 @@ ghost use Rattle.executor_core.specs.Cell.Changes.{new_cell, state_woken, woken,
 
 use crate::task::values::Wakeup;
 use core::mem::replace;
+
+/// Names a task: its number, which no other task of the same cells ever has, and the slot of its
+/// cell.
+#[derive(Debug, Clone, Copy, PartialEq, Eq)]
+pub struct TaskId {
+    pub(crate) number: u64,
+    pub(crate) slot: usize,
+}
+
+impl TaskId {
+    /// The id's number: tasks are numbered from 0 in order of spawning.
+    pub fn number(self) -> u64
+        ensures { result ≡ self.number }
+    {
+        self.number
+    }
+
+    /// The id's slot, which another task may have once this one's cell was removed.
+    pub fn slot(self) -> usize
+        ensures { result ≡ self.slot }
+    {
+        self.slot
+    }
+}
 
 /// Where a task stands.
 #[derive(Drop)]

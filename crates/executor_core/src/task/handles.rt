@@ -7,9 +7,8 @@ ghost use Rattle.std.specs.Prelude.{◌≡◌, is_some, not};
 ghost use Rattle.executor_core.specs.Cells.Calls.{after_cancel, cancel_queues, after_detach, detach_answer, after_poll_handle, poll_answer, finished_in, undropped_in, cell_at};
 
 use crate::task::cell::{
-    await_cell, cancel_cell, detach_cell, has_future, is_finished_cell, output_of_ended,
+    TaskId, await_cell, cancel_cell, detach_cell, has_future, is_finished_cell, output_of_ended,
 };
-use crate::task::id::TaskId;
 use crate::task::table::Cells;
 use crate::task::values::Notice;
 

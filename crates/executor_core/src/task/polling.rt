@@ -1,11 +1,39 @@
 //! The one poll, or the one drop, of a taken task.
 ghost use Rattle.std.specs.Prelude.{◌≡◌, ℕ, ◌+◌, ◌<◌, ◌^◌, true, cond};
 ghost use Rattle.executor_core.specs.Polling.{RanFrom, AnsweredBy};
-ghost use Rattle.executor_core.specs.declared.task.id.TaskId.{TaskId};
+ghost use Rattle.executor_core.specs.declared.task.cell.TaskId.{TaskId};
 ghost use Rattle.executor_core.specs.declared.task.polling.Polled.{Polled};
 
-use crate::task::id::TaskId;
-use crate::task::values::{Held, Taken};
+use crate::task::cell::TaskId;
+
+/// A task that was taken: its future is out of its cell. Its `Held` is made as it is run.
+pub struct Taken<P> {
+    pub(crate) id: TaskId,
+    pub(crate) future: P,
+    pub(crate) cancelled: bool,
+}
+
+impl<P> Taken<P> {
+    /// The id in a `Taken`: which task was taken.
+    pub fn id(&self) -> TaskId
+        ensures { result ≡ self.now.id }
+    {
+        self.id
+    }
+
+    /// Whether the task of a `Taken` is cancelled, so that its future is to be dropped and not polled.
+    pub fn cancelled(&self) -> bool
+        ensures { result ≡ self.now.cancelled }
+    {
+        self.cancelled
+    }
+}
+
+/// The task was polled, or is to be disposed of, by its one holder.
+pub struct Held {
+    pub(crate) id: TaskId,
+    pub(crate) to_drop: bool,
+}
 
 /// What a poll answers.
 pub enum Polled<P, T> {

@@ -4,16 +4,13 @@
 //! global queue. No number stands in two queues, so one link is enough, and a task is queued
 //! without any memory. The slots of the first and of the last task are kept beside them, and how
 //! many tasks are queued. The link of a task that is not queued is cleared.
-ghost use Rattle.std.specs.Prelude.{◌≡◌, ◌+◌, ◌<◌, ◌≤◌, ◌^◌, ◌∷◌, ◌++◌, [], None, Some, take, drop, length, map, option_copied, option_map, slice_get, slice_index_or, slice_set, IfOk, IfErr, OnErr};
+ghost use Rattle.std.specs.Prelude.{◌≡◌, ◌+◌, ◌<◌, ◌≤◌, ◌^◌, ◌∷◌, ◌++◌, [], None, Some, drop, length, map, option_copied, option_map, slice_get, slice_index_or, slice_set, IfOk, IfErr};
 ghost use Rattle.std.specs.Borrow.{sem};
 ghost use Rattle.std.specs.Iterator.{YieldsFirst, item_count};
 ghost use Rattle.executor_core.specs.Cell.Changes.{new_cell};
-ghost use Rattle.executor_core.specs.Queues.{stolen};
 ghost use Rattle.executor_core.specs.Slots.{Changes, HasCell, IsQueue, numbered, with_queue};
 
-use crate::queue::ring::Ring;
-use crate::task::cell::{Cell, Numbered, new_cell};
-use crate::task::id::TaskId;
+use crate::task::cell::{Cell, Numbered, TaskId, new_cell};
 use core::mem::replace;
 use slab::Slab;
 use std::alloc::{AllocError, Global};
@@ -217,51 +214,6 @@ impl<P, T, W> Slots<P, T, W> {
             slots: &self.slots,
             next: self.first,
             left: self.len,
-        }
-    }
-
-    // Moves the first half of the linked queue, rounded up, to the end of the ring, in order, as far as
-    // there is room, and says how many tasks that are.
-    pub(crate) fn steal(&mut self, ring: &mut Ring) -> usize
-        ensures count { result ≡ stolen self.old.queue ring.old.ids ring.old.capacity }
-        ensures queue { self.new ≡ with_queue (drop result self.old.queue) self.old }
-        ensures ring { ring.new ≡ record ring.old { ids = ring.old.ids ++ take result self.old.queue } }
-    {
-        if self.len == 0 {
-            return 0;
-        }
-        let free = ring.capacity() - ring.len();
-        let count = min(self.len().div_ceil(2), free);
-        self.move_first(ring, count);
-        count
-    }
-
-    // Moves so many tasks from the front of the linked queue to the end of the ring, in order.
-    fn move_first(&mut self, ring: &mut Ring, count: usize)
-        requires there { count ≤ length self.old.queue }
-        requires room { length ring.old.ids + count ≤ ring.old.capacity }
-        ensures queue { self.new ≡ with_queue (drop count self.old.queue) self.old }
-        ensures ring { ring.new ≡ record ring.old { ids = ring.old.ids ++ take count self.old.queue } }
-    {
-        // The links of these are cleared one by one. Their slots are the ones that the takes go to next.
-        for _ in 0..count {
-            let Some(id) = self.pop() else { unreachable!() };
-            let Ok(()) = ring.push(id) else {
-                unreachable!()
-            };
-        }
-    }
-
-    // Moves all that stands in the ring behind the last task of the linked queue, in order.
-    pub(crate) fn append(&mut self, ring: &mut Ring)
-        requires queue { IsQueue self.old.slots (self.old.queue ++ ring.old.ids) }
-        requires counted { length self.old.queue + length ring.old.ids < 2 ^ 64 }
-        ensures queue { self.new ≡ with_queue (self.old.queue ++ ring.old.ids) self.old }
-        ensures ring { ring.new ≡ record ring.old { ids = [] } }
-    {
-        for _ in 0..ring.len() {
-            let Some(id) = ring.pop() else { unreachable!() };
-            self.push(id);
         }
     }
 }

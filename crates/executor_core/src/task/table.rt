@@ -1,17 +1,20 @@
 //! The table of task cells.
-ghost use Rattle.std.specs.Prelude.{◌≡◌, ◌≢◌, ℕ, ◌+◌, ◌-◌, ◌<◌, ◌≤◌, Bool, true, false, IsErr, IsTrue, ◌↔◌, List, [], ◌∷◌, ◌++◌, IfOk, IfErr, OnOk, OnErr, length, is_some, option_copied};
-ghost use Rattle.executor_core.specs.Cells.Calls.{wakes, after_wake, after_end_pending, EndsPending, undropped_in, cancelled_in, future_in, empty_table, after_spawn, IsFree, AllDropped, undropped_count, cell_at, held_in, handle_in, takes_back_in, after_end_ready, ready_answer, after_end_dropped, dropped_answer};
+ghost use Rattle.std.specs.Prelude.{◌≡◌, ◌+◌, ◌-◌, ◌<◌, true, false, IsErr, IsTrue, ◌↔◌, [], None, slice_index_or, IfOk, IfErr, IfSome, IfNone, OnErr, is_some, option_copied};
+ghost use Rattle.executor_core.specs.Cells.Calls.{wakes, after_wake, after_end_pending, EndsPending, undropped_in, cancelled_in, future_in, empty_table, after_spawn, IsFree, AllDropped, undropped_count, cell_at, held_in, handle_in, takes_back_in, after_end_ready, ready_answer, after_end_dropped, dropped_answer, after_take, TakesFront, after_take_any, TakesAny, after_search, search_in, TakesFound, after_drain_next, draining};
 ghost use Rattle.executor_core.specs.SpawnError.{last_number, Refuses};
-ghost use Rattle.executor_core.specs.Cells.Law.{LockLaw};
+ghost use Rattle.executor_core.specs.Cells.Law.{LockLaw, queued_of};
+ghost use Rattle.executor_core.specs.Cells.View.{scheduled_slot, TakesOut};
+ghost use Rattle.executor_core.specs.Slots.{HasCell};
 
 use crate::queue::queues::Queues;
+use crate::queue::runner::RunnerKey;
 use crate::task::cell::{
-    Cell, awaiter_of_held, dispose_cell, has_future, is_held, keeps_future, pend_cell, ready_cell,
-    takes_back, wake_cell,
+    Cell, TaskId, awaiter_of_held, dispose_cell, has_future, is_held, keeps_future, pend_cell,
+    ready_cell, take_cell, takes_back, wake_cell,
 };
 use crate::task::error::{OutOfMemory, SpawnError};
-use crate::task::id::TaskId;
-use crate::task::values::{Held, Notice, Wakeup};
+use crate::task::polling::{Held, Taken};
+use crate::task::values::{Again, Notice, Wakeup};
 use std::alloc::Global;
 use std::marker::Model;
 
@@ -142,6 +145,90 @@ impl<P, T, W> Cells<P, T, W> {
             return None;
         }
         Some(self.queues.push(id))
+    }
+
+    /// Takes a task from the cells: that at the global front, or none if the queue is empty. It takes no
+    /// memory.
+    ///
+    /// The notice says that there may be more to take.
+    pub fn take_global(&mut self, again: Option<Again>) -> Option<(Taken<P>, Notice)>
+        ensures table { self.new ≡ after_take self.old }
+        ensures none { IfNone result (self.old.global ≡ []) }
+        ensures some { IfSome result (λ r. TakesFront self.old self.new.global r.0) }
+    {
+        if let Some(again) = again {
+            again.spend();
+        }
+        let Some(id) = self.queues.take_front() else {
+            return None;
+        };
+        let taken = take_out(&mut self.queues, id);
+        Some((taken, Notice { unspent: () }))
+    }
+
+    /// Takes a task from the cells: that at the global front, else the one at the front of the first
+    /// runner's queue that has one, in order of registration. It gives none exactly if no task stands in
+    /// any queue. It steals nothing, and takes no memory.
+    ///
+    /// The notice says that there may be more to take.
+    pub fn take_any(&mut self, again: Option<Again>) -> Option<(Taken<P>, Notice)>
+        ensures table { self.new ≡ after_take_any self.old }
+        ensures none { IfNone result (queued_of self.old ≡ []) }
+        ensures some { IfSome result (λ r. TakesAny self.old r.0) }
+    {
+        if let Some(again) = again {
+            again.spend();
+        }
+        let Some(id) = self.queues.take_any() else {
+            return None;
+        };
+        let taken = take_out(&mut self.queues, id);
+        Some((taken, Notice { unspent: () }))
+    }
+
+    /// Takes the task at the global front once the cells were closed. None before, and none if the
+    /// queue is empty. It takes no memory.
+    ///
+    /// Nobody else is to hear of it, so there is no notice.
+    pub fn drain_next(&mut self) -> Option<Taken<P>>
+        ensures table { self.new ≡ after_drain_next self.old }
+        ensures none { IfNone result (draining self.old ≡ []) }
+        ensures some { IfSome result (λ task. (self.old.closed ≡ true) × TakesFront self.old self.new.global task) }
+    {
+        if !self.closed {
+            return None;
+        }
+        let (taken, notice) = self.take_global(None)?;
+        notice.keep();
+        Some(taken)
+    }
+
+    /// Takes a task from the cells for a runner, with a word that says where the walk over the other
+    /// queues starts: the front of its own queue, else the global front with half of what is left, else
+    /// the front half of the first other queue that has one. None if all are empty, or its own has no
+    /// room.
+    ///
+    /// A runner that is not registered takes the global front. It takes no memory, and visits each
+    /// other queue once at most.
+    #[inline(always)]
+    pub fn search(
+        &mut self,
+        key: RunnerKey,
+        word: u64,
+        again: Option<Again>,
+    ) -> Option<(Taken<P>, Notice)>
+        ensures table { self.new ≡ after_search self.old key.number word }
+        ensures none { IfNone result ((search_in self.old key.number word).0 ≡ None) }
+        ensures some { IfSome result (λ r. TakesFound self.old key.number word r.0) }
+    {
+        if let Some(again) = again {
+            again.spend();
+        }
+        let Some(id) = self.queues.search(key, word) else {
+            return None;
+        };
+        let taken = take_out(&mut self.queues, id);
+        Some((taken, Notice { unspent: () }))
     }
 
     /// The end of a poll that was pending, for the table: the future goes back, or is to be dropped.
@@ -293,5 +380,20 @@ impl<P, T, W> Cells<P, T, W> {
     {
         // For a caller that holds the table and makes no other call to learn the law from.
         let _ = &self.next;
+    }
+}
+
+// For each take: takes the task out of its cell, which is scheduled.
+fn take_out<P, T, W>(queues: &mut Queues<P, T, W>, id: TaskId) -> Taken<P>
+    requires there { HasCell queues.old.slots id }
+    requires scheduled { scheduled_slot (slice_index_or queues.old.slots id.slot None) ≡ true }
+    ensures slots { TakesOut queues.old.slots queues.new.slots id result }
+    ensures state { queues.new.state ≡ queues.old.state }
+{
+    let (future, cancelled) = take_cell(queues.cell_mut(id));
+    Taken {
+        id,
+        future,
+        cancelled,
     }
 }

@@ -1,8 +1,7 @@
-//! The values that must be spent.
-ghost use Rattle.std.specs.Prelude.{◌≡◌, false, is_some};
+//! The values that must be spent so that no notice is lost.
+ghost use Rattle.std.specs.Prelude.{◌≡◌, is_some};
 
 use crate::task::future::Wake;
-use crate::task::id::TaskId;
 
 /// A task was queued, or somebody passes such news on: an exchange of the flag has still to follow.
 pub struct Notice {
@@ -94,34 +93,5 @@ impl Wakeup<()> {
     // Spends a `Wakeup` for a world, whose wakers are units, and whose replies say that one came out.
     pub(crate) fn keep(self) {
         let Wakeup { waker: () } = self;
-    }
-}
-
-/// The task was polled, or is to be disposed of, by its one holder.
-pub struct Held {
-    pub(crate) id: TaskId,
-    pub(crate) to_drop: bool,
-}
-
-/// A task that was taken: its future is out of its cell. Its `Held` is made as it is run.
-pub struct Taken<P> {
-    pub(crate) id: TaskId,
-    pub(crate) future: P,
-    pub(crate) cancelled: bool,
-}
-
-impl<P> Taken<P> {
-    /// The id in a `Taken`: which task was taken.
-    pub fn id(&self) -> TaskId
-        ensures { result ≡ self.now.id }
-    {
-        self.id
-    }
-
-    /// Whether the task of a `Taken` is cancelled, so that its future is to be dropped and not polled.
-    pub fn cancelled(&self) -> bool
-        ensures { result ≡ self.now.cancelled }
-    {
-        self.cancelled
     }
 }

@@ -8,11 +8,10 @@ ghost use Rattle.executor_core.specs.Limits.{is_lawful};
 ghost use Rattle.async_executor.specs.Runs.{has_ended, new_rest};
 ghost use Rattle.async_executor.specs.Runs.Fixed.{fixed};
 
-use crate::futures::storage::Storage;
+use crate::futures::Storage;
 use crate::machine::{
-    Begun, Dropped, RunMachine, RunRest, Runner, Search, Searching, Unregistering,
+    Begun, Dropped, RandomGenerator, RunMachine, RunRest, Runner, Search, Searching, Unregistering,
 };
-use crate::runner::random_generator::RandomGenerator;
 use crate::runner::run::{Driver, Own, register};
 use crate::scheduler::ExecutorIn;
 use crate::sleeping::{announce_found, leave};
@@ -32,7 +31,7 @@ impl<S: Storage> ExecutorIn<S> {
     pub(crate) fn worker(&self) -> Result<WorkerIn<'_, S>, RunnerError>
         ensures { IfOk result (λ worker. has_ended worker.rest ≡ false) }
     {
-        let state = self.state();
+        let state = self.storage.state();
         let Ok(ring) = Ring::new(state.alloc(), self.limits.local) else {
             return Err(RunnerError::OutOfMemory);
         };
@@ -80,7 +79,7 @@ fn run_turn<S: Storage>(
     ensures fixed { fixed result.0.runner ≡ fixed searching.actor }
     ensures goes_on { has_ended result.0 ≡ false }
 {
-    let state = executor.state();
+    let state = executor.storage.state();
     let mut driver = Driver {
         executor,
         state,
@@ -100,7 +99,7 @@ fn run_turn<S: Storage>(
 
 // Ends the queue of a worker, which never slept, and passes on what stood in it.
 fn end<S: Storage>(executor: &ExecutorIn<S>, unregistering: Unregistering) {
-    let state = executor.state();
+    let state = executor.storage.state();
     let mut cells = state.cells();
     let (notice, left) = unregistering.make(&mut cells);
     drop(cells);
@@ -150,7 +149,7 @@ impl<S: Storage> Drop for WorkerIn<'_, S> {
         match rest.depart() {
             Dropped::Unregister(unregistering) => end(executor, unregistering),
             Dropped::Release(releasing) => {
-                let mut cells = executor.state().cells();
+                let mut cells = executor.storage.state().cells();
                 releasing.make(&mut cells).end();
             }
         }

@@ -10,7 +10,7 @@ use Rattle.async_executor.specs.Runs.Turns.{TurnFrom, under_way_in}
 use Rattle.async_executor.specs.Ticks.Replies.{actor_of}
 use Rattle.async_executor.specs.declared.machine.run.RunState.TheVariants.{PassingOn, Waiting}
 use Rattle.async_executor.specs.declared.machine.run.RunReply.TheVariants.{Tick}
-use Rattle.async_executor.specs.declared.machine.run.Runner.{Runner}
+use Rattle.async_executor.specs.declared.machine.run_steps.Runner.{Runner}
 use Rattle.async_executor.proofs.Decisions.{key_after, run_decided}
 use Rattle.async_executor.proofs.RunMachines.{over_decided, run_key, run_asked, run_store, waiting_row, run_turn, run_fair, spending_row}
 use Rattle.async_executor.proofs.machine.run.RunMachine.next.Goals as goal

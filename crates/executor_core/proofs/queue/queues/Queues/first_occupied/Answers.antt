@@ -5,7 +5,7 @@ use Rattle.executor_core.specs.Queues.{RunnerQueue, first_occupied}
 use Rattle.executor_core.specs.Queues.State.{QueueState}
 use Rattle.executor_core.specs.Queues.View.{local_of}
 use Rattle.executor_core.specs.declared.queue.queues.LocalQueue.{LocalQueue}
-use Rattle.executor_core.specs.declared.task.id.TaskId.{TaskId}
+use Rattle.executor_core.specs.declared.task.cell.TaskId.{TaskId}
 use Rattle.executor_core.proofs.QueueLemmas.{position-map}
 use Rattle.executor_core.proofs.queue.queues.Queues.first_occupied.Goals as goal
 

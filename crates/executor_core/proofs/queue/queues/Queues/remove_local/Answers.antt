@@ -22,14 +22,14 @@ append-requires-clause-counted g c =
 
 pub invariant_of-self : goal.invariant_of-self
 invariant_of-self g c =
-    subst (IsQueues (state_of c.append.new.self.queue c.remove-ring.new.self.items c.self.inside.next_runner c.self.inside.free_places)) (sym c.remove-ring.ensures.capacity)
-    (sound_removed c.args.self.now.state c.self.inside.slots.queue c.append.new.self.queue c.self.inside.locals.items c.remove-ring.new.self.items c.self.inside.next_runner c.self.inside.free_places (vec_capacity c.self.inside.locals) c.args.position
+    subst (IsQueues (state_of c.append.new.slots.queue c.remove-ring.new.self.items c.self.inside.next_runner c.self.inside.free_places)) (sym c.remove-ring.ensures.capacity)
+    (sound_removed c.args.self.now.state c.self.inside.slots.queue c.append.new.slots.queue c.self.inside.locals.items c.remove-ring.new.self.items c.self.inside.next_runner c.self.inside.free_places (vec_capacity c.self.inside.locals) c.args.position
     c.self.invariant (ap (λ s. s.state) c.self.view_is) c.remove-ring.ensures.items c.requires.within)
 
 pub returns-clause-lists : goal.returns-clause-lists
 returns-clause-lists g c =
     let read : slice_get c.self.inside.locals.items c.args.position ≡ Some c.remove-ring.result = read_at c.args.self.now.state c.self.inside.slots.queue c.self.inside.locals.items c.self.inside.next_runner c.self.inside.free_places c.args.position c.remove-ring.result (ap (λ s. s.state) c.self.view_is) c.requires.within c.remove-ring.ensures.value in
-    all_moved c.args.self.now.state c.self.inside.slots.queue c.append.new.self.queue c.self.inside.locals.items c.remove-ring.new.self.items c.self.inside.next_runner c.self.inside.free_places c.args.position c.remove-ring.result
+    all_moved c.args.self.now.state c.self.inside.slots.queue c.append.new.slots.queue c.self.inside.locals.items c.remove-ring.new.self.items c.self.inside.next_runner c.self.inside.free_places c.args.position c.remove-ring.result
     (ap (λ s. s.state) c.self.view_is) read c.remove-ring.ensures.items (ap (λ s. s.queue) c.append.ensures.queue)
 
 pub returns-clause-count : goal.returns-clause-count

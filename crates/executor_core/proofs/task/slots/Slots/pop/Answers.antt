@@ -1,7 +1,7 @@
 use Rattle.std.proofs.Common.{◌≡◌, ℕ, ◌-◌, ◌∷◌, List, length, drop, sym, ap, refl, subst, ◌∙◌, arith}
 use Rattle.executor_core.specs.Slots.{with_queue}
 use Rattle.executor_core.specs.Slots.View.{entries_of, walk, slots_of, IsChain}
-use Rattle.executor_core.specs.declared.task.id.TaskId.{TaskId}
+use Rattle.executor_core.specs.declared.task.cell.TaskId.{TaskId}
 use Rattle.executor_core.proofs.LinkLemmas.{first_at, is_linked, view_linked, popped_linked, entries_kept}
 use Rattle.executor_core.proofs.task.slots.Slots.pop.Goals as goal
 

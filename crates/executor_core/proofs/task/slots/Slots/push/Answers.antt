@@ -3,7 +3,7 @@ use Rattle.executor_core.proofs.ListLemmas.{length-push}
 use Rattle.executor_core.proofs.LinkLemmas.{last_at, is_linked, view_linked, alone_linked, pushed_linked, entries_kept}
 use Rattle.executor_core.specs.Slots.{IsQueue}
 use Rattle.executor_core.specs.Slots.View.{entries_of, walk}
-use Rattle.executor_core.specs.declared.task.id.TaskId.{TaskId}
+use Rattle.executor_core.specs.declared.task.cell.TaskId.{TaskId}
 use Rattle.executor_core.proofs.task.slots.Slots.push.Goals.{then-self-eq0, else-self-eq0}
 use Rattle.executor_core.proofs.task.slots.Slots.push.Goals as goal
 

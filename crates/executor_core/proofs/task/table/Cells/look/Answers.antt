@@ -2,7 +2,7 @@ use Rattle.std.proofs.Common.{sym, ap, ◌∙◌}
 use Rattle.std.specs.Prelude.{is_some}
 use Rattle.executor_core.specs.Cells.View.{numbers_of}
 use Rattle.executor_core.specs.Queues.{search_any}
-use Rattle.executor_core.specs.declared.task.id.TaskId.{TaskId}
+use Rattle.executor_core.specs.declared.task.cell.TaskId.{TaskId}
 use Rattle.executor_core.proofs.LookLemmas.{some-map, none_of}
 use Rattle.executor_core.proofs.QueueLemmas.{search_any-map_found, search_any-none, all_entries-map}
 use Rattle.executor_core.proofs.task.table.Cells.look.Goals as goal

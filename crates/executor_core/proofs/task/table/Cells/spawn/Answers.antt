@@ -3,7 +3,7 @@ use Rattle.executor_core.specs.Cells.Calls.{after_spawn}
 use Rattle.executor_core.specs.Cells.View.{table_of}
 use Rattle.executor_core.specs.Queues.{all_entries}
 use Rattle.executor_core.specs.Queues.State.{with_lists, pushed}
-use Rattle.executor_core.specs.declared.task.id.TaskId.{TaskId}
+use Rattle.executor_core.specs.declared.task.cell.TaskId.{TaskId}
 use Rattle.executor_core.proofs.QueueLemmas.{pushed-entries}
 use Rattle.executor_core.proofs.QueueSlotLemmas.{global_short}
 use Rattle.executor_core.proofs.SpawnLemmas.{spawn_sound, spawn_table, spawn_free}

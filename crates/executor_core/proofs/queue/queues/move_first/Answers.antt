@@ -1,6 +1,6 @@
 use Rattle.std.proofs.Common.{sym, ap, ◌∙◌}
 use Rattle.executor_core.proofs.QueueListLemmas.{source_moved, target_moved}
-use Rattle.executor_core.proofs.queue.ring.move_first.Goals as goal
+use Rattle.executor_core.proofs.queue.queues.move_first.Goals as goal
 
 pub loop-preserved : goal.loop-preserved
 loop-preserved c =

@@ -1,4 +1,4 @@
-use Rattle.executor_core.proofs.queue.ring.steal.Goals as goal
+use Rattle.executor_core.proofs.queue.queues.steal.Goals as goal
 
 pub returns-clause-source : goal.returns-clause-source
 returns-clause-source c = c.move_first.ensures.source

@@ -1,5 +1,5 @@
 use Rattle.std.proofs.Common.{◌≡◌, ◌++◌, take, drop}
-use Rattle.executor_core.proofs.queue.ring.move_first.Given as goal
+use Rattle.executor_core.proofs.queue.queues.move_first.Given as goal
 
 abbrev pub invariant-loop : goal.invariant-loop
 invariant-loop l =

@@ -3,7 +3,7 @@ use Rattle.std.proofs.lemmas.Bool.{lt-ltb}
 use Rattle.std.specs.Prelude.{suc, ◌%◌, ◌==◌}
 use Rattle.async_executor.specs.Runs.Counts.{IsCountOf}
 use Rattle.async_executor.proofs.Fairs.{counts_more}
-use Rattle.async_executor.proofs.machine.count.Count.one_more.Goals as goal
+use Rattle.async_executor.proofs.machine.run_steps.Count.one_more.Goals as goal
 
 pub returns-then-counted-self-clause-each : goal.returns-then-counted-self-clause-each
 returns-then-counted-self-clause-each c =
