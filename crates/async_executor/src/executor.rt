@@ -18,10 +18,11 @@ mod handles;
 mod tickers;
 mod workers;
 
-use crate::futures::SharedStorage;
+use crate::futures::{SharedStorage, Storage};
 pub use crate::runner::RunError;
-use crate::scheduler::ExecutorIn;
 pub use crate::scheduler::SpawnMany;
+use crate::scheduler::{ExecutorIn, take_and_run};
+use crate::state::{announce, cells};
 pub use crate::task::Cancelled;
 pub use crate::waker::TaskWaker;
 pub use executor_core::limits::{Limits, NewError};
@@ -225,9 +226,8 @@ where
     /// // [false, true, false]
     /// Ok([before, executor.try_tick(), executor.try_tick()])
     /// ```
-    #[inline(always)]
     pub fn try_tick(&self) -> bool {
-        self.inner.try_tick()
+        take_and_run!(&self.inner, take_global)
     }
 
     /// As `try_tick`, and if no task stands in the queue that all share, it runs the first one of the
@@ -254,9 +254,8 @@ where
     /// // [true, false, true]: the third task stood in the queue of the run
     /// Ok([global, executor.try_tick(), executor.try_tick_any()])
     /// ```
-    #[inline(always)]
     pub fn try_tick_any(&self) -> bool {
-        self.inner.try_tick_any()
+        take_and_run!(&self.inner, take_any)
     }
 
     /// A future that runs one task, and sleeps while none is scheduled. The place in which it

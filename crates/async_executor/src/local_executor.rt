@@ -14,9 +14,10 @@ ghost use Rattle.async_executor.specs.SpawnMany.{spawned, SpawnsInTurn, AddsHand
 mod handles;
 mod tickers;
 
-use crate::futures::LocalStorage;
+use crate::futures::{LocalStorage, Storage};
 use crate::runner::RunError;
-use crate::scheduler::{ExecutorIn, SpawnMany};
+use crate::scheduler::{ExecutorIn, SpawnMany, take_and_run};
+use crate::state::{announce, cells};
 use crate::waker::TaskWaker;
 use executor_core::limits::{Limits, NewError};
 use executor_core::task::{Future, OutOfMemory, SpawnError, Wake};
@@ -174,17 +175,15 @@ where
     /// As `Executor::try_tick`.
     ///
     /// Example: `uses::spawns_locally`, at `LocalExecutor::spawn_many`.
-    #[inline(always)]
     pub fn try_tick(&self) -> bool {
-        self.inner.try_tick()
+        take_and_run!(&self.inner, take_global)
     }
 
     /// As `Executor::try_tick_any`.
     ///
     /// Example: `uses::limits_locally`, at `LocalExecutor::new_with`.
-    #[inline(always)]
     pub fn try_tick_any(&self) -> bool {
-        self.inner.try_tick_any()
+        take_and_run!(&self.inner, take_any)
     }
 
     /// As `Executor::tick`.

@@ -26,11 +26,13 @@ pub(crate) use many::Handle;
 pub use many::SpawnMany;
 use std::alloc::Global;
 
-// Runs the task that this take finds, and says whether there was one. No lock may be held. A macro, for
-// the same reason as `cells!`.
+/// `Executor::try_tick` and `Executor::try_tick_any`, for both kinds of storage: runs the task that this
+/// take finds, and says whether there was one. No lock may be held. A macro, for the same reason as
+/// `cells!`.
 macro_rules! take_and_run {
     ($executor:expr, $take:ident) => {{
-        let state = $executor.storage.state();
+        let executor = $executor;
+        let state = executor.storage.state();
         let mut cells = cells!(state);
         let Some((taken, notice)) = cells.$take(None) else {
             return false;
@@ -38,10 +40,12 @@ macro_rules! take_and_run {
         drop(cells);
         // Before the task is run, which may take long: somebody else may go on with the queue.
         announce!(state, notice);
-        $executor.run_task(taken);
+        executor.run_task(taken);
         true
     }};
 }
+
+pub(crate) use take_and_run;
 
 /// A share of an executor, which spawns tasks and runs them.
 #[derive(Drop)]
@@ -100,18 +104,6 @@ impl<S: Storage> ExecutorIn<S> {
         if let Some(notice) = woken {
             announce!(state, notice);
         }
-    }
-
-    /// `Executor::try_tick`, for both kinds of storage: runs the task that was scheduled first, and says
-    /// whether there was one.
-    pub(crate) fn try_tick(&self) -> bool {
-        take_and_run!(self, take_global)
-    }
-
-    /// `Executor::try_tick_any`, for both kinds of storage: runs the first task of the global queue, else
-    /// that of the first run's queue that has one, and says whether there was one.
-    pub(crate) fn try_tick_any(&self) -> bool {
-        take_and_run!(self, take_any)
     }
 
     /// Runs a task of this `ExecutorIn` that was found, and says whether there was one. No lock may be held.
