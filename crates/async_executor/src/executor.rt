@@ -18,12 +18,13 @@ mod handles;
 mod tickers;
 mod workers;
 
-use crate::futures::{SharedStorage, Storage};
+use crate::futures::{Shareable, SharedStorage, Storage, transactions};
 pub use crate::runner::RunError;
 pub use crate::scheduler::SpawnMany;
-use crate::scheduler::{ExecutorIn, take_and_run};
+use crate::scheduler::{ExecutorIn, spawn, take_and_run};
 use crate::state::{announce, cells};
 pub use crate::task::Cancelled;
+use crate::task::TaskIn;
 pub use crate::waker::TaskWaker;
 pub use executor_core::limits::{Limits, NewError};
 pub use executor_core::queue::RunnerError;
@@ -140,15 +141,12 @@ where
     /// // [Pending, Ready(Ok(7))]
     /// Ok([before, task.poll(&NoopWaker)])
     /// ```
-    #[inline(always)]
     pub fn spawn(&self, future: F) -> Result<Task<F, W, R>, SpawnError<F>>
         ensures ok { IfOk result (λ task. task.inner.answered ≡ false) }
         ensures refused { IfErr result (λ e. refused_future e ≡ future) }
     {
-        match self.inner.spawn(future) {
-            Ok(inner) => Ok(Task { inner }),
-            Err(error) => Err(error),
-        }
+        let inner = spawn!(&self.inner, future);
+        Ok(Task { inner })
     }
 
     /// Schedules each future that the iterator gives as a new task, in turn, and puts its handle at

@@ -14,10 +14,11 @@ ghost use Rattle.async_executor.specs.SpawnMany.{spawned, SpawnsInTurn, AddsHand
 mod handles;
 mod tickers;
 
-use crate::futures::{LocalStorage, Storage};
+use crate::futures::{LocalStorage, Shareable, Storage, transactions};
 use crate::runner::RunError;
-use crate::scheduler::{ExecutorIn, SpawnMany, take_and_run};
+use crate::scheduler::{ExecutorIn, SpawnMany, spawn, take_and_run};
 use crate::state::{announce, cells};
+use crate::task::TaskIn;
 use crate::waker::TaskWaker;
 use executor_core::limits::{Limits, NewError};
 use executor_core::task::{Future, OutOfMemory, SpawnError, Wake};
@@ -119,15 +120,12 @@ where
     /// before.
     ///
     /// Example: `uses::runs_locally`, at `LocalExecutor`.
-    #[inline(always)]
     pub fn spawn(&self, future: F) -> Result<LocalTask<F, W, R>, SpawnError<F>>
         ensures ok { IfOk result (λ task. task.inner.answered ≡ false) }
         ensures refused { IfErr result (λ e. refused_future e ≡ future) }
     {
-        match self.inner.spawn(future) {
-            Ok(inner) => Ok(LocalTask { inner }),
-            Err(error) => Err(error),
-        }
+        let inner = spawn!(&self.inner, future);
+        Ok(LocalTask { inner })
     }
 
     /// As `Executor::spawn_many`.

@@ -26,6 +26,22 @@ pub(crate) use many::Handle;
 pub use many::SpawnMany;
 use std::alloc::Global;
 
+/// `Executor::spawn`, for both kinds of storage: schedules the future as a new task, behind all that are
+/// scheduled, and gives its `TaskIn`. A macro, for the same reason as `cells!`.
+macro_rules! spawn {
+    ($executor:expr, $future:expr) => {{
+        let executor = $executor;
+        let Ok(storage) = executor.storage.share() else {
+            return Err(SpawnError::OutOfMemory($future));
+        };
+        let (id, notice) = transactions::spawn(&executor.storage, $future)?;
+        announce!(executor.storage.state(), notice);
+        TaskIn::new(storage, id)
+    }};
+}
+
+pub(crate) use spawn;
+
 /// `Executor::try_tick` and `Executor::try_tick_any`, for both kinds of storage: runs the task that this
 /// take finds, and says whether there was one. No lock may be held. A macro, for the same reason as
 /// `cells!`.
@@ -76,18 +92,12 @@ impl<S: Shareable> ExecutorIn<S> {
         }
     }
 
-    /// `Executor::spawn`, for both kinds of storage: schedules the future as a new task, behind all that are
-    /// scheduled.
+    /// Schedules the future as a new task of this `ExecutorIn`, as `spawn!` does.
     pub(crate) fn spawn(&self, future: S::Future) -> Result<TaskIn<S>, SpawnError<S::Future>>
         ensures ok { IfOk result (λ task. task.answered ≡ false) }
         ensures refused { IfErr result (λ e. refused_future e ≡ future) }
     {
-        let Ok(storage) = self.storage.share() else {
-            return Err(SpawnError::OutOfMemory(future));
-        };
-        let (id, notice) = transactions::spawn(&self.storage, future)?;
-        announce!(self.storage.state(), notice);
-        Ok(TaskIn::new(storage, id))
+        Ok(spawn!(self, future))
     }
 }
 

@@ -47,6 +47,7 @@ pub enum EndThenSearch<W, T> {
 
 /// Makes a task of this future and keeps the future. Its place is made before the task is queued.
 /// If that is refused, all is as before.
+#[inline(always)]
 pub(crate) fn spawn<S: Shareable>(
     storage: &S,
     future: S::Future,
