@@ -1,5 +1,5 @@
 //! The outputs of many futures: of all, in order, or of the first that is ready.
-ghost use Rattle.std.specs.Prelude.{◌≡◌, ◌+◌, ◌-◌, ◌≤◌, ◌<◌, ◌==◌, None, Some, IsSome, IfSome, IfNone, IfOk, IfErr, reverse, cond, drop, take, is_none, vec_len, vec_capacity};
+ghost use Rattle.std.specs.Prelude.{◌≡◌, ◌+◌, ◌-◌, ◌≤◌, ◌<◌, ◌==◌, None, Some, IsSome, IfSome, IfOk, IfErr, reverse, cond, drop, take, is_none, vec_len, vec_capacity};
 ghost use Rattle.executor_core.specs.declared.task.future.Poll.TheVariants.{Pending as waits};
 ghost use Rattle.async_executor.specs.Answers.{is_ready};
 ghost use Rattle.async_utilities.specs.Polls.{IfGoesOn, IfReady};

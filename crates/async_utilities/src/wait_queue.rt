@@ -15,7 +15,7 @@
 //! waits, at least as many are notified as there is something to come for. So nothing lies beside one
 //! that sleeps. And `notify` wakes nobody if that many are notified already, so nobody is woken in vain
 //! but by another that came first.
-ghost use Rattle.std.specs.Prelude.{◌≡◌, ◌==◌, ◌+◌, ◌≤◌, ◌<◌, ◌-◌, ◌∷◌, ◌++◌, [], ℕ, None, Some, true, IfOk, IfErr, OnOk, OnErr, IsOk, IsSome, length, option_copied};
+ghost use Rattle.std.specs.Prelude.{◌≡◌, ◌==◌, ◌+◌, ◌≤◌, ◌<◌, ◌-◌, ◌∷◌, ◌++◌, [], ℕ, None, Some, IfOk, IfErr, OnOk, OnErr, IsOk, length, option_copied};
 ghost use Rattle.async_utilities.specs.Links.{without};
 ghost use Rattle.async_utilities.specs.WaitQueue.{Comes, Enters, IsServed, KeepsOrder, Leaves, Moves, Notifies, Stays, Steps, Takes, WaitsAt, first_due, first_waker, is_notified, place_at, waker_of};
 

@@ -1,5 +1,5 @@
 //! The lines of the digests.
-ghost use Rattle.std.specs.Prelude.{◌≡◌, ◌++◌, ◌∷◌, [], OnOk, is_some};
+ghost use Rattle.std.specs.Prelude.{◌≡◌, ◌++◌, ◌∷◌, OnOk, is_some};
 ghost use Rattle.hex.specs.Hex.{encode_lower};
 ghost use Rattle.digests.specs.Lines.{escape_of, escaped, has_escapes, line_of, mark_of};
 

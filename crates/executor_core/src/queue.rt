@@ -16,7 +16,6 @@ pub(crate) mod places;
 pub(crate) mod queues;
 pub(crate) mod runner;
 
-use crate::queue::queues::Queues;
 use crate::task::slots::QueuedNumbers;
 use crate::task::table::Cells;
 use crate::task::values::Notice;

@@ -1,5 +1,5 @@
 //! The task that draws a band of rows. A poll draws one row.
-ghost use Rattle.std.specs.Prelude.{◌≡◌, ◌+◌, ◌*◌, ◌≤◌, ◌<◌, IfOk, vec_len, vec_capacity};
+ghost use Rattle.std.specs.Prelude.{◌≡◌, ◌+◌, ◌*◌, ◌≤◌, ◌<◌, vec_len, vec_capacity};
 
 use crate::colours::colour;
 use crate::fixed_point::iterations;

@@ -2,7 +2,7 @@
 //!
 //! The law of each side stands in the type. If a receiver waits, at least as many receivers are
 //! notified as there are messages, and if a sender waits, at least as many senders as there is room.
-ghost use Rattle.std.specs.Prelude.{◌≡◌, ◌≤◌, ◌<◌, ◌-◌, ◌==◌, [], None, Some, IfErr, IfOk, IfSome, IsTrue, OnErr, OnOk, false, if◌then◌else◌, length, true, vec_capacity, vec_len, ◌+◌};
+ghost use Rattle.std.specs.Prelude.{◌≡◌, ◌≤◌, ◌<◌, ◌-◌, ◌==◌, [], None, Some, IfOk, false, if◌then◌else◌, length, true, vec_capacity, vec_len, ◌+◌};
 ghost use Rattle.std.specs.VecDeque.{deque_capacity};
 ghost use Rattle.async_utilities.specs.Channels.{AreGone};
 ghost use Rattle.async_utilities.specs.WaitQueue.{IsServed};

@@ -1,7 +1,7 @@
 //! The order of those who wait: keys that are linked, so that each enters and leaves it in constant
 //! time, whatever stands beside it.
 ghost use Rattle.std.specs.Prelude.{◌≡◌, ◌≢◌, ◌==◌, ℕ, ◌+◌, ◌<◌, ◌≤◌, ◌^◌, [], ◌∷◌, ◌++◌, length, slice_get, vec_len, IsOk, OnOk};
-ghost use Rattle.async_utilities.specs.Links.{IsIn, without, Inserts, KeepsLinks, Skips, IsLink, end, next_of, previous_of};
+ghost use Rattle.async_utilities.specs.Links.{IsIn, without, Inserts, KeepsLinks, Skips, IsLink, next_of, previous_of};
 
 use std::alloc::{AllocError, Global};
 use std::marker::Model;

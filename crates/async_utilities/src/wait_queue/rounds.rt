@@ -5,7 +5,6 @@
 //! by the same call. Who comes bears the number of its round. The numbers are only compared with that of
 //! the round under way, so it does no harm if they begin anew.
 ghost use Rattle.std.specs.Prelude.{◌≡◌, ◌+◌, ◌++◌, ◌∷◌, ◌^◌, ◌%◌, [], IfErr, IfOk, None, OnErr, Option, Some};
-ghost use Rattle.async_utilities.specs.Links.{without};
 ghost use Rattle.async_utilities.specs.Rounds.{Comes, Tells, WaitsOn, due_first, waker_in_entry};
 ghost use Rattle.async_utilities.specs.WaitQueue.{Parts, Stays, Steps, due_to, is_notified, place_at, waker_of};
 

@@ -20,7 +20,7 @@
 //! ticker that is at rest when the executor is closed or leaked is forgotten: it keeps its number and
 //! its places.
 
-ghost use Rattle.std.specs.Prelude.{◌≡◌, ◌||◌, not, nat_lt, map, slice_get, slice_set};
+ghost use Rattle.std.specs.Prelude.{◌≡◌, ◌||◌, not, map, slice_get, slice_set};
 ghost use Rattle.std.specs.List.{list_any};
 ghost use Rattle.executor_core.specs.World.Phases.{at_rest, is_over, is_awake, is_run, has_ended, notices_in, ticker_or, new_ticker};
 ghost use Rattle.executor_core.specs.World.Tickers.{after_task, polled, searched, slept, rested, woke, dropped, ended, stored, left, forgotten};

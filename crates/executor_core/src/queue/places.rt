@@ -1,6 +1,5 @@
 //! The places of the runners: they are reserved before, and each has a queue from its registration on.
 ghost use Rattle.std.specs.Prelude.{◌≡◌, ◌+◌, ◌-◌, ◌<◌, ◌^◌, ◌↔◌, ◌&&◌, ◌++◌, nat_lt, not, true, is_some, cond, [], Some, None, ◌==◌, IfOk, IfErr, IsOk, IsErr, OnOk, OnErr, length};
-ghost use Rattle.std.specs.List.{position, find};
 ghost use Rattle.executor_core.specs.SpawnError.{last_number};
 ghost use Rattle.executor_core.specs.Queues.{is_registered, registered, unregistered, unregistered_at, entries_at, entries_of};
 ghost use Rattle.executor_core.specs.Queues.State.{with_lists};

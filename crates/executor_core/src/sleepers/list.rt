@@ -1,5 +1,5 @@
 //! The list of sleepers, and their numbers.
-ghost use Rattle.std.specs.Prelude.{◌≡◌, ◌+◌, ◌==◌, ◌<◌, ◌≤◌, length, vec_len, OnOk, OnErr, MatchOption, unwrap_or, position, slice_get, false};
+ghost use Rattle.std.specs.Prelude.{◌≡◌, ◌+◌, ◌==◌, ◌<◌, ◌≤◌, length, OnOk, OnErr, MatchOption, unwrap_or, position, slice_get, false};
 ghost use Rattle.std.specs.FinSet as set;
 ghost use Rattle.std.specs.Map.{keys_of, lookup, remove_entry, set_value};
 ghost use Rattle.std.specs.Vec.{vec_capacity};

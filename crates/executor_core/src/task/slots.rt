@@ -14,7 +14,6 @@ use crate::task::cell::{Cell, Numbered, TaskId, new_cell};
 use core::mem::replace;
 use slab::Slab;
 use std::alloc::{AllocError, Global};
-use std::cmp::min;
 use std::marker::Model;
 
 // The link of a slot that none follows.

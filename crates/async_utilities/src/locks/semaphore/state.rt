@@ -4,7 +4,7 @@
 //! takes them, and if it goes without they are given back. The law stands in the type (`IsShort`): if
 //! somebody waits, there are fewer permits than the first one wants.
 ghost use Rattle.std.specs.Prelude.{◌≡◌, ◌+◌, ◌<◌, [], false, true};
-ghost use Rattle.async_utilities.specs.Wishes.{Gives, IsShort, with_more};
+ghost use Rattle.async_utilities.specs.Wishes.{IsShort};
 
 use crate::due::Due;
 use crate::locks::semaphore::given::{Given, Gone, waker_in};
@@ -22,7 +22,7 @@ pub(crate) struct State<W> {
 }
 
 impl<W: Drop> State<W> {
-    ghost use Rattle.async_utilities.specs.Semaphores.{GivesMore, Goes, Same, Takes, Waits, had_at, is_due};
+    ghost use Rattle.async_utilities.specs.Semaphores.{GivesMore, Goes, Takes, Waits, had_at, is_due};
 
     /// The state of a semaphore with so many permits, and nobody waits.
     pub(crate) fn new(alloc: Global, permits: usize) -> State<W>

@@ -1,6 +1,6 @@
 //! The steps of the one who drops the executor, or leaks it. Before a drop it is closed, and then its
 //! tasks are drained; at a leak every task is woken.
-ghost use Rattle.std.specs.Prelude.{◌≡◌, ◌≢◌, ◌+◌, ◌≤◌, ◌&&◌, ◌++◌, not, true, map, length, None, slice_index_or};
+ghost use Rattle.std.specs.Prelude.{◌≡◌, ◌≢◌, ◌+◌, ◌≤◌, ◌&&◌, ◌++◌, true, map, length, None, slice_index_or};
 ghost use Rattle.std.specs.List.{filter_map};
 ghost use Rattle.std.specs.Vec.{vec_capacity};
 ghost use Rattle.executor_core.specs.Cell.{is_undropped};
