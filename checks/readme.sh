@@ -206,6 +206,13 @@ else
     pass "docs/PROVED.md: $(tail -n 1 "$copy/carried") clauses, each of a call or a type before it"
 fi
 
+python3 -B checks/lib/clauses.py --wide | grep . > "$copy/log" || :
+if [ -s "$copy/log" ]; then
+    fail "clauses that are wider than 100 columns:" "$copy/log"
+else
+    pass "no clause is wider than 100 columns"
+fi
+
 # A word of DEFINITIONS.md stands in the spec whose path is before its last dot, or in some source.
 is_defined() {
     case $1 in

@@ -1,17 +1,21 @@
 """Compares the clauses that docs/PROVED.md names with the contracts of the calls and types before them.
 
 A clause in brackets has to be one of a call before it, of some call of a type before it, or a fact of that
-type. Prints each that is not, and then how many were compared.
+type. Prints each that is not, and then how many were compared. With --wide it prints the lines of clauses that
+are wider than 100 columns, and compares nothing.
 """
 import collections
 import pathlib
 import re
+import sys
 
 TOP = pathlib.Path(__file__).resolve().parent.parent.parent
 GENERICS = re.compile(r"<[^<>]*>")
 OWNER = re.compile(r"(?:pub(?:\(.*?\))? )?(?:struct|enum|trait|impl(?: \S+ for)?) (\w+)")
 CALL = re.compile(r" *(?:pub(?:\(.*?\))? )?fn (\w+)")
 CLAUSE = re.compile(r"(?:ensures|ghost) (\w+)\b(?: \{|:| =)")
+HEAD = re.compile(r" *(?:ensures|requires|ghost (?!use))")
+WIDEST = 100
 
 
 def plain(line):
@@ -52,7 +56,21 @@ def groups():
                 names = []
 
 
+def wide_lines():
+    """Where the lines of clauses are that are too wide."""
+    for source in sorted(TOP.glob("crates/*/src/**/*.rt")):
+        is_clause = False
+        for number, line in enumerate(source.read_text().splitlines(), 1):
+            is_clause = is_clause or bool(HEAD.match(line))
+            if is_clause and len(line) > WIDEST:
+                yield f"{source.relative_to(TOP)}:{number}"
+            is_clause = is_clause and not line.endswith(("}", "};"))
+
+
 def main():
+    if sys.argv[1:] == ["--wide"]:
+        print(*wide_lines(), sep="\n")
+        return
     found = contracts()
     count = 0
     for names, group in groups():

@@ -78,7 +78,8 @@ impl<F: Drop, S: Drop, T: Drop> FutureTable<F, S, T> {
     /// order.
     pub(crate) fn insert(&mut self, id: TaskId, future: F, share: S)
         requires { HasRoom self.old }
-        ensures { self.new.places.items ≡ inserted self.old.places.items id (Kept.Future future share) }
+        ensures { self.new.places.items
+            ≡ inserted self.old.places.items id (Kept.Future future share) }
     {
         let slot = id.slot();
         let place = Place {
@@ -97,7 +98,8 @@ impl<F: Drop, S: Drop, T: Drop> FutureTable<F, S, T> {
     // What this `FutureTable` keeps of the task, if it has its place.
     fn kept(&self, id: TaskId) -> Option<&Kept<F, S, T>>
         ensures kept { option_copied result ≡ kept_at self.now id }
-        ensures inside { IsTrue (is_some (kept_at self.now id)) → id.slot < vec_len self.now.places }
+        ensures inside { IsTrue (is_some (kept_at self.now id))
+            → id.slot < vec_len self.now.places }
     {
         match self.places.get(id.slot()) {
             Some(place) if place.number == id.number() => Some(&place.kept),
@@ -133,7 +135,8 @@ impl<F: Drop, S: Drop, T: Drop> FutureTable<F, S, T> {
     pub(crate) fn take_future(&mut self, id: TaskId) -> Option<(F, S)>
         ensures answer { result ≡ future_in (kept_at self.old id) }
         ensures places { self.new.places.items
-            ≡ cond (is_some result) (with_place self.old.places.items id Kept.Nothing) self.old.places.items }
+            ≡ cond (is_some result) (with_place self.old.places.items id Kept.Nothing)
+            self.old.places.items }
     {
         if !self.has_future(id) {
             return None;
@@ -148,7 +151,8 @@ impl<F: Drop, S: Drop, T: Drop> FutureTable<F, S, T> {
     pub(crate) fn take_output(&mut self, id: TaskId) -> Option<T>
         ensures answer { result ≡ output_in (kept_at self.old id) }
         ensures places { self.new.places.items
-            ≡ cond (is_some result) (with_place self.old.places.items id Kept.Nothing) self.old.places.items }
+            ≡ cond (is_some result) (with_place self.old.places.items id Kept.Nothing)
+            self.old.places.items }
     {
         if !self.has_output(id) {
             return None;
@@ -162,9 +166,11 @@ impl<F: Drop, S: Drop, T: Drop> FutureTable<F, S, T> {
     /// Keeps the future of the task, with its share. If it has no place, or something is kept
     /// there, both are given back.
     pub(crate) fn keep_future(&mut self, id: TaskId, future: F, share: S) -> Option<(F, S)>
-        ensures answer { result ≡ cond (is_vacant (kept_at self.old id)) None (Some (future, share)) }
+        ensures answer { result
+            ≡ cond (is_vacant (kept_at self.old id)) None (Some (future, share)) }
         ensures places { self.new.places.items
-            ≡ cond (is_vacant (kept_at self.old id)) (with_place self.old.places.items id (Kept.Future future share)) self.old.places.items }
+            ≡ cond (is_vacant (kept_at self.old id))
+            (with_place self.old.places.items id (Kept.Future future share)) self.old.places.items }
     {
         if !self.is_vacant(id) {
             return Some((future, share));
@@ -178,7 +184,8 @@ impl<F: Drop, S: Drop, T: Drop> FutureTable<F, S, T> {
     pub(crate) fn keep_output(&mut self, id: TaskId, output: T) -> Option<T>
         ensures answer { result ≡ cond (is_vacant (kept_at self.old id)) None (Some output) }
         ensures places { self.new.places.items
-            ≡ cond (is_vacant (kept_at self.old id)) (with_place self.old.places.items id (Kept.Output output)) self.old.places.items }
+            ≡ cond (is_vacant (kept_at self.old id))
+            (with_place self.old.places.items id (Kept.Output output)) self.old.places.items }
     {
         if !self.is_vacant(id) {
             return Some(output);

@@ -103,7 +103,8 @@ where
     /// ```
     pub fn new_with(rt: R, alloc: Global, limits: Limits) -> Result<Self, NewError>
         ensures ok { IfOk result (λ executor. executor.inner.limits ≡ limits) }
-        ensures cause { IfErr result (λ error. (error ≡ NewError.BadLimits) ↔ (is_lawful limits ≡ false)) }
+        ensures cause { IfErr result
+            (λ error. (error ≡ NewError.BadLimits) ↔ (is_lawful limits ≡ false)) }
         ensures bad { is_lawful limits ≡ false → IsErr result }
     {
         match ExecutorIn::new_with(rt, alloc, limits) {
@@ -155,8 +156,10 @@ where
         requires can { I.can_next futures }
         requires ends { IsFinite (I.remaining futures) }
         ensures futures { SpawnsInTurn I.next_gives futures result }
-        ensures handles { AddsHandles (λ task. task.inner.answered) handles.old.items (spawned result) handles.new.items }
-        ensures room { IfErr result (λ e. IfNone e.refused (vec_len handles.new ≡ vec_capacity handles.new)) }
+        ensures handles { AddsHandles
+            (λ task. task.inner.answered) handles.old.items (spawned result) handles.new.items }
+        ensures room { IfErr result
+            (λ e. IfNone e.refused (vec_len handles.new ≡ vec_capacity handles.new)) }
         ensures place { HasPlace (vec_len handles.new) (vec_capacity handles.new) result }
     {
         self.inner.spawn_many(futures, handles)
@@ -218,7 +221,8 @@ where
     /// Example: `uses::runs_locally`, at `LocalExecutor`.
     pub fn run<G: Future<W>>(&self, future: G) -> Result<LocalRun<'_, F, W, R, G>, RunError<G>>
         ensures ok { IfOk result (λ run. has_ended run.inner.rest ≡ false) }
-        ensures limits { IfOk result (λ run. IsNewRun self.now.inner.limits run.inner.rest run.inner.own.ring) }
+        ensures limits { IfOk result
+            (λ run. IsNewRun self.now.inner.limits run.inner.rest run.inner.own.ring) }
         ensures refused { IfErr result (λ e. run_future e ≡ future) }
     {
         match self.inner.run(future) {

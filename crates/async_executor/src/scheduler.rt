@@ -80,7 +80,8 @@ impl<S: Shareable> ExecutorIn<S> {
         limits: Limits,
     ) -> Result<ExecutorIn<S>, NewError>
         ensures ok { IfOk result (λ executor. executor.limits ≡ limits) }
-        ensures cause { IfErr result (λ error. (error ≡ NewError.BadLimits) ↔ (is_lawful limits ≡ false)) }
+        ensures cause { IfErr result
+            (λ error. (error ≡ NewError.BadLimits) ↔ (is_lawful limits ≡ false)) }
         ensures bad { is_lawful limits ≡ false → IsErr result }
     {
         if !limits.is_lawful() {

@@ -91,7 +91,8 @@ impl<S: Storage> SleeperIn<'_, S> {
     /// `Sleeper::sleep`, for both kinds of storage: puts a copy of the waker into the list, and looks for a
     /// task after that.
     pub(crate) fn sleep(&mut self, w: &S::Waker) -> Result<bool, OutOfMemory>
-        ensures asleep { MatchResult result (λ asleep. is_some self.new.number ≡ asleep) (λ _. self.new.number ≡ None) }
+        ensures asleep { MatchResult result
+            (λ asleep. is_some self.new.number ≡ asleep) (λ _. self.new.number ≡ None) }
     {
         self.leave();
         let waker = w.copy()?;

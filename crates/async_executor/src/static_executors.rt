@@ -111,7 +111,8 @@ where
     /// ```
     pub fn new_with(rt: R, alloc: Global, limits: Limits) -> Result<Self, NewError>
         ensures ok { IfOk result (λ server. server.executor.inner.limits ≡ limits) }
-        ensures cause { IfErr result (λ error. (error ≡ NewError.BadLimits) ↔ (is_lawful limits ≡ false)) }
+        ensures cause { IfErr result
+            (λ error. (error ≡ NewError.BadLimits) ↔ (is_lawful limits ≡ false)) }
         ensures bad { is_lawful limits ≡ false → IsErr result }
     {
         match Executor::new_with(rt, alloc, limits) {
@@ -240,7 +241,8 @@ where
     /// ```
     pub fn new_with(rt: R, alloc: Global, limits: Limits) -> Result<Self, NewError>
         ensures ok { IfOk result (λ server. server.executor.inner.limits ≡ limits) }
-        ensures cause { IfErr result (λ error. (error ≡ NewError.BadLimits) ↔ (is_lawful limits ≡ false)) }
+        ensures cause { IfErr result
+            (λ error. (error ≡ NewError.BadLimits) ↔ (is_lawful limits ≡ false)) }
         ensures bad { is_lawful limits ≡ false → IsErr result }
     {
         match LocalExecutor::new_with(rt, alloc, limits) {

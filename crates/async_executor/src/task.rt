@@ -172,7 +172,8 @@ fn drop_unanswered<S: Storage>(storage: &S, id: TaskId) {
 pub(crate) fn some_if_ok<T: Drop>(answer: Poll<Result<T, Cancelled>>) -> Poll<Option<T>>
     ensures ready { is_ready result ≡ is_ready answer }
     ensures none { IsReadyErr answer → IsReadyNone result }
-    ensures some { (output : T) → answer ≡ Poll.Ready (Ok output) → result ≡ Poll.Ready (Some output) }
+    ensures some { (output : T) → answer ≡ Poll.Ready (Ok output)
+        → result ≡ Poll.Ready (Some output) }
 {
     match answer {
         Poll::Ready(output) => Poll::Ready(output.ok()),

@@ -127,7 +127,8 @@ where
     /// Example: `uses::joins`, at `Pool`.
     pub fn new(rt: R, alloc: Global, count: usize) -> Result<Pool<F, R>, PoolError>
         ensures count { IfOk result (λ pool. vec_len pool.inner.started.threads ≡ count) }
-        ensures limits { IfOk result (λ pool. (arc_value pool.inner.executor).inner.limits ≡ default_limits) }
+        ensures limits { IfOk result
+            (λ pool. (arc_value pool.inner.executor).inner.limits ≡ default_limits) }
     {
         let executor = Executor::new(rt.clone()?, alloc)?;
         let inner = PoolOf::new(rt, alloc, count, executor)?;

@@ -256,7 +256,8 @@ where
         ensures left { IfSome self.old.unmade (λ job. result ≡ gave (Some job)) }
         ensures taken { self.new.unmade ≡ None }
         ensures task { self.new.task ≡ self.old.task }
-        ensures counted { self.old.unmade ≡ None → IfReady result (λ job. self.new.is_counted ≡ is_some job) }
+        ensures counted { self.old.unmade ≡ None
+            → IfReady result (λ job. self.new.is_counted ≡ is_some job) }
     {
         if let Some(job) = self.unmade.take() {
             return Poll::Ready(Some(job));
@@ -268,7 +269,8 @@ where
     fn begin(&mut self, w: &PoolWaker<R>) -> Begun
         requires { self.old.task ≡ None }
         ensures task { result ≡ Begun.Task ↔ IsSome self.new.task }
-        ensures job { IfSome self.old.unmade (λ job. self.new.task ≡ None → self.new.unmade ≡ Some job) }
+        ensures job { IfSome self.old.unmade
+            (λ job. self.new.task ≡ None → self.new.unmade ≡ Some job) }
         ensures over { result ≡ Begun.Over → self.new.unmade ≡ None }
     {
         let job = match self.take_job(w) {

@@ -24,7 +24,8 @@ impl Accounts {
     pub fn transfer(&mut self, from: usize, to: usize, amount: u64) -> bool
         requires { (from < 10) × (to < 10) }
         ensures enough { IsTrue result ↔ (amount ≤ slice_index self.old.balances from) }
-        ensures moved { IsTrue result → self.new.balances ≡ credited to amount (debited from amount self.old.balances) }
+        ensures moved { IsTrue result
+            → self.new.balances ≡ credited to amount (debited from amount self.old.balances) }
         ensures refused { result ≡ false → self.new ≡ self.old }
         ensures kept { sum self.new.balances ≡ sum self.old.balances }
     {

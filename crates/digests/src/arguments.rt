@@ -40,7 +40,8 @@ impl Options {
     ///
     /// `Failure`, for the first word that is no option and no file, or if memory is refused.
     pub fn read<R: System>(rt: &R, alloc: Global) -> Result<Options, Failure>
-        ensures { IfOk result (λ options. IfSome options.threads (λ count. (1 ≤ count) × (count ≤ MOST_THREADS))) }
+        ensures { IfOk result
+            (λ options. IfSome options.threads (λ count. (1 ≤ count) × (count ≤ MOST_THREADS))) }
     {
         let mut options = Options {
             threads: None,
@@ -73,7 +74,8 @@ impl Options {
     fn add_file(&mut self, name: &[u8])
         ensures counted { 0 < self.new.files }
         ensures input { self.new.names_input ≡ (self.old.names_input || is_input name.now) }
-        ensures others { self.new ≡ record self.old { files = self.new.files; names_input = self.new.names_input } }
+        ensures others { self.new
+            ≡ record self.old { files = self.new.files; names_input = self.new.names_input } }
     {
         self.files = self.files.saturating_add(1);
         self.names_input = self.names_input || is_input(name);
@@ -115,7 +117,8 @@ fn kind_of(option: &[u8]) -> Kind
     ensures threads { (result ≡ Kind.Threads) ↔ (option.now ≡ codes "-j") }
     ensures progress { (result ≡ Kind.Progress) ↔ (option.now ≡ codes "--progress") }
     ensures help { (result ≡ Kind.Help) ↔ (option.now ≡ codes "--help") }
-    ensures number { result ≡ Kind.ThreadsAndNumber → (2 ≤ length option.now) × (slice_index option.now 1 ≡ 106) }
+    ensures number { result ≡ Kind.ThreadsAndNumber
+        → (2 ≤ length option.now) × (slice_index option.now 1 ≡ 106) }
     ensures unknown { result ≡ Kind.Unknown → slice_index option.now 1 ≢ 106 }
 {
     if option == b"--".as_slice() {

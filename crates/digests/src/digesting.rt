@@ -27,8 +27,8 @@ impl<S: Read + Drop> Digesting<S> {
     /// Digests all that the reader has left.
     pub fn new(source: S) -> Digesting<S>
         ensures empty { Holds256 result.hasher [] }
-        ensures digest { (message : List ℕ) → S.remaining source ≡ Some message →
-            Owes (S.remaining result.source) result.hasher message }
+        ensures digest { (message : List ℕ) → S.remaining source ≡ Some message
+            → Owes (S.remaining result.source) result.hasher message }
     {
         Digesting {
             source,
@@ -42,11 +42,13 @@ impl<S: Read + Drop> Digesting<S> {
         requires { 0 < length block.old }
         // Whatever the reader is, the digest is that of what its reads gave, in order.
         ensures reads { (message : List ℕ) → Holds256 self.old.hasher message →
-            EndsOr result message (Holds256 self.new.hasher (message ++ take (count_of result) block.new)) }
+            EndsOr result message
+            (Holds256 self.new.hasher (message ++ take (count_of result) block.new)) }
 
         // If it is known what the reader has left, the digest is that of all of it.
-        ensures digest { (message : List ℕ) → Owes (S.remaining self.old.source) self.old.hasher message →
-            EndsOr result message (Owes (S.remaining self.new.source) self.new.hasher message) }
+        ensures digest { (message : List ℕ)
+            → Owes (S.remaining self.old.source) self.old.hasher message
+            → EndsOr result message (Owes (S.remaining self.new.source) self.new.hasher message) }
 
         ensures count { count_of result ≤ length block.old }
     {

@@ -127,8 +127,10 @@ impl<G: Drop> From<RunError<G>> for Failure {
 
 impl<G: Drop> From<SpawnError<G>> for Failure {
     fn from(error: SpawnError<G>) -> Failure
-        ensures memory { (future : G) → error ≡ SpawnError.OutOfMemory future → result ≡ Failure.OutOfMemory }
-        ensures numbers { (future : G) → error ≡ SpawnError.Exhausted future → result ≡ Failure.Exhausted }
+        ensures memory { (future : G) → error ≡ SpawnError.OutOfMemory future
+            → result ≡ Failure.OutOfMemory }
+        ensures numbers { (future : G) → error ≡ SpawnError.Exhausted future
+            → result ≡ Failure.Exhausted }
     {
         match error {
             SpawnError::OutOfMemory(_) => Failure::OutOfMemory,

@@ -53,8 +53,8 @@ impl<R: Wait + Drop> Shared<R> {
     // polls; if there were none, nothing would be read.
     fn step(&self, file: &mut Undigested) -> Step
         ensures name { file.new.name ≡ file.old.name }
-        ensures adds { (message : List ℕ) → FileHolds file.old message →
-            EndsOr result message (Adds file.new message (count_of result)) }
+        ensures adds { (message : List ℕ) → FileHolds file.old message
+            → EndsOr result message (Adds file.new message (count_of result)) }
         ensures count { count_of result ≤ BLOCK_LEN }
         ensures unopened { IfErr file.old.opened (λ error. EndsByError result error) }
     {
@@ -79,7 +79,8 @@ impl Undigested {
     fn step(&mut self, block: &mut Block) -> Step
         ensures name { self.new.name ≡ self.old.name }
         ensures reads { (message : List ℕ) → FileHolds self.old message →
-            EndsOr result message (FileHolds self.new (message ++ take (count_of result) block.new.bytes.items)) }
+            EndsOr result message
+            (FileHolds self.new (message ++ take (count_of result) block.new.bytes.items)) }
         ensures count { count_of result ≤ BLOCK_LEN }
         ensures unopened { IfErr self.old.opened (λ error. result ≡ Step.Ended (Err error)) }
     {
@@ -126,15 +127,20 @@ impl<R: Wait + Drop> Future<TaskWaker<ThreadWaker, R>> for FileDigest<R> {
 
     fn poll(&mut self, w: &TaskWaker<ThreadWaker, R>) -> Poll<Answer>
         ensures ended { IsSome self.old.inner → is_none self.new.inner ≡ is_ready result }
-        ensures again { self.old.inner ≡ None → (is_ready result ≡ false) × (self.new.inner ≡ None) }
-        ensures name { IfSome self.old.inner (λ file. IfReady result (λ answer. answer.name ≡ file.name)) }
-        ensures kept { IfSome self.old.inner (λ old. IfSome self.new.inner (λ new. new.name ≡ old.name)) }
+        ensures again { self.old.inner ≡ None
+            → (is_ready result ≡ false) × (self.new.inner ≡ None) }
+        ensures name { IfSome self.old.inner
+            (λ file. IfReady result (λ answer. answer.name ≡ file.name)) }
+        ensures kept { IfSome self.old.inner
+            (λ old. IfSome self.new.inner (λ new. new.name ≡ old.name)) }
 
         // The digest is that of what was read, in order. A poll that is pending added at most a block.
-        ensures digest { IfSome self.old.inner (λ file. IfReady result (λ answer. (message : List ℕ) →
-            FileHolds file message → IfOk answer.digest (λ digest. digest ≡ sha256 message))) }
-        ensures adds { IfSome self.old.inner (λ old. IfSome self.new.inner (λ new. (message : List ℕ) →
-            FileHolds old message → AddsAtMost new message BLOCK_LEN)) }
+        ensures digest { IfSome self.old.inner
+            (λ file. IfReady result (λ answer. (message : List ℕ) → FileHolds file message
+            → IfOk answer.digest (λ digest. digest ≡ sha256 message))) }
+        ensures adds { IfSome self.old.inner
+            (λ old. IfSome self.new.inner (λ new. (message : List ℕ) → FileHolds old message
+            → AddsAtMost new message BLOCK_LEN)) }
 
         // What could not be opened is answered with its error.
         ensures unopened { IfSome self.old.inner (λ file. IfErr file.opened (λ error.

@@ -50,7 +50,8 @@ impl Source {
         name: &[u8],
     ) -> io::Result<Source>
         ensures { is_input name.now ≡ true →
-            MatchResult input (λ input. result ≡ Ok (Source.Input input)) (λ error. result ≡ Err error) }
+            MatchResult input (λ input. result ≡ Ok (Source.Input input))
+            (λ error. result ≡ Err error) }
     {
         if is_input(name) {
             return Ok(Source::Input(input?));

@@ -109,7 +109,8 @@ impl<P, T> Model for World<P, T> {
 
     ghost view = { execution_of };
 
-    ghost invariant = { λ a. IsWorld (execution_of a) a.core.cells a.entries.items a.rings.items (vec_capacity a.log) };
+    ghost invariant = { λ a. IsWorld (execution_of a) a.core.cells a.entries.items
+        a.rings.items (vec_capacity a.log) };
 }
 
 impl<P: Drop, T: Copy> World<P, T> {
@@ -140,7 +141,8 @@ impl<P: Drop, T: Copy> World<P, T> {
     pub fn new_with(alloc: Global, limit: u32, limits: Limits) -> Result<Self, NewError>
         requires { limit ≤ 1000000 }
         ensures ok { IfOk result (λ world. world ≡ opening limit limits.local) }
-        ensures cause { IfErr result (λ error. (error ≡ NewError.BadLimits) ↔ (is_lawful limits ≡ false)) }
+        ensures cause { IfErr result
+            (λ error. (error ≡ NewError.BadLimits) ↔ (is_lawful limits ≡ false)) }
         ensures bad { is_lawful limits ≡ false → IsErr result }
     {
         if !limits.is_lawful() {
@@ -247,7 +249,8 @@ impl<P: Drop, T: Copy> World<P, T> {
     /// were dropped.
     pub fn run(&mut self, steps: Vec<Step<P, T>>) -> Result<Vec<Reply<T>>, OutOfMemory>
         ensures run { IfOk result (λ replies. RunTo self.old steps.items replies.items self.new) }
-        ensures order { IfOk result (λ replies. LoneOrder self.old steps.items replies.items self.new) }
+        ensures order { IfOk result
+            (λ replies. LoneOrder self.old steps.items replies.items self.new) }
         ensures refused { OnErr result (self.new ≡ self.old) }
         ensures promises { KeepsPromises self.new }
     {

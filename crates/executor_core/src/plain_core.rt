@@ -44,7 +44,8 @@ impl<P, T, W> Core<P, T, W> {
     ///
     /// `OutOfMemory` if the cells could not be made.
     pub fn new(alloc: Global) -> Result<Self, OutOfMemory>
-        ensures { IfOk result (λ core. core ≡ record { cells = empty_table 0; flag = true; sleepers = no_sleepers }) }
+        ensures { IfOk result
+            (λ core. core ≡ record { cells = empty_table 0; flag = true; sleepers = no_sleepers }) }
     {
         let cells = Cells::new(alloc)?;
         Ok(Core {
@@ -77,7 +78,9 @@ impl<P, T, W> Core<P, T, W> {
 
     /// `Cells::spawn`, with its answer and its refusals.
     pub fn spawn(&mut self, future: P) -> Result<(TaskId, Notice), SpawnError<P>>
-        ensures ok { IfOk result (λ r. self.new ≡ record self.old { cells = after_spawn self.old.cells r.0.slot future }) }
+        ensures ok { IfOk result
+            (λ r. self.new
+            ≡ record self.old { cells = after_spawn self.old.cells r.0.slot future }) }
         ensures id { IfOk result (λ r. r.0.number ≡ self.old.cells.next) }
         ensures free { IfOk result (λ r. IsFree self.old.cells r.0.slot) }
         ensures refused { OnErr result (self.new ≡ self.old) }
@@ -131,7 +134,8 @@ impl<P, T, W> Core<P, T, W> {
 
     /// `Cells::drop_handle`, with its answers.
     pub fn drop_handle(&mut self, id: TaskId) -> (Option<Notice>, Option<T>, Option<W>)
-        ensures state { self.new ≡ record self.old { cells = after_detach (after_cancel self.old.cells id) id } }
+        ensures state { self.new
+            ≡ record self.old { cells = after_detach (after_cancel self.old.cells id) id } }
         ensures notice { is_some result.0 ≡ cancel_queues self.old.cells id }
         ensures answer { (result.1, result.2) ≡ detach_answer (cell_at self.old.cells id) }
     {
@@ -140,7 +144,8 @@ impl<P, T, W> Core<P, T, W> {
 
     /// `Cells::poll_handle`, with its answer.
     pub fn poll_handle(&mut self, id: TaskId, waker: W) -> PollHandle<T, W>
-        ensures state { self.new ≡ record self.old { cells = after_poll_handle self.old.cells id waker } }
+        ensures state { self.new
+            ≡ record self.old { cells = after_poll_handle self.old.cells id waker } }
         ensures answer { result ≡ poll_answer waker (cell_at self.old.cells id) }
     {
         self.cells.poll_handle(id, waker)
@@ -149,7 +154,8 @@ impl<P, T, W> Core<P, T, W> {
     /// `Cells::end_pending`, with its answer.
     pub fn end_pending(&mut self, held: Held, future: P) -> EndPending<P>
         requires { held.to_drop ≡ false }
-        ensures state { self.new ≡ record self.old { cells = after_end_pending self.old.cells held.id future } }
+        ensures state { self.new
+            ≡ record self.old { cells = after_end_pending self.old.cells held.id future } }
         ensures answer { EndsPending self.old.cells held future result }
     {
         self.cells.end_pending(held, future)
@@ -158,7 +164,8 @@ impl<P, T, W> Core<P, T, W> {
     /// `Cells::end_ready`, with its answer.
     pub fn end_ready(&mut self, held: Held, output: T) -> EndReady<T, W>
         requires { held.to_drop ≡ false }
-        ensures state { self.new ≡ record self.old { cells = after_end_ready self.old.cells held.id output } }
+        ensures state { self.new
+            ≡ record self.old { cells = after_end_ready self.old.cells held.id output } }
         ensures answer { result ≡ ready_answer output (cell_at self.old.cells held.id) }
     {
         self.cells.end_ready(held, output)
@@ -167,7 +174,8 @@ impl<P, T, W> Core<P, T, W> {
     /// `Cells::end_dropped`, with its answer.
     pub fn end_dropped(&mut self, held: Held) -> Option<Wakeup<W>>
         requires { held.to_drop ≡ true }
-        ensures state { self.new ≡ record self.old { cells = after_end_dropped self.old.cells held.id } }
+        ensures state { self.new
+            ≡ record self.old { cells = after_end_dropped self.old.cells held.id } }
         ensures answer { result ≡ dropped_answer (cell_at self.old.cells held.id) }
     {
         self.cells.end_dropped(held)
@@ -195,7 +203,9 @@ impl<P, T, W> Core<P, T, W> {
     pub fn drain_next(&mut self) -> Option<Taken<P>>
         ensures state { self.new ≡ record self.old { cells = after_drain_next self.old.cells } }
         ensures none { IfNone result (draining self.old.cells ≡ []) }
-        ensures some { IfSome result (λ task. (self.old.cells.closed ≡ true) × TakesFront self.old.cells self.new.cells.global task) }
+        ensures some { IfSome result
+            (λ task. (self.old.cells.closed ≡ true)
+            × TakesFront self.old.cells self.new.cells.global task) }
     {
         self.cells.drain_next()
     }
@@ -207,7 +217,8 @@ impl<P, T, W> Core<P, T, W> {
         word: u64,
         again: Option<Again>,
     ) -> Option<(Taken<P>, Notice)>
-        ensures state { self.new ≡ record self.old { cells = after_search self.old.cells key.number word } }
+        ensures state { self.new
+            ≡ record self.old { cells = after_search self.old.cells key.number word } }
         ensures none { IfNone result ((search_in self.old.cells key.number word).0 ≡ None) }
         ensures some { IfSome result (λ r. TakesFound self.old.cells key.number word r.0) }
     {
@@ -216,7 +227,8 @@ impl<P, T, W> Core<P, T, W> {
 
     /// `Cells::fair`, with its answer.
     pub fn fair(&mut self, key: RunnerKey) -> usize
-        ensures state { self.new ≡ record self.old { cells = after_fair self.old.cells key.number } }
+        ensures state { self.new
+            ≡ record self.old { cells = after_fair self.old.cells key.number } }
         ensures count { result ≡ fair_count key.number (queues_of self.old.cells) }
     {
         self.cells.fair(key)
@@ -224,10 +236,13 @@ impl<P, T, W> Core<P, T, W> {
 
     /// `Cells::reserve_runner`, with its answer and its refusals.
     pub fn reserve_runner(&mut self) -> Result<RunnerKey, RunnerError>
-        ensures ok { OnOk result (self.new ≡ record self.old { cells = after_reserve_runner self.old.cells }) }
+        ensures ok { OnOk result
+            (self.new ≡ record self.old { cells = after_reserve_runner self.old.cells }) }
         ensures key { IfOk result (λ key. key.number ≡ self.old.cells.next_runner) }
         ensures refused { OnErr result (self.new ≡ self.old) }
-        ensures cause { IfErr result (λ error. (error ≡ RunnerError.Exhausted) ↔ (self.old.cells.next_runner ≡ last_number)) }
+        ensures cause { IfErr result
+            (λ error. (error ≡ RunnerError.Exhausted)
+            ↔ (self.old.cells.next_runner ≡ last_number)) }
         ensures exhausted { self.old.cells.next_runner ≡ last_number → IsErr result }
     {
         self.cells.reserve_runner()
@@ -235,7 +250,8 @@ impl<P, T, W> Core<P, T, W> {
 
     /// `Cells::release_runner`.
     pub fn release_runner(&mut self, key: RunnerKey)
-        ensures { self.new ≡ record self.old { cells = after_release_runner self.old.cells key.number } }
+        ensures { self.new
+            ≡ record self.old { cells = after_release_runner self.old.cells key.number } }
     {
         self.cells.release_runner(key)
     }
@@ -244,7 +260,9 @@ impl<P, T, W> Core<P, T, W> {
     pub fn register(&mut self, key: RunnerKey, ring: Ring) -> Result<(), Ring>
         requires { ring.ids ≡ [] }
         ensures variant { IsOk result ↔ (may_register self.old.cells key.number ≡ true) }
-        ensures ok { OnOk result (self.new ≡ record self.old { cells = after_register self.old.cells key.number ring.capacity }) }
+        ensures ok { OnOk result
+            (self.new
+            ≡ record self.old { cells = after_register self.old.cells key.number ring.capacity }) }
         ensures refused { IfErr result (λ back. (back ≡ ring) × (self.new ≡ self.old)) }
     {
         self.cells.register(key, ring)
@@ -252,7 +270,8 @@ impl<P, T, W> Core<P, T, W> {
 
     /// `Cells::unregister`, with its answer.
     pub fn unregister(&mut self, key: RunnerKey) -> Option<Notice>
-        ensures state { self.new ≡ record self.old { cells = after_unregister self.old.cells key.number } }
+        ensures state { self.new
+            ≡ record self.old { cells = after_unregister self.old.cells key.number } }
         ensures notice { is_some result ≡ unregister_queues self.old.cells key.number }
     {
         self.cells.unregister(key)
@@ -268,7 +287,8 @@ impl<P, T, W> Core<P, T, W> {
 
     /// `FlagValue::store` of the core's flag, with its answer: it closes the list of sleepers too.
     pub fn store<X>(&mut self, change: Change<X>) -> X
-        ensures state { self.new ≡ record self.old { flag = change.notified; sleepers = closed self.old.sleepers } }
+        ensures state { self.new
+            ≡ record self.old { flag = change.notified; sleepers = closed self.old.sleepers } }
         ensures carried { result ≡ change.carried }
     {
         self.flag.store(change, &mut self.sleepers)
@@ -276,7 +296,8 @@ impl<P, T, W> Core<P, T, W> {
 
     /// `Sleepers::reserve`, with its refusal.
     pub fn reserve(&mut self) -> Result<(), OutOfMemory>
-        ensures ok { OnOk result (self.new ≡ record self.old { sleepers = after_reserve self.old.sleepers }) }
+        ensures ok { OnOk result
+            (self.new ≡ record self.old { sleepers = after_reserve self.old.sleepers }) }
         ensures refused { OnErr result (self.new ≡ self.old) }
     {
         self.sleepers.reserve()
@@ -292,7 +313,8 @@ impl<P, T, W> Core<P, T, W> {
     /// `Sleepers::insert`, with its answer and its refusal.
     pub fn insert(&mut self, waker: W) -> Result<(usize, Change<Again>), W>
         requires { self.old.sleepers.is_open ≡ false }
-        ensures state { self.new ≡ record self.old { sleepers = after_insert self.old.sleepers waker } }
+        ensures state { self.new
+            ≡ record self.old { sleepers = after_insert self.old.sleepers waker } }
         ensures answer { result ≡ insert_answer self.old.sleepers waker }
     {
         self.sleepers.insert(waker)
@@ -301,7 +323,8 @@ impl<P, T, W> Core<P, T, W> {
     /// `Sleepers::update`, with its answer.
     pub fn update(&mut self, id: usize, waker: W) -> Update<W>
         requires { self.old.sleepers.is_open ≡ false }
-        ensures state { self.new ≡ record self.old { sleepers = after_update self.old.sleepers id waker } }
+        ensures state { self.new
+            ≡ record self.old { sleepers = after_update self.old.sleepers id waker } }
         ensures answer { result ≡ update_answer self.old.sleepers id waker }
     {
         self.sleepers.update(id, waker)
@@ -310,7 +333,8 @@ impl<P, T, W> Core<P, T, W> {
     /// `Sleepers::remove`, with its answer.
     pub fn remove(&mut self, id: usize) -> Change<Removed<W>>
         requires { self.old.sleepers.is_open ≡ false }
-        ensures state { self.new ≡ record self.old { sleepers = after_remove self.old.sleepers id } }
+        ensures state { self.new
+            ≡ record self.old { sleepers = after_remove self.old.sleepers id } }
         ensures answer { result ≡ remove_answer self.old.sleepers id }
     {
         self.sleepers.remove(id)

@@ -43,7 +43,8 @@ impl<P, T, W> Cells<P, T, W> {
         ensures ok { OnOk result (self.new ≡ after_reserve_runner self.old) }
         ensures key { IfOk result (λ key. key.number ≡ self.old.next_runner) }
         ensures refused { OnErr result (self.new ≡ self.old) }
-        ensures cause { IfErr result (λ error. (error ≡ RunnerError.Exhausted) ↔ (self.old.next_runner ≡ last_number)) }
+        ensures cause { IfErr result
+            (λ error. (error ≡ RunnerError.Exhausted) ↔ (self.old.next_runner ≡ last_number)) }
         ensures exhausted { self.old.next_runner ≡ last_number → IsErr result }
     {
         self.queues.reserve_runner()

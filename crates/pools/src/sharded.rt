@@ -86,7 +86,8 @@ where
     pub fn new(rt: R, alloc: Global, count: usize) -> Result<ShardedPool<F, R>, PoolError>
         requires { 0 < count }
         ensures threads { IfOk result (λ pool. vec_len pool.inner.started.threads ≡ count) }
-        ensures shards { IfOk result (λ pool. vec_len (arc_value pool.inner.executor).executor.shards ≡ count) }
+        ensures shards { IfOk result
+            (λ pool. vec_len (arc_value pool.inner.executor).executor.shards ≡ count) }
     {
         let executor = ShardedExecutor::new(rt.clone()?, alloc, count)?;
         let inner = PoolOf::new(rt, alloc, count, Shards { executor })?;

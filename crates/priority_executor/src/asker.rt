@@ -39,7 +39,8 @@ pub fn choose<A: Asker>(asker: &mut A, n: usize) -> Option<usize>
     requires { n ≤ A.places asker.old }
     ensures answers { A.answers asker.new ≡ A.answers asker.old ++ answers_until n result }
     ensures below { IfSome result (λ level. level < n) }
-    ensures room { A.places asker.new + length (A.answers asker.new) ≡ A.places asker.old + length (A.answers asker.old) }
+    ensures room { A.places asker.new + length (A.answers asker.new)
+        ≡ A.places asker.old + length (A.answers asker.old) }
 {
     for level in 0..n {
         if asker.ask(level) {

@@ -123,9 +123,12 @@ where
     ///
     /// Example: `uses::ticks_any_level`, at `PriorityTick`.
     pub fn tick(&self) -> Result<PriorityTick<'_, F, W, R, N>, OutOfMemory>
-        ensures awake { IfOk result (λ tick. IsSomeAnd tick.sleepers (λ own. All (λ s. s.inner.number ≡ None) own.levels.items)) }
+        ensures awake { IfOk result
+            (λ tick. IsSomeAnd tick.sleepers
+            (λ own. All (λ s. s.inner.number ≡ None) own.levels.items)) }
         ensures own { IfOk result (λ tick. IsSomeAnd tick.sleepers (λ own.
-            map (λ s. s.inner.executor.now) own.levels.items ≡ map (λ level. level.inner) self.now.levels.items)) }
+            map (λ s. s.inner.executor.now) own.levels.items
+            ≡ map (λ level. level.inner) self.now.levels.items)) }
     {
         let sleepers = self.sleepers()?;
         Ok(PriorityTick {
@@ -146,10 +149,13 @@ where
         &self,
         future: G,
     ) -> Result<PriorityRun<'_, F, W, R, G, N>, RunError<G>>
-        ensures ok { IfOk result (λ run. IsSomeAnd run.going (λ g. All (λ s. s.inner.number ≡ None) g.sleepers.levels.items)) }
+        ensures ok { IfOk result
+            (λ run. IsSomeAnd run.going
+            (λ g. All (λ s. s.inner.number ≡ None) g.sleepers.levels.items)) }
         ensures future { IfOk result (λ run. IsSomeAnd run.going (λ g. g.own ≡ future)) }
         ensures own { IfOk result (λ run. IsSomeAnd run.going (λ g.
-            map (λ s. s.inner.executor.now) g.sleepers.levels.items ≡ map (λ level. level.inner) self.now.levels.items)) }
+            map (λ s. s.inner.executor.now) g.sleepers.levels.items
+            ≡ map (λ level. level.inner) self.now.levels.items)) }
         ensures refused { IfErr result (λ e. e ≡ RunError.OutOfMemory future) }
     {
         match self.sleepers() {
@@ -169,7 +175,8 @@ where
     fn sleepers(&self) -> Result<LevelSleepers<Sleeper<'_, F, W, R>, N>, OutOfMemory>
         ensures awake { IfOk result (λ own. All (λ s. s.inner.number ≡ None) own.levels.items) }
         ensures own { IfOk result (λ own.
-            map (λ s. s.inner.executor.now) own.levels.items ≡ map (λ level. level.inner) self.now.levels.items) }
+            map (λ s. s.inner.executor.now) own.levels.items
+            ≡ map (λ level. level.inner) self.now.levels.items) }
     {
         let mut levels = Vec::with_capacity(*self.levels.allocator(), N)?;
         for level in &self.levels {

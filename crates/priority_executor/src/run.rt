@@ -68,8 +68,10 @@ where
     // Polls the own future, and unless that is ready runs the tasks of a turn, of any level, and goes to
     // sleep if there are fewer. If it does not sleep, it wakes the waker.
     fn poll(&mut self, w: &W) -> Poll<G::Output>
-        ensures asleep { is_ready result ≡ false → self.new.is_asleep ≡ true → All (λ s. is_some s.inner.number ≡ true) self.new.sleepers.levels.items }
-        ensures awake { is_ready result ≡ false → self.new.is_asleep ≡ false → All (λ s. s.inner.number ≡ None) self.new.sleepers.levels.items }
+        ensures asleep { is_ready result ≡ false → self.new.is_asleep ≡ true
+            → All (λ s. is_some s.inner.number ≡ true) self.new.sleepers.levels.items }
+        ensures awake { is_ready result ≡ false → self.new.is_asleep ≡ false
+            → All (λ s. s.inner.number ≡ None) self.new.sleepers.levels.items }
     {
         if let Poll::Ready(output) = self.own.poll(w) {
             return Poll::Ready(output);
@@ -83,7 +85,8 @@ where
 
     // Runs tasks, and says whether there were as many as a turn has. Then it is awake in each level.
     fn ran_a_turn(&mut self) -> bool
-        ensures awake { IsTrue result → All (λ s. s.inner.number ≡ None) self.new.sleepers.levels.items }
+        ensures awake { IsTrue result
+            → All (λ s. s.inner.number ≡ None) self.new.sleepers.levels.items }
     {
         for _ in 0..TURN {
             if !self.sleepers.run_first() {
@@ -114,9 +117,13 @@ where
     /// Example: `uses::runs_levels`, at `PriorityRun`.
     fn poll(&mut self, w: &W) -> Poll<G::Output>
         ensures ended { is_some self.old.going ≡ true → is_none self.new.going ≡ is_ready result }
-        ensures again { self.old.going ≡ None → (self.new.going ≡ None) × (is_ready result ≡ false) }
-        ensures asleep { IfSome self.new.going (λ g. g.is_asleep ≡ true → All (λ s. is_some s.inner.number ≡ true) g.sleepers.levels.items) }
-        ensures awake { IfSome self.new.going (λ g. g.is_asleep ≡ false → All (λ s. s.inner.number ≡ None) g.sleepers.levels.items) }
+        ensures again { self.old.going ≡ None
+            → (self.new.going ≡ None) × (is_ready result ≡ false) }
+        ensures asleep { IfSome self.new.going
+            (λ g. g.is_asleep ≡ true
+            → All (λ s. is_some s.inner.number ≡ true) g.sleepers.levels.items) }
+        ensures awake { IfSome self.new.going
+            (λ g. g.is_asleep ≡ false → All (λ s. s.inner.number ≡ None) g.sleepers.levels.items) }
     {
         let polled = match &mut self.going {
             Some(going) => going.poll(w),

@@ -114,7 +114,8 @@ where
     /// Goes to sleep in each level, and says whether it sleeps: none had a task, and no copy was refused. If
     /// it says no, it is awake in each.
     pub(crate) fn sleep(&mut self, w: &W) -> bool
-        ensures asleep { IsTrue result → All (λ s. is_some s.inner.number ≡ true) self.new.levels.items }
+        ensures asleep { IsTrue result
+            → All (λ s. is_some s.inner.number ≡ true) self.new.levels.items }
         ensures awake { result ≡ false → All (λ s. s.inner.number ≡ None) self.new.levels.items }
     {
         for level in 0..N {

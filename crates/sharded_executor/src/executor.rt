@@ -81,7 +81,8 @@ where
     pub fn new(rt: R, alloc: Global, count: usize) -> Result<Self, OutOfMemory>
         requires { 0 < count }
         ensures count { IfOk result (λ executor. vec_len executor.shards ≡ count) }
-        ensures limits { IfOk result (λ executor. All (λ shard. shard.inner.limits ≡ default_limits) executor.shards.items) }
+        ensures limits { IfOk result
+            (λ executor. All (λ shard. shard.inner.limits ≡ default_limits) executor.shards.items) }
     {
         match Self::new_with(rt, alloc, count, Limits::default()) {
             Ok(executor) => Ok(executor),
@@ -101,8 +102,10 @@ where
     pub fn new_with(rt: R, alloc: Global, count: usize, limits: Limits) -> Result<Self, NewError>
         requires { 0 < count }
         ensures count { IfOk result (λ executor. vec_len executor.shards ≡ count) }
-        ensures limits { IfOk result (λ executor. All (λ shard. shard.inner.limits ≡ limits) executor.shards.items) }
-        ensures cause { IfErr result (λ error. (error ≡ NewError.BadLimits) ↔ (is_lawful limits ≡ false)) }
+        ensures limits { IfOk result
+            (λ executor. All (λ shard. shard.inner.limits ≡ limits) executor.shards.items) }
+        ensures cause { IfErr result
+            (λ error. (error ≡ NewError.BadLimits) ↔ (is_lawful limits ≡ false)) }
         ensures bad { is_lawful limits ≡ false → IsErr result }
     {
         if !limits.is_lawful() {

@@ -111,7 +111,8 @@ where
         ensures awake { All (λ s. s.inner.number ≡ None) self.new.sleepers.items }
         ensures count { vec_len self.new.sleepers ≡ vec_len self.old.sleepers }
         ensures inside { IfSome result (λ at. at < vec_len self.new.sleepers) }
-        ensures owes { OwesOnly (λ s. s.inner.notice) result self.new.sleepers.items (vec_len self.new.sleepers) }
+        ensures owes { OwesOnly
+            (λ s. s.inner.notice) result self.new.sleepers.items (vec_len self.new.sleepers) }
         ensures answers { self.new.answers ≡ self.old.answers }
     {
         let mut owes = None;
@@ -191,7 +192,8 @@ where
     pub(crate) fn search(&mut self, first: usize) -> Option<usize>
         requires low { 0 < first }
         requires high { first ≤ vec_len self.old.sleepers }
-        ensures asked { self.new.answers.items ≡ asked_around first (vec_len self.old.sleepers) result }
+        ensures asked { self.new.answers.items
+            ≡ asked_around first (vec_len self.old.sleepers) result }
         ensures count { vec_len self.new.sleepers ≡ vec_len self.old.sleepers }
     {
         self.answers.clear();
@@ -210,9 +212,12 @@ where
         requires order { from ≤ to }
         requires inside { to ≤ vec_len self.old.sleepers }
         requires room { vec_len self.old.answers + (to - from) ≤ vec_capacity self.old.answers }
-        ensures none { IfNone result (self.new.answers.items ≡ self.old.answers.items ++ false_from from (to - from)) }
-        ensures some { IfSome result (λ at. self.new.answers.items ≡ self.old.answers.items ++ true_after from at) }
-        ensures length { IfNone result (vec_len self.new.answers ≡ vec_len self.old.answers + (to - from)) }
+        ensures none { IfNone result
+            (self.new.answers.items ≡ self.old.answers.items ++ false_from from (to - from)) }
+        ensures some { IfSome result
+            (λ at. self.new.answers.items ≡ self.old.answers.items ++ true_after from at) }
+        ensures length { IfNone result
+            (vec_len self.new.answers ≡ vec_len self.old.answers + (to - from)) }
         ensures inside { IfSome result (λ at. (from ≤ at) × (at < to)) }
         ensures room { vec_capacity self.new.answers ≡ vec_capacity self.old.answers }
         ensures count { vec_len self.new.sleepers ≡ vec_len self.old.sleepers }
@@ -228,7 +233,8 @@ where
     /// Goes to sleep in every shard, and says whether it sleeps: no shard had a task, and no copy of the
     /// waker was refused. If it says no, it is awake in every shard.
     pub(crate) fn sleep(&mut self, w: &W) -> bool
-        ensures asleep { IsTrue result → All (λ s. is_some s.inner.number ≡ true) self.new.sleepers.items }
+        ensures asleep { IsTrue result
+            → All (λ s. is_some s.inner.number ≡ true) self.new.sleepers.items }
         ensures awake { result ≡ false → All (λ s. s.inner.number ≡ None) self.new.sleepers.items }
         ensures answers { self.new.answers ≡ self.old.answers }
         ensures count { vec_len self.new.sleepers ≡ vec_len self.old.sleepers }

@@ -116,7 +116,8 @@ where
 {
     // Answers what it was notified of, and runs tasks of the first shard that has one, or sleeps if none has.
     fn serve(&mut self, w: &W)
-        ensures { IsServed (λ s. s.inner.number) self.new.is_asleep self.new.members.sleepers.items self.new.members.answers.items }
+        ensures { IsServed (λ s. s.inner.number) self.new.is_asleep self.new.members.sleepers.items
+            self.new.members.answers.items }
     {
         if let Some(at) = self.members.leave() {
             self.members.help(at);
@@ -136,7 +137,9 @@ where
     // Polls the own future, and unless that is ready serves the shards, and wakes the waker if it does not
     // sleep.
     fn poll(&mut self, w: &W) -> Poll<G::Output>
-        ensures { is_ready result ≡ false → IsServed (λ s. s.inner.number) self.new.is_asleep self.new.members.sleepers.items self.new.members.answers.items }
+        ensures { is_ready result ≡ false
+            → IsServed (λ s. s.inner.number) self.new.is_asleep self.new.members.sleepers.items
+            self.new.members.answers.items }
     {
         if let Poll::Ready(output) = self.own.poll(w) {
             return Poll::Ready(output);
@@ -203,8 +206,12 @@ where
     /// Example: `uses::runs_shards`, at `ShardedRun`.
     fn poll(&mut self, w: &W) -> Poll<G::Output>
         ensures ended { is_some self.old.going ≡ true → is_none self.new.going ≡ is_ready result }
-        ensures again { self.old.going ≡ None → (self.new.going ≡ None) × (is_ready result ≡ false) }
-        ensures served { is_ready result ≡ false → IfSome self.new.going (λ g. IsServed (λ s. s.inner.number) g.is_asleep g.members.sleepers.items g.members.answers.items) }
+        ensures again { self.old.going ≡ None
+            → (self.new.going ≡ None) × (is_ready result ≡ false) }
+        ensures served { is_ready result ≡ false
+            → IfSome self.new.going
+            (λ g. IsServed
+            (λ s. s.inner.number) g.is_asleep g.members.sleepers.items g.members.answers.items) }
     {
         let polled = match &mut self.going {
             Some(going) => going.poll(w),

@@ -30,7 +30,8 @@ enum Arguments {
 /// The command that is written so. `None` if no command is.
 pub fn command_of(line: &[u8]) -> Option<Command>
     ensures found { IfSome result (λ command. line.now ≡ line_of command) }
-    ensures read { (command : Command) → AreInRange (numbers_of command) → line.now ≡ line_of command
+    ensures read { (command : Command) → AreInRange (numbers_of command)
+        → line.now ≡ line_of command
         → result ≡ Some command }
 {
     let (word, arguments) = split_line(line)?;
@@ -40,7 +41,8 @@ pub fn command_of(line: &[u8]) -> Option<Command>
 /// The number of places for which a line of limits asks. `None` if the line is no such one.
 pub fn local_of(line: &[u8]) -> Option<u64>
     ensures found { IfSome result (λ places. line.now ≡ local_line places) }
-    ensures read { (places : ℕ) → places < 2 ^ 64 → line.now ≡ local_line places → result ≡ Some places }
+    ensures read { (places : ℕ) → places < 2 ^ 64 → line.now ≡ local_line places
+        → result ≡ Some places }
 {
     let (word, arguments) = split_line(line)?;
     places_of(word, arguments)
@@ -48,8 +50,10 @@ pub fn local_of(line: &[u8]) -> Option<u64>
 
 // The number behind the word of a line of limits.
 fn places_of(word: &str, arguments: Arguments) -> Option<u64>
-    ensures found { IfSome result (λ places. (word.now ≡ local_word) × (listed arguments ≡ places ∷ [])) }
-    ensures read { (places : ℕ) → word.now ≡ local_word → listed arguments ≡ places ∷ [] → result ≡ Some places }
+    ensures found { IfSome result
+        (λ places. (word.now ≡ local_word) × (listed arguments ≡ places ∷ [])) }
+    ensures read { (places : ℕ) → word.now ≡ local_word → listed arguments ≡ places ∷ []
+        → result ≡ Some places }
 {
     match arguments {
         Arguments::One(places) => match word {
@@ -63,7 +67,8 @@ fn places_of(word: &str, arguments: Arguments) -> Option<u64>
 // The command of a word and its arguments.
 fn command_from(word: &str, arguments: Arguments) -> Option<Command>
     ensures found { IfSome result (IsWritten word.now (listed arguments)) }
-    ensures read { (command : Command) → IsWritten word.now (listed arguments) command → result ≡ Some command }
+    ensures read { (command : Command) → IsWritten word.now (listed arguments) command
+        → result ≡ Some command }
 {
     let step = match arguments {
         Arguments::None => return command_alone(word),
@@ -97,7 +102,8 @@ fn command_alone(word: &str) -> Option<Command>
 // The step of a word with one number, which is of a task or of a ticker.
 fn step_with_one(word: &str, n: u64) -> Option<Step<(), u64>>
     ensures found { IfSome result (λ step. IsWritten word.now (n ∷ []) (AsStep step)) }
-    ensures read { (step : Step Unit ℕ) → IsWritten word.now (n ∷ []) (AsStep step) → result ≡ Some step }
+    ensures read { (step : Step Unit ℕ) → IsWritten word.now (n ∷ []) (AsStep step)
+        → result ≡ Some step }
 {
     Some(match word {
         "wake" => Step::Wake(n),
@@ -114,7 +120,8 @@ fn step_with_one(word: &str, n: u64) -> Option<Step<(), u64>>
 // The step of a word with the number of a ticker.
 fn step_of_ticker(word: &str, k: usize) -> Option<Step<(), u64>>
     ensures found { IfSome result (λ step. IsWritten word.now (k ∷ []) (AsStep step)) }
-    ensures read { (step : Step Unit ℕ) → is_of_ticker step ≡ true → IsWritten word.now (k ∷ []) (AsStep step)
+    ensures read { (step : Step Unit ℕ) → is_of_ticker step ≡ true
+        → IsWritten word.now (k ∷ []) (AsStep step)
         → result ≡ Some step }
 {
     Some(match word {
@@ -134,7 +141,8 @@ fn step_of_ticker(word: &str, k: usize) -> Option<Step<(), u64>>
 // The step of a word with two numbers.
 fn step_with_two(word: &str, n: u64, m: u64) -> Option<Step<(), u64>>
     ensures found { IfSome result (λ step. IsWritten word.now (n ∷ m ∷ []) (AsStep step)) }
-    ensures read { (step : Step Unit ℕ) → IsWritten word.now (n ∷ m ∷ []) (AsStep step) → result ≡ Some step }
+    ensures read { (step : Step Unit ℕ) → IsWritten word.now (n ∷ m ∷ []) (AsStep step)
+        → result ≡ Some step }
 {
     Some(match word {
         "ready" => Step::Ready(n, m),
@@ -146,7 +154,8 @@ fn step_with_two(word: &str, n: u64, m: u64) -> Option<Step<(), u64>>
 // The word of a command, and the numbers behind it, in this line.
 fn split_line(line: &[u8]) -> Option<(&str, Arguments)>
     ensures found { IfSome result (λ parts. line.now ≡ parts.0.now ++ spaced (listed parts.1)) }
-    ensures read { (word : List ℕ) (arguments : Arguments) → IsWord word → AreInRange (listed arguments)
+    ensures read { (word : List ℕ) (arguments : Arguments) → IsWord word
+        → AreInRange (listed arguments)
         → line.now ≡ word ++ spaced (listed arguments)
         → IsSomeAnd result (λ parts. (parts.0.now ≡ word) × (parts.1 ≡ arguments)) }
 {
@@ -173,7 +182,8 @@ fn arguments_of(text: &str) -> Option<Arguments>
 fn two_arguments(first: &str, second: &str) -> Option<Arguments>
     ensures found { IfSome result (λ arguments.
         32 ∷ first.now ++ 32 ∷ second.now ≡ spaced (listed arguments)) }
-    ensures read { (n m : ℕ) → n < 2 ^ 64 → m < 2 ^ 64 → first.now ≡ decimal n → second.now ≡ decimal m
+    ensures read { (n m : ℕ) → n < 2 ^ 64 → m < 2 ^ 64 → first.now ≡ decimal n
+        → second.now ≡ decimal m
         → result ≡ Some (Two n m) }
 {
     Some(Arguments::Two(number_of(first)?, number_of(second)?))

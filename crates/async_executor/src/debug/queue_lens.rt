@@ -28,7 +28,8 @@ impl Model for QueueLens {
 impl QueueLens {
     /// The lengths of the runners' queues from this position on, as many as there is room for.
     pub(super) fn of<W>(cells: &Cells<(), (), W>, first: usize) -> QueueLens
-        ensures { map (λ q. length q.entries) (take first cells.now.locals) ++ result ≡ map (λ q. length q.entries) (take (first + 64) cells.now.locals) }
+        ensures { map (λ q. length q.entries) (take first cells.now.locals) ++ result
+            ≡ map (λ q. length q.entries) (take (first + 64) cells.now.locals) }
     {
         let mut lens = QueueLens {
             lens: [0; AT_A_TIME],

@@ -159,7 +159,8 @@ where
     ///
     /// Example: `uses::sleeps_and_leaves`, at `Executor::sleeper`.
     pub fn sleep(&mut self, w: &W) -> Result<bool, OutOfMemory>
-        ensures { MatchResult result (λ asleep. is_some self.new.inner.number ≡ asleep) (λ _. self.new.inner.number ≡ None) }
+        ensures { MatchResult result
+            (λ asleep. is_some self.new.inner.number ≡ asleep) (λ _. self.new.inner.number ≡ None) }
     {
         self.inner.sleep(w)
     }

@@ -35,7 +35,8 @@ where
     #[inline(always)]
     fn poll(&mut self, w: &W) -> Poll<()>
         ensures ended { self.new.inner.rest.ended ≡ is_ready result }
-        ensures again { IsTrue self.old.inner.rest.ended → self.new.inner.rest ≡ self.old.inner.rest }
+        ensures again { IsTrue self.old.inner.rest.ended
+            → self.new.inner.rest ≡ self.old.inner.rest }
     {
         self.inner.poll(w)
     }
@@ -79,8 +80,10 @@ where
     #[inline(always)]
     fn poll(&mut self, w: &W) -> Poll<G::Output>
         ensures fixed { fixed self.new.inner.rest.runner ≡ fixed self.old.inner.rest.runner }
-        ensures ended { has_ended self.old.inner.rest ≡ false → has_ended self.new.inner.rest ≡ is_ready result }
-        ensures again { IsTrue (has_ended self.old.inner.rest) → (self.new.inner.rest ≡ self.old.inner.rest) × (is_ready result ≡ false) }
+        ensures ended { has_ended self.old.inner.rest ≡ false
+            → has_ended self.new.inner.rest ≡ is_ready result }
+        ensures again { IsTrue (has_ended self.old.inner.rest)
+            → (self.new.inner.rest ≡ self.old.inner.rest) × (is_ready result ≡ false) }
     {
         self.inner.poll(w)
     }

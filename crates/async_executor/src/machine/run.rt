@@ -240,7 +240,8 @@ impl RunMachine {
         ensures decided { result ≡ decided self reply }
         ensures asked { IsAsked result }
         ensures store { store_asked result ≡ store_after reply }
-        ensures ticker { (notified : Bool) → ticker_after result ≡ leads self reply (ticker_of notified self) }
+        ensures ticker { (notified : Bool)
+            → ticker_after result ≡ leads self reply (ticker_of notified self) }
         ensures enabled { (notified : Bool) → may_lead self reply (ticker_of notified self) ≡ true }
         ensures table { IsRow self reply result }
         ensures turn { TurnGoesOn self result }

@@ -75,8 +75,11 @@ impl Runner {
     /// the next one.
     #[inline(always)]
     pub(in crate::machine) fn ran(self) -> Result<Runner, Runner>
-        ensures fixed { MatchResult result (λ runner. fixed runner ≡ fixed self) (λ runner. fixed runner ≡ fixed self) }
-        ensures ran { result ≡ cond (goes_on self.count) (Ok (record self { count = more self.count })) (Err (record self { count = anew self.count })) }
+        ensures fixed { MatchResult result
+            (λ runner. fixed runner ≡ fixed self) (λ runner. fixed runner ≡ fixed self) }
+        ensures ran { result
+            ≡ cond (goes_on self.count) (Ok (record self { count = more self.count }))
+            (Err (record self { count = anew self.count })) }
     {
         let mut runner = self;
         if runner.count.one_more() {
@@ -89,7 +92,9 @@ impl Runner {
     #[inline(always)]
     pub(in crate::machine) fn found(self) -> (Runner, bool)
         ensures fixed { fixed result.0 ≡ fixed self }
-        ensures found { result ≡ cond (goes_on self.found) (record self { found = more self.found }, false) (record self { found = anew self.found }, true) }
+        ensures found { result
+            ≡ cond (goes_on self.found) (record self { found = more self.found }, false)
+            (record self { found = anew self.found }, true) }
     {
         let mut runner = self;
         let is_fair = runner.found.one_more();
@@ -287,9 +292,12 @@ impl Registering {
         ring: Ring,
     ) -> Result<PollingOwn, (NotRegistered, Ring)>
         requires { ring.ids ≡ [] }
-        ensures runner { MatchResult result (λ polling. polling.runner ≡ self.runner) (λ refused. refused.0.runner ≡ self.runner) }
+        ensures runner { MatchResult result
+            (λ polling. polling.runner ≡ self.runner) (λ refused. refused.0.runner ≡ self.runner) }
         ensures world { MakesAt at_rest stays (of_registering self) (of_registered result) }
-        ensures cells { MatchResult result (λ _. cells.new ≡ after_register cells.old self.runner.key.number ring.capacity) (λ _. cells.new ≡ cells.old) }
+        ensures cells { MatchResult result
+            (λ _. cells.new ≡ after_register cells.old self.runner.key.number ring.capacity)
+            (λ _. cells.new ≡ cells.old) }
         ensures refused { IfErr result (λ refused. refused.1 ≡ ring) }
     {
         match cells.register(self.runner.key(), ring) {
@@ -448,7 +456,8 @@ impl Search {
     ) -> Option<NextTask>
         ensures table { cells.new ≡ after_search cells.old self.now.key.number word }
         ensures none { IfNone result ((search_in cells.old self.now.key.number word).0 ≡ None) }
-        ensures some { IfSome result (λ next. TakesFound cells.old self.now.key.number word next.taken) }
+        ensures some { IfSome result
+            (λ next. TakesFound cells.old self.now.key.number word next.taken) }
     {
         let Some((taken, notice)) = cells.search(self.key, word, again) else {
             return None;
@@ -636,7 +645,8 @@ impl Left {
     /// A run's step after `Left`: the notice of its queue was spent, if there was one.
     pub(crate) fn depart(self) -> Departing<Runner>
         ensures step { result ≡ departing self.runner self.number }
-        ensures world { LeadsRun self.runner in_leaving left_awake (of_left self) (of_departing result) }
+        ensures world { LeadsRun self.runner in_leaving left_awake
+            (of_left self) (of_departing result) }
     {
         let Left { runner, number } = self;
         Departing::of(runner, number)
@@ -664,7 +674,8 @@ impl Releasing {
     pub(crate) fn make<W>(self, cells: &mut Cells<(), (), W>) -> Departed<Runner>
         ensures cells { cells.new ≡ after_release_runner cells.old self.runner.key.number }
         ensures step { result ≡ record { actor = self.runner } }
-        ensures world { LeadsRun self.runner at_rest ended (of_releasing self) (of_departed result) }
+        ensures world { LeadsRun self.runner at_rest ended
+            (of_releasing self) (of_departed result) }
     {
         cells.release_runner(self.runner.key());
         self.released()

@@ -211,7 +211,8 @@ impl TickMachine {
         requires { rest.ended ≡ false }
         ensures machine { result ≡ record { state = TickState.Resting rest.number } }
         ensures asked { asked result ≡ AskStart }
-        ensures ticker { (runner : Option ℕ) (notified : Bool) → ticker_of runner notified result ≡ rest_ticker runner rest }
+        ensures ticker { (runner : Option ℕ) (notified : Bool)
+            → ticker_of runner notified result ≡ rest_ticker runner rest }
     {
         TickMachine {
             state: TickState::Resting(rest.number),
@@ -227,8 +228,10 @@ impl TickMachine {
         ensures decided { result ≡ decided self reply }
         ensures asked { IsAsked result }
         ensures store { store_asked result ≡ store_after reply }
-        ensures ticker { (runner : Option ℕ) (notified : Bool) → ticker_after runner result ≡ leads self.state reply (ticker_of runner notified self) }
-        ensures enabled { (runner : Option ℕ) (notified : Bool) → may_lead self.state reply (ticker_of runner notified self) ≡ true }
+        ensures ticker { (runner : Option ℕ) (notified : Bool)
+            → ticker_after runner result ≡ leads self.state reply (ticker_of runner notified self) }
+        ensures enabled { (runner : Option ℕ) (notified : Bool)
+            → may_lead self.state reply (ticker_of runner notified self) ≡ true }
         ensures table { IsRow self reply result }
         ensures course { KeepsCourse (course self) reply result }
     {

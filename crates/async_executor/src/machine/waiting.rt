@@ -238,8 +238,11 @@ impl<A> Waiting<A> {
         ensures course { KeepsCourse (is_seeking self) result }
         ensures ends { EndsLast self reply result }
         ensures store { store_asked result ≡ store_after reply }
-        ensures ticker { (runner : Option ℕ) (notified : Bool) → ticker_after runner result ≡ leads_from self reply (ticker_of_waiting runner notified self) }
-        ensures enabled { (runner : Option ℕ) (notified : Bool) → may_lead_from self reply (ticker_of_waiting runner notified self) ≡ true }
+        ensures ticker { (runner : Option ℕ) (notified : Bool)
+            → ticker_after runner result
+            ≡ leads_from self reply (ticker_of_waiting runner notified self) }
+        ensures enabled { (runner : Option ℕ) (notified : Bool)
+            → may_lead_from self reply (ticker_of_waiting runner notified self) ≡ true }
         ensures table { IsRowOf (asked_of self) (kept_of self) reply result }
     {
         match self {

@@ -339,7 +339,8 @@ fn register<S: Storage, G: Drop>(
     own: &mut Own<G>,
     registering: Registering,
 ) -> Result<PollingOwn, NotRegistered>
-    ensures { MatchResult result (λ polling. polling.runner ≡ registering.runner) (λ refused. refused.runner ≡ registering.runner) }
+    ensures { MatchResult result (λ polling. polling.runner ≡ registering.runner)
+        (λ refused. refused.runner ≡ registering.runner) }
 {
     let Some(ring) = own.ring.take() else {
         return Err(registering.refused());
@@ -426,8 +427,10 @@ impl<S: Storage, G: Future<S::Waker>> Future<S::Waker> for RunIn<'_, S, G> {
     /// and is pending, and does nothing more.
     fn poll(&mut self, w: &S::Waker) -> Poll<G::Output>
         ensures fixed { fixed self.new.rest.runner ≡ fixed self.old.rest.runner }
-        ensures ended { has_ended self.old.rest ≡ false → has_ended self.new.rest ≡ is_ready result }
-        ensures again { IsTrue (has_ended self.old.rest) → (self.new.rest ≡ self.old.rest) × (is_ready result ≡ false) }
+        ensures ended { has_ended self.old.rest ≡ false
+            → has_ended self.new.rest ≡ is_ready result }
+        ensures again { IsTrue (has_ended self.old.rest)
+            → (self.new.rest ≡ self.old.rest) × (is_ready result ≡ false) }
     {
         // One that has ended has no second output to give.
         if self.rest.is_ended() {

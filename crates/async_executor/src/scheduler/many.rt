@@ -105,8 +105,10 @@ impl<S: Shareable> ExecutorIn<S> {
         requires can { I.can_next futures }
         requires ends { IsFinite (I.remaining futures) }
         ensures futures { SpawnsInTurn I.next_gives futures result }
-        ensures handles { AddsHandles T.answered handles.old.items (spawned result) handles.new.items }
-        ensures room { IfErr result (λ e. IfNone e.refused (vec_len handles.new ≡ vec_capacity handles.new)) }
+        ensures handles { AddsHandles T.answered handles.old.items
+            (spawned result) handles.new.items }
+        ensures room { IfErr result
+            (λ e. IfNone e.refused (vec_len handles.new ≡ vec_capacity handles.new)) }
         ensures place { HasPlace (vec_len handles.new) (vec_capacity handles.new) result }
     {
         // No table is then copied as it grows. If this is refused, each spawn makes its own room.

@@ -183,7 +183,8 @@ where
 
     // Starts the thread of this number, which tells how it begins.
     fn start(&mut self, number: usize, beginning: &Arc<Beginning>) -> Result<(), PoolError>
-        ensures count { OnOk result (vec_len self.new.started.threads ≡ vec_len self.old.started.threads + 1) }
+        ensures count { OnOk result
+            (vec_len self.new.started.threads ≡ vec_len self.old.started.threads + 1) }
         ensures executor { self.new.executor ≡ self.old.executor }
     {
         self.started.reserve()?;

@@ -87,7 +87,11 @@ pub(crate) struct TaskEntry<P> {
 impl<P> TaskEntry<P> {
     // The entry of a new task, whose cell has this slot.
     pub(crate) fn new(slot: usize) -> Self
-        ensures { result ≡ record { info = record { slot = slot; has_handle = true; awaited = false; to_drop = false }; out = None } }
+        ensures { result
+            ≡ record {
+              info = record { slot = slot; has_handle = true; awaited = false; to_drop = false };
+              out = None;
+            } }
     {
         let info = TaskInfo {
             slot,
@@ -129,7 +133,8 @@ pub(crate) fn some_out<P>(entries: &Vec<TaskEntry<P>>) -> bool
 // Puts this into the task's entry, in place of what was known of the task.
 pub(crate) fn set_info<P>(entries: &mut Vec<TaskEntry<P>>, n: u64, info: TaskInfo)
     requires { n < length entries.old.items }
-    ensures { (e : TaskEntry P) → slice_get entries.old.items n ≡ Some e → entries.new.items ≡ slice_set entries.old.items n (record e { info = info }) }
+    ensures { (e : TaskEntry P) → slice_get entries.old.items n ≡ Some e
+        → entries.new.items ≡ slice_set entries.old.items n (record e { info = info }) }
 {
     entries[n as usize].info = info;
 }
@@ -152,7 +157,8 @@ pub(crate) fn set_entry<P: Drop>(
 // known of the task.
 pub(crate) fn take_unpolled<P: Drop>(entries: &mut Vec<TaskEntry<P>>, n: u64, info: TaskInfo) -> P
     requires { is_unpolled (slice_get entries.old.items n) ≡ true }
-    ensures { entries.new.items ≡ slice_set entries.old.items n (record { info = info; out = None }) }
+    ensures { entries.new.items
+        ≡ slice_set entries.old.items n (record { info = info; out = None }) }
 {
     let entry = TaskEntry { info, out: None };
     match replace(&mut entries[n as usize], entry).out {

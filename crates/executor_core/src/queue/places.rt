@@ -17,10 +17,18 @@ impl<P, T, W> Queues<P, T, W> {
     pub(crate) fn reserve_runner(&mut self) -> Result<RunnerKey, RunnerError>
         ensures slots { self.new.slots ≡ self.old.slots }
         ensures lists { self.new.state.lists ≡ self.old.state.lists }
-        ensures ok { IfOk result (λ key. self.new ≡ with_state (record self.old.state { next_runner = self.old.state.next_runner + 1; free_places = self.old.state.free_places + 1 }) self.old) }
+        ensures ok { IfOk result
+            (λ key. self.new
+            ≡ with_state
+            (record self.old.state {
+              next_runner = self.old.state.next_runner + 1;
+              free_places = self.old.state.free_places + 1;
+            }) self.old) }
         ensures key { IfOk result (λ key. key.number ≡ self.old.state.next_runner) }
         ensures refused { OnErr result (self.new ≡ self.old) }
-        ensures cause { IfErr result (λ error. (error ≡ RunnerError.Exhausted) ↔ (self.old.state.next_runner ≡ last_number)) }
+        ensures cause { IfErr result
+            (λ error. (error ≡ RunnerError.Exhausted)
+            ↔ (self.old.state.next_runner ≡ last_number)) }
         ensures exhausted { self.old.state.next_runner ≡ last_number → IsErr result }
     {
         if self.next_runner == u64::MAX {
@@ -53,7 +61,10 @@ impl<P, T, W> Queues<P, T, W> {
     pub(crate) fn release_runner(&mut self, key: RunnerKey)
         ensures slots { self.new.slots ≡ self.old.slots }
         ensures lists { self.new.state.lists ≡ self.old.state.lists }
-        ensures places { self.new ≡ cond (is_registered key.number self.old.state.lists.locals) self.old (with_state (record self.old.state { free_places = self.old.state.free_places - 1 }) self.old) }
+        ensures places { self.new
+            ≡ cond (is_registered key.number self.old.state.lists.locals) self.old
+            (with_state
+            (record self.old.state { free_places = self.old.state.free_places - 1 }) self.old) }
     {
         if self.find(key).is_none() && self.free_places > 0 {
             self.free_places -= 1;
@@ -64,8 +75,14 @@ impl<P, T, W> Queues<P, T, W> {
     // registration.
     pub(crate) fn register(&mut self, key: RunnerKey, ring: Ring) -> Result<(), Ring>
         requires { ring.ids ≡ [] }
-        ensures variant { IsOk result ↔ ((nat_lt 0 self.old.state.free_places && not (is_registered key.number self.old.state.lists.locals)) ≡ true) }
-        ensures ok { OnOk result (self.new ≡ with_state (record (with_lists (registered key.number ring.capacity self.old.state.lists) self.old.state) { free_places = self.old.state.free_places - 1 }) self.old) }
+        ensures variant { IsOk result
+            ↔ ((nat_lt 0 self.old.state.free_places
+            && not (is_registered key.number self.old.state.lists.locals)) ≡ true) }
+        ensures ok { OnOk result
+            (self.new
+            ≡ with_state
+            (record (with_lists (registered key.number ring.capacity self.old.state.lists)
+            self.old.state) { free_places = self.old.state.free_places - 1 }) self.old) }
         ensures refused { IfErr result (λ back. (back ≡ ring) × (self.new ≡ self.old)) }
     {
         if self.free_places == 0 || self.find(key).is_some() {
@@ -83,11 +100,16 @@ impl<P, T, W> Queues<P, T, W> {
     // `Cells::unregister`, for `Queues`: takes the runner's queue and its place away. What stood there
     // goes to the global end.
     pub(crate) fn unregister(&mut self, key: RunnerKey) -> Option<Notice>
-        requires queue { IsQueue self.old.slots (self.old.state.lists.global ++ entries_of key.number self.old.state.lists.locals) }
-        requires counted { length (self.old.state.lists.global ++ entries_of key.number self.old.state.lists.locals) < 2 ^ 64 }
+        requires queue { IsQueue self.old.slots
+            (self.old.state.lists.global ++ entries_of key.number self.old.state.lists.locals) }
+        requires counted { length
+            (self.old.state.lists.global ++ entries_of key.number self.old.state.lists.locals)
+            < 2 ^ 64 }
         ensures slots { self.new.slots ≡ self.old.slots }
-        ensures lists { self.new.state ≡ with_lists (unregistered key.number self.old.state.lists) self.old.state }
-        ensures notice { is_some result ≡ nat_lt 0 (length (entries_of key.number self.old.state.lists.locals)) }
+        ensures lists { self.new.state
+            ≡ with_lists (unregistered key.number self.old.state.lists) self.old.state }
+        ensures notice { is_some result
+            ≡ nat_lt 0 (length (entries_of key.number self.old.state.lists.locals)) }
     {
         let position = self.find(key)?;
         if self.remove_local(position) == 0 {
@@ -100,10 +122,14 @@ impl<P, T, W> Queues<P, T, W> {
     // tasks that are.
     fn remove_local(&mut self, position: usize) -> usize
         requires within { position < length self.old.state.lists.locals }
-        requires queue { IsQueue self.old.slots (self.old.state.lists.global ++ entries_at position self.old.state.lists.locals) }
-        requires counted { length (self.old.state.lists.global ++ entries_at position self.old.state.lists.locals) < 2 ^ 64 }
+        requires queue { IsQueue self.old.slots
+            (self.old.state.lists.global ++ entries_at position self.old.state.lists.locals) }
+        requires counted { length
+            (self.old.state.lists.global ++ entries_at position self.old.state.lists.locals)
+            < 2 ^ 64 }
         ensures slots { self.new.slots ≡ self.old.slots }
-        ensures lists { self.new.state ≡ with_lists (unregistered_at (Some position) self.old.state.lists) self.old.state }
+        ensures lists { self.new.state
+            ≡ with_lists (unregistered_at (Some position) self.old.state.lists) self.old.state }
         ensures count { result ≡ length (entries_at position self.old.state.lists.locals) }
     {
         let LocalQueue {

@@ -120,7 +120,8 @@ impl Ring {
 pub fn steal(source: &mut Ring, target: &mut Ring) -> usize
     ensures count { result ≡ stolen source.old.ids target.old.ids target.old.capacity }
     ensures source { source.new ≡ record source.old { ids = drop result source.old.ids } }
-    ensures target { target.new ≡ record target.old { ids = target.old.ids ++ take result source.old.ids } }
+    ensures target { target.new
+        ≡ record target.old { ids = target.old.ids ++ take result source.old.ids } }
 {
     let free = target.capacity() - target.len();
     let count = min(source.len().div_ceil(2), free);
@@ -133,7 +134,8 @@ fn move_first(source: &mut Ring, target: &mut Ring, count: usize)
     requires there { count ≤ length source.old.ids }
     requires room { length target.old.ids + count ≤ target.old.capacity }
     ensures source { source.new ≡ record source.old { ids = drop count source.old.ids } }
-    ensures target { target.new ≡ record target.old { ids = target.old.ids ++ take count source.old.ids } }
+    ensures target { target.new
+        ≡ record target.old { ids = target.old.ids ++ take count source.old.ids } }
 {
     for _ in 0..count {
         let Some(id) = source.pop() else {
@@ -150,7 +152,8 @@ fn move_first(source: &mut Ring, target: &mut Ring, count: usize)
 fn steal_linked<P, T, W>(slots: &mut Slots<P, T, W>, ring: &mut Ring) -> usize
     ensures count { result ≡ stolen slots.old.queue ring.old.ids ring.old.capacity }
     ensures queue { slots.new ≡ with_queue (drop result slots.old.queue) slots.old }
-    ensures ring { ring.new ≡ record ring.old { ids = ring.old.ids ++ take result slots.old.queue } }
+    ensures ring { ring.new
+        ≡ record ring.old { ids = ring.old.ids ++ take result slots.old.queue } }
 {
     if slots.len() == 0 {
         return 0;
@@ -229,11 +232,18 @@ impl<P, T, W> Model for Queues<P, T, W> {
     ghost use Rattle.std.specs.Vec.{vec_capacity};
     ghost use Rattle.executor_core.specs.Queues.View.{state_of, IsQueues};
 
-    ghost view = { λ q. record { slots = q.slots.slots; state = state_of q.slots.queue q.locals.items q.next_runner q.free_places } };
+    ghost view = { λ q.
+        record {
+          slots = q.slots.slots;
+          state = state_of q.slots.queue q.locals.items
+              q.next_runner q.free_places;
+        } };
 
     // One list of the ids of all queues, whatever their order: one lemma serves every move between
     // queues.
-    ghost invariant = { λ q. IsQueues (state_of q.slots.queue q.locals.items q.next_runner q.free_places) (vec_capacity q.locals) };
+    ghost invariant = { λ q. IsQueues
+        (state_of q.slots.queue q.locals.items q.next_runner q.free_places)
+        (vec_capacity q.locals) };
 }
 
 // The slots and their cells.
@@ -299,8 +309,11 @@ impl<P, T, W> Queues<P, T, W> {
         requires { length self.old.state.lists.global + 1 < 2 ^ 64 }
         ensures number { IfOk result (λ r. r.0.number ≡ number) }
         ensures vacant { IfOk result (λ r. slice_index_or self.old.slots r.0.slot None ≡ None) }
-        ensures slots { IfOk result (λ r. Changes self.old.slots self.new.slots r.0.slot (Some (record { number = number; cell = new_cell future }))) }
-        ensures state { IfOk result (λ r. self.new.state ≡ with_lists (pushed r.0 self.old.state.lists) self.old.state) }
+        ensures slots { IfOk result
+            (λ r. Changes self.old.slots self.new.slots r.0.slot
+            (Some (record { number = number; cell = new_cell future }))) }
+        ensures state { IfOk result
+            (λ r. self.new.state ≡ with_lists (pushed r.0 self.old.state.lists) self.old.state) }
         ensures refused { IfErr result (λ back. (back ≡ future) × (self.new ≡ self.old)) }
     {
         let id = self.slots.insert(number, future)?;
@@ -310,9 +323,11 @@ impl<P, T, W> Queues<P, T, W> {
     // `Slots::remove`, for `Queues`: takes the cell of the task away, which stands in no global queue.
     pub(crate) fn remove(&mut self, id: TaskId) -> Cell<P, T, W>
         requires there { HasCell self.old.slots id }
-        requires unqueued { IsQueue (slice_set self.old.slots id.slot None) self.old.state.lists.global }
+        requires unqueued { IsQueue (slice_set self.old.slots id.slot None)
+            self.old.state.lists.global }
         ensures value { slice_index_or self.old.slots id.slot None ≡ Some (numbered id result) }
-        ensures slots { self.new ≡ record self.old { slots = slice_set self.old.slots id.slot None } }
+        ensures slots { self.new
+            ≡ record self.old { slots = slice_set self.old.slots id.slot None } }
     {
         self.slots.remove(id)
     }
@@ -326,7 +341,8 @@ impl<P, T, W> Queues<P, T, W> {
         requires queue { IsQueue self.old.slots (self.old.state.lists.global ++ id ∷ []) }
         requires counted { length self.old.state.lists.global + 1 < 2 ^ 64 }
         ensures slots { self.new.slots ≡ self.old.slots }
-        ensures lists { self.new.state ≡ with_lists (pushed id self.old.state.lists) self.old.state }
+        ensures lists { self.new.state
+            ≡ with_lists (pushed id self.old.state.lists) self.old.state }
     {
         // No look whether the task is queued already: callers know that it is not, by the law of the queues.
         self.slots.push(id);
@@ -337,7 +353,8 @@ impl<P, T, W> Queues<P, T, W> {
     pub(crate) fn take_front(&mut self) -> Option<TaskId>
         ensures front { result ≡ (search_global self.old.state.lists).0 }
         ensures slots { self.new.slots ≡ self.old.slots }
-        ensures rest { self.new.state ≡ with_lists (search_global self.old.state.lists).1 self.old.state }
+        ensures rest { self.new.state
+            ≡ with_lists (search_global self.old.state.lists).1 self.old.state }
     {
         self.slots.pop()
     }
@@ -352,7 +369,8 @@ impl<P, T, W> Queues<P, T, W> {
     // `Cells::global_at`, for `Queues`: the number of the task at this place of the global queue, the
     // front being 0.
     pub(crate) fn global_at(&self, place: usize) -> Option<u64>
-        ensures { result ≡ option_map (λ id. id.number) (slice_get self.now.state.lists.global place) }
+        ensures { result
+            ≡ option_map (λ id. id.number) (slice_get self.now.state.lists.global place) }
     {
         self.slots.number_at(place)
     }
@@ -382,7 +400,8 @@ fn first_in(locals: &[LocalQueue]) -> Option<usize>
 
 // Whether the queue of the runner with this number stands at this position.
 fn stands_at(locals: &[LocalQueue], position: usize, runner: u64) -> bool
-    ensures { result ≡ unwrap_or (option_map (λ l. l.runner == runner) (slice_get locals.now position)) false }
+    ensures { result
+        ≡ unwrap_or (option_map (λ l. l.runner == runner) (slice_get locals.now position)) false }
 {
     match locals.get(position) {
         Some(local) => local.runner == runner,
@@ -408,10 +427,13 @@ fn steal_within(locals: &mut [LocalQueue], from: usize, to: usize)
 
 // Moves all that stands in these queues to the global end, one queue after another.
 fn move_all<P, T, W>(locals: &mut [LocalQueue], slots: &mut Slots<P, T, W>)
-    requires queue { IsQueue slots.old.slots (slots.old.queue ++ local_entries (map local_of locals.old)) }
-    requires counted { length slots.old.queue + length (local_entries (map local_of locals.old)) < 2 ^ 64 }
+    requires queue { IsQueue slots.old.slots
+        (slots.old.queue ++ local_entries (map local_of locals.old)) }
+    requires counted { length slots.old.queue + length (local_entries (map local_of locals.old))
+        < 2 ^ 64 }
     ensures locals { map local_of locals.new ≡ map emptied (map local_of locals.old) }
-    ensures queue { slots.new ≡ with_queue (slots.old.queue ++ local_entries (map local_of locals.old)) slots.old }
+    ensures queue { slots.new
+        ≡ with_queue (slots.old.queue ++ local_entries (map local_of locals.old)) slots.old }
 {
     for position in 0..locals.len() {
         append(slots, &mut locals[position].ring);
@@ -423,8 +445,10 @@ impl<P, T, W> Queues<P, T, W> {
     // Gathers all queues in one: what stands in the runners' goes to the global end, in order of
     // registration. Says whether there was something.
     pub(crate) fn gather(&mut self) -> bool
-        requires queue { IsQueue self.old.slots (self.old.state.lists.global ++ local_entries self.old.state.lists.locals) }
-        requires counted { length (self.old.state.lists.global ++ local_entries self.old.state.lists.locals) < 2 ^ 64 }
+        requires queue { IsQueue self.old.slots
+            (self.old.state.lists.global ++ local_entries self.old.state.lists.locals) }
+        requires counted { length
+            (self.old.state.lists.global ++ local_entries self.old.state.lists.locals) < 2 ^ 64 }
         ensures slots { self.new.slots ≡ self.old.slots }
         ensures lists { self.new.state ≡ with_lists (gathered self.old.state.lists) self.old.state }
         ensures moved { result ≡ nat_lt 0 (length (local_entries self.old.state.lists.locals)) }
@@ -485,7 +509,8 @@ impl<P, T, W> Queues<P, T, W> {
     pub(crate) fn search(&mut self, key: RunnerKey, word: u64) -> Option<TaskId>
         ensures found { result ≡ (search key.number word self.old.state.lists).0 }
         ensures slots { self.new.slots ≡ self.old.slots }
-        ensures lists { self.new.state ≡ with_lists (search key.number word self.old.state.lists).1 self.old.state }
+        ensures lists { self.new.state
+            ≡ with_lists (search key.number word self.old.state.lists).1 self.old.state }
     {
         let Some(own) = self.find(key) else {
             return self.take_front();
@@ -508,7 +533,8 @@ impl<P, T, W> Queues<P, T, W> {
     pub(crate) fn take_any(&mut self) -> Option<TaskId>
         ensures found { result ≡ (search_any self.old.state.lists).0 }
         ensures slots { self.new.slots ≡ self.old.slots }
-        ensures lists { self.new.state ≡ with_lists (search_any self.old.state.lists).1 self.old.state }
+        ensures lists { self.new.state
+            ≡ with_lists (search_any self.old.state.lists).1 self.old.state }
     {
         if let Some(id) = self.take_front() {
             return Some(id);
@@ -529,7 +555,12 @@ impl<P, T, W> Queues<P, T, W> {
         requires { own < length self.old.state.lists.locals }
         ensures front { result ≡ slice_get (entries_at own self.old.state.lists.locals) 0 }
         ensures slots { self.new.slots ≡ self.old.slots }
-        ensures rest { self.new.state ≡ with_lists (record self.old.state.lists { locals = with_entries own (drop 1 (entries_at own self.old.state.lists.locals)) self.old.state.lists.locals }) self.old.state }
+        ensures rest { self.new.state
+            ≡ with_lists
+            (record self.old.state.lists {
+              locals = with_entries own (drop 1 (entries_at own self.old.state.lists.locals))
+                  self.old.state.lists.locals;
+            }) self.old.state }
     {
         self.locals[own].ring.pop()
     }
@@ -539,8 +570,11 @@ impl<P, T, W> Queues<P, T, W> {
     fn steal_global(&mut self, own: usize) -> usize
         requires { own < length self.old.state.lists.locals }
         ensures slots { self.new.slots ≡ self.old.slots }
-        ensures lists { self.new.state ≡ with_lists (global_stolen own self.old.state.lists) self.old.state }
-        ensures count { result ≡ stolen self.old.state.lists.global (entries_at own self.old.state.lists.locals) (capacity_at own self.old.state.lists.locals) }
+        ensures lists { self.new.state
+            ≡ with_lists (global_stolen own self.old.state.lists) self.old.state }
+        ensures count { result
+            ≡ stolen self.old.state.lists.global (entries_at own self.old.state.lists.locals)
+            (capacity_at own self.old.state.lists.locals) }
     {
         steal_linked(&mut self.slots, &mut self.locals[own].ring)
     }
@@ -569,7 +603,8 @@ impl<P, T, W> Queues<P, T, W> {
     // The first of the other queues in which a task stands, from one position up to another.
     fn find_queued(&self, own: usize, start: usize, end: usize) -> Option<usize>
         requires { end ≤ length self.now.state.lists.locals }
-        ensures { result ≡ find (gives own self.now.state.lists.locals) (range_with_len start (end - start)) }
+        ensures { result
+            ≡ find (gives own self.now.state.lists.locals) (range_with_len start (end - start)) }
     {
         for other in start..end {
             if self.gives(own, other) {
@@ -593,7 +628,8 @@ impl<P, T, W> Queues<P, T, W> {
         requires to { to < length self.old.state.lists.locals }
         requires apart { from ≢ to }
         ensures slots { self.new.slots ≡ self.old.slots }
-        ensures lists { self.new.state ≡ with_lists (stolen_between from to self.old.state.lists) self.old.state }
+        ensures lists { self.new.state
+            ≡ with_lists (stolen_between from to self.old.state.lists) self.old.state }
     {
         steal_within(&mut self.locals, from, to);
     }
@@ -602,7 +638,8 @@ impl<P, T, W> Queues<P, T, W> {
     // tasks that are.
     pub(crate) fn fair(&mut self, key: RunnerKey) -> usize
         ensures slots { self.new.slots ≡ self.old.slots }
-        ensures lists { self.new.state ≡ with_lists (fair key.number self.old.state.lists) self.old.state }
+        ensures lists { self.new.state
+            ≡ with_lists (fair key.number self.old.state.lists) self.old.state }
         ensures count { result ≡ fair_count key.number self.old.state.lists }
     {
         match self.find(key) {
@@ -620,7 +657,8 @@ impl<P, T, W> Queues<P, T, W> {
 
     // `Cells::local_len`, for `Queues`: how many tasks stand in the queue at this position.
     pub(crate) fn local_len(&self, position: usize) -> Option<usize>
-        ensures { result ≡ option_map (λ q. length q.entries) (slice_get self.now.state.lists.locals position) }
+        ensures { result
+            ≡ option_map (λ q. length q.entries) (slice_get self.now.state.lists.locals position) }
     {
         match self.locals.get(position) {
             Some(local) => Some(local.ring.len()),
@@ -630,7 +668,9 @@ impl<P, T, W> Queues<P, T, W> {
 
     // `Cells::local_at`, for `Queues`: the number of the task at this place of the queue at this position.
     pub(crate) fn local_at(&self, position: usize, place: usize) -> Option<u64>
-        ensures { result ≡ option_map (λ id. id.number) (slice_get (entries_at position self.now.state.lists.locals) place) }
+        ensures { result
+            ≡ option_map
+            (λ id. id.number) (slice_get (entries_at position self.now.state.lists.locals) place) }
     {
         match self.locals.get(position) {
             Some(local) => local.ring.number_at(place),

@@ -58,7 +58,8 @@ impl<W> Model for Sleepers<W> {
 
     ghost view = { λ a. list_of a.notified a.unnotified.items a.free.items a.places a.is_open };
 
-    ghost invariant = { λ a. IsSoundList a.notified a.unnotified.items a.free.items a.places (vec_capacity a.unnotified) (vec_capacity a.free) };
+    ghost invariant = { λ a. IsSoundList a.notified a.unnotified.items a.free.items a.places
+        (vec_capacity a.unnotified) (vec_capacity a.free) };
 }
 
 // Room for this many items in all, sleepers or free numbers. If there is room, nothing is refused.
@@ -93,7 +94,8 @@ fn place_of<W>(pairs: &[(usize, W)], id: usize) -> Option<usize>
 // Puts the waker in the place of the sleeper's, which comes out; it comes back if there is none.
 fn replace_waker<W>(pairs: &mut Vec<(usize, W)>, id: usize, waker: W) -> Update<W>
     ensures items { pairs.new.items ≡ set_value (λ k. k == id) pairs.old.items waker }
-    ensures answer { MatchOption (lookup (λ k. k == id) pairs.old.items) (result ≡ Update.Unknown waker) (λ old. result ≡ Update.Asleep old) }
+    ensures answer { MatchOption (lookup (λ k. k == id) pairs.old.items)
+        (result ≡ Update.Unknown waker) (λ old. result ≡ Update.Asleep old) }
     ensures capacity { vec_capacity pairs.new ≡ vec_capacity pairs.old }
 {
     match place_of(pairs, id) {

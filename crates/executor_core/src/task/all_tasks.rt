@@ -58,10 +58,14 @@ impl<P, T, W> Cells<P, T, W> {
 // Cancels or wakes each task, by rising slot: an idle one goes to the end of the global queue.
 // Says whether one was idle.
 fn change_all<P, T, W>(queues: &mut Queues<P, T, W>, cancels: bool) -> bool
-    requires queue { IsQueue queues.old.slots (queues.old.state.lists.global ++ idle_ids 0 queues.old.slots) }
-    requires counted { length (queues.old.state.lists.global ++ idle_ids 0 queues.old.slots) < 2 ^ 64 }
+    requires queue { IsQueue queues.old.slots
+        (queues.old.state.lists.global ++ idle_ids 0 queues.old.slots) }
+    requires counted { length (queues.old.state.lists.global ++ idle_ids 0 queues.old.slots)
+        < 2 ^ 64 }
     ensures slots { queues.new.slots ≡ map (changed_slot (change_by cancels)) queues.old.slots }
-    ensures state { queues.new.state ≡ with_lists (pushed_all (idle_ids 0 queues.old.slots) queues.old.state.lists) queues.old.state }
+    ensures state { queues.new.state
+        ≡ with_lists
+        (pushed_all (idle_ids 0 queues.old.slots) queues.old.state.lists) queues.old.state }
     ensures idle { result ≡ nat_lt 0 (length (idle_ids 0 queues.old.slots)) }
 {
     let mut idle = false;
@@ -78,7 +82,9 @@ fn change_all<P, T, W>(queues: &mut Queues<P, T, W>, cancels: bool) -> bool
 
 // For the change of all tasks: cancels the one in this slot, or wakes it. Gives its id if it was idle.
 fn change_slot<P, T, W>(queues: &mut Queues<P, T, W>, slot: usize, cancels: bool) -> Option<TaskId>
-    ensures slots { queues.new.slots ≡ slice_set queues.old.slots slot (changed_slot (change_by cancels) (slice_index_or queues.old.slots slot None)) }
+    ensures slots { queues.new.slots
+        ≡ slice_set queues.old.slots slot
+        (changed_slot (change_by cancels) (slice_index_or queues.old.slots slot None)) }
     ensures state { queues.new.state ≡ queues.old.state }
     ensures idle { result ≡ idle_id slot (slice_index_or queues.old.slots slot None) }
 {

@@ -196,7 +196,8 @@ pub(crate) fn ready_cell<P, T, W>(
 ) -> (Option<Wakeup<W>>, Option<T>)
     requires { is_held cell.old.state ≡ true }
     ensures cell { cell.new ≡ readied cell.old output }
-    ensures answer { result ≡ (wakeup_of cell.old.awaiter, cond cell.old.cancelled (Some output) None) }
+    ensures answer { result
+        ≡ (wakeup_of cell.old.awaiter, cond cell.old.cancelled (Some output) None) }
 {
     let (state, unwanted) = if cell.cancelled {
         (CellState::Gone, Some(output))

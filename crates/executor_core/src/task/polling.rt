@@ -90,7 +90,8 @@ pub fn run_taken<P, T, Q: Poller<P, T>>(taken: Taken<P>, poller: &mut Q) -> Ran<
     ensures disposals { Q.disposals poller.new ≡ Q.disposals poller.old + cond taken.cancelled 1 0 }
     ensures ran { RanFrom taken result }
     ensures answered { AnsweredBy (Q.answers poller.old taken.id taken.future) result }
-    ensures disposed { taken.cancelled ≡ true → Q.disposed poller.old taken.id taken.future poller.new }
+    ensures disposed { taken.cancelled ≡ true
+        → Q.disposed poller.old taken.id taken.future poller.new }
 {
     let Taken {
         id,

@@ -119,7 +119,9 @@ impl<P, T, W> Slots<P, T, W> {
         requires { length self.old.queue + 1 < 2 ^ 64 }
         ensures number { IfOk result (λ id. id.number ≡ number) }
         ensures vacant { IfOk result (λ id. slice_index_or self.old.slots id.slot None ≡ None) }
-        ensures slots { IfOk result (λ id. Changes self.old.slots self.new.slots id.slot (Some (record { number = number; cell = new_cell future }))) }
+        ensures slots { IfOk result
+            (λ id. Changes self.old.slots self.new.slots id.slot
+            (Some (record { number = number; cell = new_cell future }))) }
         ensures queue { IfOk result (λ id. self.new.queue ≡ self.old.queue ++ id ∷ []) }
         ensures refused { IfErr result (λ back. (back ≡ future) × (self.new ≡ self.old)) }
     {
@@ -141,7 +143,8 @@ impl<P, T, W> Slots<P, T, W> {
         requires there { HasCell self.old.slots id }
         requires unqueued { IsQueue (slice_set self.old.slots id.slot None) self.old.queue }
         ensures value { slice_index_or self.old.slots id.slot None ≡ Some (numbered id result) }
-        ensures slots { self.new ≡ record self.old { slots = slice_set self.old.slots id.slot None } }
+        ensures slots { self.new
+            ≡ record self.old { slots = slice_set self.old.slots id.slot None } }
     {
         let Slot { entry, next: _ } = self.slots.remove(id.slot);
         let Numbered { number: _, cell } = entry;

@@ -63,7 +63,8 @@ impl<P, T, W> Model for Cells<P, T, W> {
 
     ghost view = { λ a. table_of a.next a.queues.slots a.queues.state a.closed };
 
-    ghost invariant = { λ a. IsSound a.next a.queues.slots (all_entries a.queues.state.lists) a.undropped };
+    ghost invariant = { λ a. IsSound a.next a.queues.slots
+        (all_entries a.queues.state.lists) a.undropped };
 }
 
 impl<P, T, W> Cells<P, T, W> {
@@ -193,7 +194,8 @@ impl<P, T, W> Cells<P, T, W> {
     pub fn drain_next(&mut self) -> Option<Taken<P>>
         ensures table { self.new ≡ after_drain_next self.old }
         ensures none { IfNone result (draining self.old ≡ []) }
-        ensures some { IfSome result (λ task. (self.old.closed ≡ true) × TakesFront self.old self.new.global task) }
+        ensures some { IfSome result
+            (λ task. (self.old.closed ≡ true) × TakesFront self.old self.new.global task) }
     {
         if !self.closed {
             return None;

@@ -62,7 +62,9 @@ impl<P, T: Copy> Cells<P, T, ()> {
     // rising slot.
     fn log_undropped(&self, cancels: bool, log: &mut Vec<Event<T>>)
         requires room { length log.old.items + self.now.next ≤ vec_capacity log.old }
-        ensures log { log.new.items ≡ log.old.items ++ map (mark_event cancels) (rising (λ c. is_undropped c.state) self.now.cells) }
+        ensures log { log.new.items
+            ≡ log.old.items
+            ++ map (mark_event cancels) (rising (λ c. is_undropped c.state) self.now.cells) }
         ensures few { length log.new.items ≤ length log.old.items + self.now.next }
         ensures capacity { vec_capacity log.new ≡ vec_capacity log.old }
     {
@@ -72,8 +74,10 @@ impl<P, T: Copy> Cells<P, T, ()> {
 
 // Logs the same for a close, or a leak, slot by slot.
 fn log_each<P, T: Copy, W>(queues: &Queues<P, T, W>, cancels: bool, log: &mut Vec<Event<T>>)
-    requires { length log.old.items + length (filter_map undropped_number queues.now.slots) ≤ vec_capacity log.old }
-    ensures log { log.new.items ≡ log.old.items ++ map (mark_event cancels) (filter_map undropped_number queues.now.slots) }
+    requires { length log.old.items + length (filter_map undropped_number queues.now.slots)
+        ≤ vec_capacity log.old }
+    ensures log { log.new.items
+        ≡ log.old.items ++ map (mark_event cancels) (filter_map undropped_number queues.now.slots) }
     ensures capacity { vec_capacity log.new ≡ vec_capacity log.old }
 {
     for slot in 0..queues.capacity() {

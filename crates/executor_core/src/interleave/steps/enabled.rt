@@ -103,7 +103,9 @@ impl<P: Drop, T: Copy> World<P, T> {
 
     // Whether the step that polls a ticker is enabled.
     fn may_poll(&self, k: usize) -> bool
-        ensures { result ≡ (at_rest (ticker k self.now).phase && may_search self.now.locals (ticker k self.now)) }
+        ensures { result
+            ≡ (at_rest (ticker k self.now).phase
+            && may_search self.now.locals (ticker k self.now)) }
     {
         let ticker = self.ticker(k);
         matches!(ticker.phase, Phase::Rest) && (!ticker.is_run() || self.has_queue(ticker))
@@ -111,7 +113,8 @@ impl<P: Drop, T: Copy> World<P, T> {
 
     // Whether the run may take a fair part or unregister: it is at rest, and its runner is registered.
     fn rests_registered(&self, k: usize) -> bool
-        ensures { result ≡ (at_rest (ticker k self.now).phase && has_queue self.now.locals (ticker k self.now)) }
+        ensures { result
+            ≡ (at_rest (ticker k self.now).phase && has_queue self.now.locals (ticker k self.now)) }
     {
         let ticker = self.ticker(k);
         matches!(ticker.phase, Phase::Rest) && self.has_queue(ticker)
@@ -119,7 +122,9 @@ impl<P: Drop, T: Copy> World<P, T> {
 
     // Whether the ticker may be dropped. One that has a number needs the sleepers' lock.
     fn may_drop_ticker(&self, k: usize) -> bool
-        ensures { result ≡ (may_go self.now.locals (ticker k self.now) && (is_awake (ticker k self.now) || not (is_some self.now.holder))) }
+        ensures { result
+            ≡ (may_go self.now.locals (ticker k self.now)
+            && (is_awake (ticker k self.now) || not (is_some self.now.holder))) }
     {
         let ticker = self.ticker(k);
         let may_go = match ticker.phase {

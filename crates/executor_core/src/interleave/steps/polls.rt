@@ -26,7 +26,8 @@ pub(crate) fn put_out<P: Drop, T: Copy>(
     requires room { length log.old.items < vec_capacity log.old }
     ensures entries { (e : TaskEntry P) → slice_get entries.old.items taken.id.number ≡ Some e
         → entries.new.items ≡ slice_set entries.old.items taken.id.number (out_entry e taken) }
-    ensures log { log.new.items ≡ log.old.items ++ Event.Took taken.id.number (purpose_of taken.cancelled) ∷ [] }
+    ensures log { log.new.items
+        ≡ log.old.items ++ Event.Took taken.id.number (purpose_of taken.cancelled) ∷ [] }
     ensures capacity { vec_capacity log.new ≡ vec_capacity log.old }
     ensures reply { result ≡ take_reply taken.id.number taken.cancelled }
 {

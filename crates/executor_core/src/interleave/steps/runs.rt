@@ -66,7 +66,8 @@ impl<P: Drop, T: Copy> World<P, T> {
 
     pub(crate) fn fair(&mut self, k: usize) -> Reply<T>
         requires room { self.old.accepted ≢ self.old.limit }
-        requires enabled { (at_rest (ticker k self.old).phase && has_queue self.old.locals (ticker k self.old)) ≡ true }
+        requires enabled { (at_rest (ticker k self.old).phase
+            && has_queue self.old.locals (ticker k self.old)) ≡ true }
         ensures { row (fair_row k self.old) result self.new }
     {
         self.accepted += 1;
@@ -78,7 +79,8 @@ impl<P: Drop, T: Copy> World<P, T> {
 
     pub(crate) fn unregister(&mut self, k: usize) -> Reply<T>
         requires room { self.old.accepted ≢ self.old.limit }
-        requires enabled { (at_rest (ticker k self.old).phase && has_queue self.old.locals (ticker k self.old)) ≡ true }
+        requires enabled { (at_rest (ticker k self.old).phase
+            && has_queue self.old.locals (ticker k self.old)) ≡ true }
         ensures { row (unregister_row k self.old) result self.new }
     {
         self.accepted += 1;

@@ -27,7 +27,8 @@ use crate::task::{Change, Notice, Taken};
 // For a ticker's step: takes its number out of the sleepers, and says whether it was notified.
 fn remove_number<P, T>(core: &mut Core<P, T, ()>, number: usize) -> bool
     requires { core.old.sleepers.is_open ≡ false }
-    ensures state { core.new ≡ record core.old { sleepers = after_remove core.old.sleepers number } }
+    ensures state { core.new
+        ≡ record core.old { sleepers = after_remove core.old.sleepers number } }
     ensures notified { result ≡ is_notified_number core.old.sleepers number }
     ensures law { SleeperLaw core.old.sleepers }
 {
@@ -48,9 +49,16 @@ fn search_of<P, T>(
     ticker: Ticker,
     word: u64,
 ) -> Option<(Taken<P>, Notice)>
-    ensures state { core.new ≡ record core.old { cells = search_to (found_by ticker.runner word (queues_of core.old.cells)) core.old.cells } }
-    ensures none { IfNone result ((found_by ticker.runner word (queues_of core.old.cells)).0 ≡ None) }
-    ensures some { IfSome result (λ r. TakesTask core.old.cells (found_by ticker.runner word (queues_of core.old.cells)).0 r.0) }
+    ensures state { core.new
+        ≡ record core.old {
+          cells = search_to
+              (found_by ticker.runner word (queues_of core.old.cells)) core.old.cells;
+        } }
+    ensures none { IfNone result
+        ((found_by ticker.runner word (queues_of core.old.cells)).0 ≡ None) }
+    ensures some { IfSome result
+        (λ r. TakesTask core.old.cells
+        (found_by ticker.runner word (queues_of core.old.cells)).0 r.0) }
 {
     match ticker.runner {
         Some(number) => core.search(RunnerKey { number }, word, None),
@@ -61,7 +69,12 @@ fn search_of<P, T>(
 // For the step that drops a ticker: gives the runner's place back if it is a new run.
 fn release_place<P, T>(core: &mut Core<P, T, ()>, ticker: Ticker, is_new: bool)
     requires { is_new ≡ is_new_run core.old.cells.locals ticker }
-    ensures { core.new ≡ record core.old { cells = record core.old.cells { free_places = cond is_new (core.old.cells.free_places - 1) core.old.cells.free_places } } }
+    ensures { core.new
+        ≡ record core.old {
+          cells = record core.old.cells {
+            free_places = cond is_new (core.old.cells.free_places - 1) core.old.cells.free_places;
+          };
+        } }
 {
     // A running ticker does this right after its end, under the sleepers' lock. In between only a new
     // ticker and an insertion look at the places, and one that has not ended finds its own free.
@@ -94,7 +107,8 @@ impl<P: Drop, T: Copy> World<P, T> {
 
     pub(crate) fn poll(&mut self, k: usize) -> Reply<T>
         requires room { self.old.accepted ≢ self.old.limit }
-        requires enabled { (at_rest (ticker k self.old).phase && may_search self.old.locals (ticker k self.old)) ≡ true }
+        requires enabled { (at_rest (ticker k self.old).phase
+            && may_search self.old.locals (ticker k self.old)) ≡ true }
         ensures { row (poll_row k self.old) result self.new }
     {
         self.accepted += 1;
@@ -131,7 +145,8 @@ impl<P: Drop, T: Copy> World<P, T> {
 
     pub(crate) fn sleep(&mut self, k: usize) -> Reply<T>
         requires room { self.old.accepted ≢ self.old.limit }
-        requires enabled { (in_sleep (ticker k self.old).phase && not (is_some self.old.holder)) ≡ true }
+        requires enabled { (in_sleep (ticker k self.old).phase && not (is_some self.old.holder))
+            ≡ true }
         ensures { row (sleep_row k self.old) result self.new }
     {
         if ticker_at(&self.tickers, k).is_awake() {
@@ -143,7 +158,8 @@ impl<P: Drop, T: Copy> World<P, T> {
 
     fn insert(&mut self, k: usize) -> Reply<T>
         requires room { self.old.accepted ≢ self.old.limit }
-        requires enabled { (in_sleep (ticker k self.old).phase && not (is_some self.old.holder)) ≡ true }
+        requires enabled { (in_sleep (ticker k self.old).phase && not (is_some self.old.holder))
+            ≡ true }
         requires awake { is_awake (ticker k self.old) ≡ true }
         ensures { row (insert_row k self.old) result self.new }
     {
@@ -161,7 +177,8 @@ impl<P: Drop, T: Copy> World<P, T> {
 
     fn update(&mut self, k: usize) -> Reply<T>
         requires room { self.old.accepted ≢ self.old.limit }
-        requires enabled { (in_sleep (ticker k self.old).phase && not (is_some self.old.holder)) ≡ true }
+        requires enabled { (in_sleep (ticker k self.old).phase && not (is_some self.old.holder))
+            ≡ true }
         requires asleep { is_awake (ticker k self.old) ≡ false }
         ensures { row (update_row k self.old) result self.new }
     {
@@ -195,7 +212,8 @@ impl<P: Drop, T: Copy> World<P, T> {
 
     pub(crate) fn remove(&mut self, k: usize) -> Reply<T>
         requires room { self.old.accepted ≢ self.old.limit }
-        requires enabled { (in_wake (ticker k self.old).phase && not (is_some self.old.holder)) ≡ true }
+        requires enabled { (in_wake (ticker k self.old).phase && not (is_some self.old.holder))
+            ≡ true }
         ensures { row (remove_row k self.old) result self.new }
     {
         self.accepted += 1;
@@ -228,7 +246,8 @@ impl<P: Drop, T: Copy> World<P, T> {
 
     pub(crate) fn drop_ticker(&mut self, k: usize) -> Reply<T>
         requires room { self.old.accepted ≢ self.old.limit }
-        requires enabled { (may_go self.old.locals (ticker k self.old) && (is_awake (ticker k self.old) || not (is_some self.old.holder))) ≡ true }
+        requires enabled { (may_go self.old.locals (ticker k self.old)
+            && (is_awake (ticker k self.old) || not (is_some self.old.holder))) ≡ true }
         ensures { row (drop_row k self.old) result self.new }
     {
         if ticker_at(&self.tickers, k).is_awake() {
@@ -255,7 +274,8 @@ impl<P: Drop, T: Copy> World<P, T> {
 
     fn drop_asleep(&mut self, k: usize) -> Reply<T>
         requires room { self.old.accepted ≢ self.old.limit }
-        requires enabled { (may_go self.old.locals (ticker k self.old) && not (is_some self.old.holder)) ≡ true }
+        requires enabled { (may_go self.old.locals (ticker k self.old)
+            && not (is_some self.old.holder)) ≡ true }
         requires asleep { is_awake (ticker k self.old) ≡ false }
         ensures { row (drop_row k self.old) result self.new }
     {
