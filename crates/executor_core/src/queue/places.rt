@@ -11,7 +11,6 @@ use crate::queue::runner::{RunnerError, RunnerKey};
 use crate::task::values::Notice;
 use std::alloc::AllocError;
 
-// The places of the runners.
 impl<P, T, W> Queues<P, T, W> {
     // `Cells::reserve_runner`, for `Queues`: one place more, and the key of a new runner.
     pub(crate) fn reserve_runner(&mut self) -> Result<RunnerKey, RunnerError>

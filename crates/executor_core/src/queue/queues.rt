@@ -440,7 +440,7 @@ fn move_all<P, T, W>(locals: &mut [LocalQueue], slots: &mut Slots<P, T, W>)
     }
 }
 
-// The places of the queues.
+// All queues as one, and where each stands.
 impl<P, T, W> Queues<P, T, W> {
     // Gathers all queues in one: what stands in the runners' goes to the global end, in order of
     // registration. Says whether there was something.
