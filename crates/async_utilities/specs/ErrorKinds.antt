@@ -10,8 +10,8 @@ use Rattle.async_utilities.specs.declared.timers.error.TimerError.{TimerError}
 use Rattle.async_utilities.specs.declared.timers.error.TimerError.TheVariants as timer
 use Rattle.async_utilities.specs.declared.channels.sender.Unsent.{Unsent}
 use Rattle.async_utilities.specs.declared.channels.sender.Unsent.TheVariants as unsent
-use Rattle.async_utilities.specs.declared.channels.receiver.NoMessage.{NoMessage}
-use Rattle.async_utilities.specs.declared.channels.receiver.NoMessage.TheVariants as none
+use Rattle.async_utilities.specs.declared.channels.state.NoMessage.{NoMessage}
+use Rattle.async_utilities.specs.declared.channels.state.NoMessage.TheVariants as none
 use Rattle.async_utilities.specs.declared.locks.Unavailable.{Unavailable}
 use Rattle.async_utilities.specs.declared.locks.Unavailable.TheVariants as unavailable
 

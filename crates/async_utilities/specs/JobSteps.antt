@@ -6,7 +6,7 @@ use Rattle.async_utilities.specs.WaitQueue.{Comes, Leaves, Notifies, Stays, Wait
 use Rattle.async_utilities.specs.WaitQueue.{Takes as TakesPlace}
 use Rattle.async_utilities.specs.declared.channels.sender.Unsent.{Unsent}
 use Rattle.async_utilities.specs.declared.channels.sender.Unsent.TheVariants.{Full, Closed, Refused}
-use Rattle.async_utilities.specs.declared.due.AllDue.{AllDue}
+use Rattle.async_utilities.specs.declared.wait_queue.AllDue.{AllDue}
 use Rattle.async_utilities.specs.declared.due.Due.{Due}
 use Rattle.async_utilities.specs.declared.due.Left.{Left}
 use Rattle.async_utilities.specs.declared.spawning.job_queue.JobQueue.{JobQueue}

@@ -1,7 +1,7 @@
 -- What sets a signal.
 use Rattle.async_utilities.specs.WaitQueue.{Takes, WaitsAt}
 use Rattle.std.specs.Prelude.{◌≡◌, ℕ, Option, None, Some, true, false, []}
-use Rattle.async_utilities.specs.declared.due.AllDue.{AllDue}
+use Rattle.async_utilities.specs.declared.wait_queue.AllDue.{AllDue}
 use Rattle.async_utilities.specs.declared.signals.State.{State}
 
 -- one takes a place, if the signal is not set

@@ -20,8 +20,9 @@ pub(crate) mod state;
 use crate::channels::state::State;
 use crate::locked::lock;
 use async_executor::{OutOfMemory, Wake};
-pub use receiver::{NoMessage, Receive, Receiver};
+pub use receiver::{Receive, Receiver};
 pub use sender::{Send, Sender, Unsent};
+pub use state::NoMessage;
 use std::alloc::Global;
 use std::sync::{Arc, Mutex, MutexGuard, Wait};
 

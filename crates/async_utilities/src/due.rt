@@ -1,5 +1,4 @@
 //! Wakers that are to be woken.
-use crate::wait_queue::WaitQueue;
 use async_executor::Wake;
 
 /// Whom a change has to wake, once no lock is held. It cannot be dropped: `wake` is its one end.
@@ -33,22 +32,6 @@ impl<W: Wake> Left<W> {
         let Left { waker, due } = self;
         drop(waker);
         due.wake();
-    }
-}
-
-/// All who waited at a thing, each of whom is to be woken once no lock is held, the first one first.
-/// It cannot be dropped: `wake` is its one end.
-pub(crate) struct AllDue<W> {
-    pub(crate) waiters: WaitQueue<W>,
-}
-
-impl<W: Wake> AllDue<W> {
-    /// Wakes all that are due, each once.
-    pub(crate) fn wake(self) {
-        let AllDue { mut waiters } = self;
-        while !waiters.is_empty() {
-            waiters.first().wake();
-        }
     }
 }
 

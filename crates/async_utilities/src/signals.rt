@@ -5,9 +5,8 @@ ghost use Rattle.async_utilities.specs.Polls.{IfReady};
 ghost use Rattle.async_utilities.specs.WaitQueue.{Parts, Stays, place_at, waker_of};
 ghost use Rattle.executor_core.specs.declared.task.future.Poll.TheVariants.{Pending as waits, Ready as ready};
 
-use crate::due::AllDue;
 use crate::locked::Locked;
-use crate::wait_queue::WaitQueue;
+use crate::wait_queue::{AllDue, WaitQueue};
 use async_executor::{Future, OutOfMemory, Poll, Wake};
 use std::alloc::Global;
 use std::mem::replace;

@@ -290,6 +290,22 @@ impl<W: Drop> WaitQueue<W> {
     }
 }
 
+/// All who waited at a thing, each of whom is to be woken once no lock is held, the first one first.
+/// It cannot be dropped: `wake` is its one end.
+pub(crate) struct AllDue<W> {
+    pub(crate) waiters: WaitQueue<W>,
+}
+
+impl<W: Wake> AllDue<W> {
+    /// Wakes all that are due, each once.
+    pub(crate) fn wake(self) {
+        let AllDue { mut waiters } = self;
+        while !waiters.is_empty() {
+            waiters.first().wake();
+        }
+    }
+}
+
 /// Notes where one waits from now on, and drops the waker that it left there before. If it could not
 /// wait, its waker is woken.
 #[inline(always)]

@@ -8,7 +8,7 @@ ghost use Rattle.digests.specs.Digests.{Adds, AddsAtMost, EndsByError, EndsOr, F
 use crate::blocks::{BLOCK_LEN, Block, Blocks};
 use crate::digesting::{Digesting, Step};
 use crate::source::Source;
-use async_executor::{Future, Poll, TaskWaker, Wake};
+use async_executor::{Executor, Future, Poll, Task, TaskWaker, Wake};
 use async_utilities::ThreadWaker;
 use std::alloc::{AllocError, Global};
 use std::io;
@@ -100,6 +100,12 @@ pub struct FileDigest<R: Wait + Drop> {
     inner: Option<Undigested>,
     shared: Arc<Shared<R>>,
 }
+
+/// The executor of the tasks of files.
+pub type Files<R> = Executor<FileDigest<R>, ThreadWaker, R>;
+
+/// A task of a file.
+pub type FileTask<R> = Task<FileDigest<R>, ThreadWaker, R>;
 
 impl<R: Wait + Drop> FileDigest<R> {
     /// The digest of the file of this name, which was opened, or cannot be.

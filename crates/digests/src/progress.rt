@@ -1,8 +1,7 @@
 //! The line of progress.
 use crate::failure::Failure;
-use crate::file_digest::{Answer, Shared};
+use crate::file_digest::{Answer, FileTask, Files, Shared};
 use crate::system::System;
-use crate::window::{FileTask, Files};
 use async_executor::{Cancelled, Executor, Future, Poll, TaskWaker};
 use async_utilities::{After, ThreadWaker, Timer};
 use std::alloc::Global;

@@ -4,11 +4,11 @@ ghost use Rattle.digests.specs.Statuses.{exit_status};
 
 use crate::arguments::{MOST_THREADS, Options, Word, Words, read_argument};
 use crate::failure::Failure;
-use crate::file_digest::Shared;
+use crate::file_digest::{Files, Shared};
 use crate::printer::{Printer, say};
 use crate::source::open_input;
 use crate::system::System;
-use crate::window::{Files, Window};
+use crate::window::Window;
 use async_utilities::Pool;
 use std::alloc::Global;
 use std::io::Stdin;

@@ -4,11 +4,10 @@ ghost use Rattle.std.specs.VecDeque.{deque_len};
 ghost use Rattle.digests.specs.Words.{is_input};
 
 use crate::failure::Failure;
-use crate::file_digest::{Answer, FileDigest, Shared};
+use crate::file_digest::{Answer, FileDigest, FileTask, Files, Shared};
 use crate::progress::Progress;
 use crate::source::{Source, is_input};
 use crate::system::System;
-use async_executor::{Executor, Task};
 use async_utilities::{ThreadWaker, run_until};
 use std::alloc::Global;
 use std::collections::VecDeque;
@@ -18,12 +17,6 @@ use std::sync::Arc;
 
 /// How many tasks are under way at most.
 pub const WINDOW: usize = 64;
-
-/// The executor of the tasks of files.
-pub type Files<R> = Executor<FileDigest<R>, ThreadWaker, R>;
-
-/// A task of a file.
-pub type FileTask<R> = Task<FileDigest<R>, ThreadWaker, R>;
 
 /// The tasks that are under way, the first one first. There is room for 64.
 #[derive(Drop)]

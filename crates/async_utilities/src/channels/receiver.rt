@@ -4,22 +4,11 @@ ghost use Rattle.std.specs.Arc.{arc_value};
 ghost use Rattle.async_utilities.specs.Polls.{IfReady};
 
 use crate::channels::Channel;
-use crate::channels::state::{Batch, Received, State};
+use crate::channels::state::{Batch, NoMessage, Received, State};
 use crate::due::Due;
 use crate::wait_queue::keep;
 use async_executor::{Future, OutOfMemory, Poll, Wake};
 use std::sync::{Arc, MutexGuard, Wait};
-
-/// Why no message was received.
-///
-/// Example: `uses::tries`, at `Unsent`.
-#[derive(Debug, Clone, Copy, PartialEq, Eq)]
-pub enum NoMessage {
-    /// There is none yet.
-    Empty,
-    /// There is none, and the channel is closed.
-    Closed,
-}
 
 /// Receives messages, in the order in which they were sent. A channel whose receivers are all dropped
 /// is closed: no message is taken any more.

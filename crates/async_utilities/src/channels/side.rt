@@ -2,8 +2,7 @@
 ghost use Rattle.std.specs.Prelude.{◌≡◌, ◌+◌, ◌-◌, ◌==◌, [], IfOk, OnErr, OnOk};
 ghost use Rattle.async_utilities.specs.WaitQueue.{Stays};
 
-use crate::due::AllDue;
-use crate::wait_queue::WaitQueue;
+use crate::wait_queue::{AllDue, WaitQueue};
 use std::alloc::{AllocError, Global};
 use std::mem::replace;
 

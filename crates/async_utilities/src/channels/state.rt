@@ -6,14 +6,25 @@ ghost use Rattle.std.specs.Prelude.{◌≡◌, ◌≤◌, ◌<◌, ◌-◌, ◌=
 ghost use Rattle.std.specs.VecDeque.{deque_capacity};
 ghost use Rattle.async_utilities.specs.Channels.{AreGone};
 ghost use Rattle.async_utilities.specs.WaitQueue.{IsServed};
-ghost use Rattle.async_utilities.specs.declared.channels.receiver.NoMessage.TheVariants as none;
+ghost use Rattle.async_utilities.specs.declared.channels.state.NoMessage.TheVariants as none;
 
-use crate::channels::receiver::NoMessage;
 use crate::channels::side::Side;
-use crate::due::{AllDue, Due, Left};
+use crate::due::{Due, Left};
+use crate::wait_queue::AllDue;
 use async_executor::Wake;
 use std::alloc::{AllocError, Global};
 use std::collections::VecDeque;
+
+/// Why no message was received.
+///
+/// Example: `uses::tries`, at `Unsent`.
+#[derive(Debug, Clone, Copy, PartialEq, Eq)]
+pub enum NoMessage {
+    /// There is none yet.
+    Empty,
+    /// There is none, and the channel is closed.
+    Closed,
+}
 
 /// What came of a message. V is the waker of a receiver.
 pub(crate) enum Sent<T, V> {

@@ -8,8 +8,8 @@ ghost use Rattle.async_utilities.specs.Jobs.{IsDone, most};
 ghost use Rattle.async_utilities.specs.WaitQueue.{IsServed};
 
 use crate::channels::Unsent;
-use crate::due::{AllDue, Due, Left};
-use crate::wait_queue::WaitQueue;
+use crate::due::{Due, Left};
+use crate::wait_queue::{AllDue, WaitQueue};
 use std::alloc::{AllocError, Global};
 use std::collections::VecDeque;
 use std::mem::replace;

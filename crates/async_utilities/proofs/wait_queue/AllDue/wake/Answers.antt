@@ -1,6 +1,6 @@
 use Rattle.std.proofs.Common.{sym, ◌∙◌}
 use Rattle.async_utilities.proofs.WaitLemmas.{steps_shorter}
-use Rattle.async_utilities.proofs.due.AllDue.wake.Goals as goal
+use Rattle.async_utilities.proofs.wait_queue.AllDue.wake.Goals as goal
 
 pub loop-waiters-smaller : goal.loop-waiters-smaller
 loop-waiters-smaller g c =

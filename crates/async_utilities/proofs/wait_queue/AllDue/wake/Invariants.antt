@@ -1,5 +1,5 @@
 use Rattle.std.proofs.Common.{length}
-use Rattle.async_utilities.proofs.due.AllDue.wake.Given as goal
+use Rattle.async_utilities.proofs.wait_queue.AllDue.wake.Given as goal
 
 abbrev pub invariant-loop-waiters : goal.invariant-loop-waiters
 invariant-loop-waiters g l = Unit {0}
