@@ -10,7 +10,6 @@ use std::fmt::{Display, Formatter, Write};
 use std::rt::Clock;
 use std::sync::Wait;
 use std::thread::Threads;
-use std::time::Instant;
 
 /// How many tasks a row has.
 const TASKS: u64 = 1_000;
@@ -101,11 +100,7 @@ impl Busy {
         let polls = yields.saturating_add(1);
         let threads = self.threads as usize;
         match self.runs {
-            Runs::NeverPark => {
-                let start = Instant::now(rt).ok()?;
-                run_copies(rt, alloc, self.threads, TASKS, future)?;
-                Ran::since(rt, start, polls.saturating_mul(TASKS))
-            }
+            Runs::NeverPark => run_copies(rt, alloc, self.threads, TASKS, future, polls),
             Runs::Park => parked_copies(rt, alloc, threads, TASKS, future, polls),
             Runs::ParkOnShards => working_copies(rt, alloc, threads, TASKS, yields, steps),
         }

@@ -3,7 +3,8 @@
 //! `bench NAME N R` runs the row NAME with N operations, R times over, and prints the name, N, and
 //! the seconds and the nanoseconds an operation of the fastest run. R is 5 if it is left out;
 //! unless it is 1, one run more goes before, to warm up. The time is that of the whole row, unless
-//! the row prepares more than an executor: that is left out then. `bench list` prints the names.
+//! the row prepares more than an executor: what comes before its operations and after them is left
+//! out then. `bench list` prints the names.
 //! Without arguments each row is run once at a small N, with few idle tasks, and the number of its
 //! operations that did what they were to do is printed.
 #![tactic(auto)]

@@ -190,6 +190,9 @@ impl Row {
     ) -> Option<Ran> {
         match self {
             Row::WakeOneOf(tasks) => wake_one_of(rt, alloc, tasks, operations),
+            Row::YieldRun => run_yields(rt, alloc, 1, 1, operations),
+            Row::ThreadsYield(threads) => threads_yield(rt, alloc, threads, operations),
+            Row::ThreadsSpawn(threads) => threads_spawn(rt, alloc, threads, operations),
             Row::ParkedYield(threads) => parked_yield(rt, alloc, threads, operations),
             Row::OneSpawner(threads) => one_spawner(rt, alloc, threads, operations),
             Row::Busy(row) => row.run(rt, alloc, operations),
@@ -227,7 +230,6 @@ impl Row {
             Row::YieldTick => yield_tick(rt, alloc, operations),
             Row::SleepWake => sleep_wake(rt, alloc, operations),
             Row::PriorityTryTick => priority_try_tick(rt, alloc, operations),
-            Row::YieldRun => run_yields(rt, alloc, 1, 1, operations),
             Row::YieldBesideRuns(others) => yield_beside_runs(rt, alloc, others, operations),
             Row::PingPong => ping_pong(rt, alloc, operations),
             Row::IdleRun(others) => idle_run(rt, alloc, others, operations),
@@ -240,8 +242,6 @@ impl Row {
             Row::SpawnTryTick4k => spawn_large(rt, alloc, operations),
             Row::SpawnTryTick4kBoxed => spawn_boxed(rt, alloc, operations),
             Row::ThreadsTryTick(threads) => threads_try_tick(rt, alloc, threads, operations),
-            Row::ThreadsYield(threads) => threads_yield(rt, alloc, threads, operations),
-            Row::ThreadsSpawn(threads) => threads_spawn(rt, alloc, threads, operations),
             _ => self.run_by_ticks(rt, alloc, operations),
         }
     }

@@ -2,10 +2,13 @@
 //!
 //! Their executors have a type of their own, and so code of their own.
 use crate::futures::{Rally, Yields};
+use crate::timing::{Barrier, Ran};
 use async_executor::{Executor, Future, OutOfMemory, Poll, TaskWaker, Wake};
 use std::alloc::Global;
+use std::rt::Clock;
 use std::sync::Wait;
 use std::thread::{self, Threads};
+use std::time::Instant;
 
 /// How many tasks a row of many tasks has.
 const TASKS: u64 = 1_000;
@@ -51,94 +54,109 @@ where
     Some(())
 }
 
-/// Has a run on each of this many threads run so many tasks with copies of this future. `None` if
-/// memory was refused.
-pub fn run_copies<F, R>(rt: &R, alloc: Global, threads: u32, tasks: u64, future: &F) -> Option<()>
+/// Has a run on each of this many threads run so many tasks with copies of this future, each of which is
+/// polled this often. `None` if memory or the time was refused.
+pub fn run_copies<F, R>(
+    rt: &R,
+    alloc: Global,
+    threads: u32,
+    tasks: u64,
+    future: &F,
+    polls: u64,
+) -> Option<Ran>
 where
     F: Future<TaskWaker<IdleRunner, R>, Output = u64> + Copy + Send + Sync,
-    R: Wait + Clone + Drop + Send + Sync + Threads,
+    R: Wait + Clone + Drop + Send + Sync + Threads + Clock,
 {
     let ex = Executor::new(rt.clone().ok()?, alloc).ok()?;
     for _ in 0..tasks {
         ex.spawn(*future).ok()?.detach();
     }
-    on_threads(rt, threads, &ex, 0, future)
+    let start = on_threads(rt, threads, &ex, 0, future)?;
+    Ran::since(rt, start, tasks.saturating_mul(polls))
 }
 
 /// Has a run on each of this many threads run so many tasks that wake themselves, each of which is
-/// polled as often, so that all together are polled this often or a little more. Gives the number
-/// of polls.
-pub fn run_yields<R: Wait + Clone + Drop + Send + Sync + Threads>(
+/// polled as often, so that all together are polled this often or a little more. They were spawned before.
+pub fn run_yields<R: Wait + Clone + Drop + Send + Sync + Threads + Clock>(
     rt: &R,
     alloc: Global,
     threads: u32,
     tasks: u64,
     operations: u64,
-) -> Option<u64> {
+) -> Option<Ran> {
     let yields = operations.saturating_sub(1) / tasks.max(1);
-    run_copies(rt, alloc, threads, tasks, &Yields::after(yields))?;
-    Some(yields.saturating_add(1).saturating_mul(tasks))
+    let polls = yields.saturating_add(1);
+    run_copies(rt, alloc, threads, tasks, &Yields::after(yields), polls)
 }
 
 /// Has 1,000 tasks that wake themselves run on this many threads.
-pub fn threads_yield<R: Wait + Clone + Drop + Send + Sync + Threads>(
+pub fn threads_yield<R: Wait + Clone + Drop + Send + Sync + Threads + Clock>(
     rt: &R,
     alloc: Global,
     threads: u32,
     operations: u64,
-) -> Option<u64> {
+) -> Option<Ran> {
     run_yields(rt, alloc, threads, TASKS, operations)
 }
 
 /// Spawns and detaches this many tasks that are ready at their first poll, the same number on each
-/// of this many threads, and has a run on each of them run tasks. Gives how many were spawned.
-pub fn threads_spawn<R: Wait + Clone + Drop + Send + Sync + Threads>(
+/// of this many threads, and has a run on each of them run tasks.
+pub fn threads_spawn<R: Wait + Clone + Drop + Send + Sync + Threads + Clock>(
     rt: &R,
     alloc: Global,
     threads: u32,
     operations: u64,
-) -> Option<u64> {
+) -> Option<Ran> {
     let ex = Executor::new(rt.clone().ok()?, alloc).ok()?;
     let each = operations / u64::from(threads.max(1));
-    on_threads(rt, threads, &ex, each, &Yields::READY)?;
-    Some(each.saturating_mul(u64::from(threads)))
+    let start = on_threads(rt, threads, &ex, each, &Yields::READY)?;
+    Ran::since(rt, start, each.saturating_mul(u64::from(threads)))
 }
 
-// Has each of this many threads spawn so many copies of this future and then run tasks.
+// Has each of this many threads spawn so many copies of this future and then run tasks. Gives when they
+// began.
 fn on_threads<F, R>(
     rt: &R,
     threads: u32,
     ex: &Executor<F, IdleRunner, R>,
     spawns: u64,
     future: &F,
-) -> Option<()>
+) -> Option<Instant>
 where
     F: Future<TaskWaker<IdleRunner, R>, Output = u64> + Copy + Send + Sync,
-    R: Wait + Clone + Drop + Send + Sync + Threads,
+    R: Wait + Clone + Drop + Send + Sync + Threads + Clock,
 {
-    let work = move || spawn_and_run(rt, ex, spawns, future);
+    let barrier = &Barrier::new(u64::from(threads));
+    let work = move || spawn_and_run(rt, ex, spawns, future, barrier);
     thread::scope(thread::scope_env(), rt, |scope| {
         for _ in 1..threads {
-            let _ = scope.spawn(work);
+            if scope.spawn(work).is_err() {
+                barrier.leave();
+            }
         }
         work()
     })
 }
 
+// Spawns so many copies of this future and then runs tasks, once all threads are there. Gives when they were.
 fn spawn_and_run<F, R>(
     rt: &R,
     ex: &Executor<F, IdleRunner, R>,
     spawns: u64,
     future: &F,
-) -> Option<()>
+    barrier: &Barrier,
+) -> Option<Instant>
 where
     F: Future<TaskWaker<IdleRunner, R>, Output = u64> + Copy + Send,
-    R: Wait + Clone + Drop + Send + Sync,
+    R: Wait + Clone + Drop + Send + Sync + Clock,
 {
+    let start = barrier.wait(rt)?;
     for _ in 0..spawns {
         ex.spawn(*future).ok()?.detach();
     }
-    run_all(rt, ex, &IdleRunner)
+    run_all(rt, ex, &IdleRunner)?;
+    Some(start)
 }
 
 /// Has a run run two tasks that wake each other. Gives the number of polls.

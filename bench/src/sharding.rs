@@ -5,7 +5,7 @@
 use crate::futures::Yields;
 use crate::parking::{Left, Stop, Stopped, ThreadWaker, block_on, pause};
 use crate::running::Never;
-use crate::timing::Ran;
+use crate::timing::{Barrier, Ran};
 use async_executor::{Future, OutOfMemory, Poll, TaskWaker, Wake};
 use sharded_executor::ShardedExecutor;
 use std::alloc::Global;
@@ -111,23 +111,42 @@ where
     ShardedExecutor::new(rt.clone().ok()?, alloc, shards).ok()
 }
 
+/// What the threads of a row tell one another.
+#[derive(Drop)]
+struct Told {
+    // They begin once all are there.
+    barrier: Barrier,
+    // How many have seen their own shard empty.
+    ended: AtomicU64,
+}
+
+impl Told {
+    // Has nobody wait for this thread, which does nothing more.
+    fn give_up(&self) {
+        self.barrier.leave();
+        self.ended.fetch_add(1, Ordering::SeqCst);
+    }
+}
+
 // Spawns so many tasks on the shard of this number, and polls its run until that shard and those of the
-// other threads are empty. `None` if there is no such shard, or memory is refused.
-fn run_all<R: Wait + Clone + Drop + Send + Sync>(
+// other threads are empty. Gives when the threads began. `None` if there is no such shard, or memory or the
+// time is refused.
+fn run_all<R: Wait + Clone + Drop + Send + Sync + Clock>(
     rt: &R,
     ex: &ShardedExecutor<Yields, IdleShard, R>,
     number: usize,
     spawns: u64,
-    ended: &AtomicU64,
-) -> Option<()> {
+    told: &Told,
+) -> Option<Instant> {
     if number >= ex.shards() {
         return None;
     }
     let shard = ex.shard(number);
+    let mut run = ex.run(number, Never).ok()?;
+    let start = told.barrier.wait(rt)?;
     for _ in 0..spawns {
         shard.spawn(Yields::READY).ok()?.detach();
     }
-    let mut run = ex.run(number, Never).ok()?;
     for _ in rt.forever() {
         run.poll(&IdleShard);
         if shard.is_empty() {
@@ -135,57 +154,68 @@ fn run_all<R: Wait + Clone + Drop + Send + Sync>(
         }
     }
     // Each thread asks its own shard alone: to ask the others again and again would take their locks.
-    ended.fetch_add(1, Ordering::SeqCst);
+    told.ended.fetch_add(1, Ordering::SeqCst);
     for _ in rt.forever() {
-        if ended.load(Ordering::SeqCst) == ex.shards() as u64 {
+        if told.ended.load(Ordering::SeqCst) >= ex.shards() as u64 {
             break;
         }
         run.poll(&IdleShard);
     }
-    Some(())
+    Some(start)
 }
 
-// Has each of so many threads spawn so many tasks on a shard of its own and run tasks.
-fn on_threads<R: Wait + Clone + Drop + Send + Sync + Threads>(
+// Has each of so many threads spawn so many tasks on a shard of its own and run tasks. Gives when they began.
+fn on_threads<R: Wait + Clone + Drop + Send + Sync + Threads + Clock>(
     rt: &R,
     ex: &ShardedExecutor<Yields, IdleShard, R>,
     spawns: u64,
-) -> Option<()> {
-    let ended = AtomicU64::new(0);
-    let told = &ended;
+) -> Option<Instant> {
+    let told = &Told {
+        barrier: Barrier::new(ex.shards() as u64),
+        ended: AtomicU64::new(0),
+    };
+    let work = move |number| {
+        let start = run_all(rt, ex, number, spawns, told);
+        if start.is_none() {
+            told.give_up();
+        }
+        start
+    };
     thread::scope(thread::scope_env(), rt, |scope| {
         for number in 1..ex.shards() {
-            let _ = scope.spawn(move || run_all(rt, ex, number, spawns, told));
+            if scope.spawn(move || work(number)).is_err() {
+                told.give_up();
+            }
         }
-        run_all(rt, ex, 0, spawns, told)
+        work(0)
     })
 }
 
-fn yields<R: Wait + Clone + Drop + Send + Sync + Threads>(
+fn yields<R: Wait + Clone + Drop + Send + Sync + Threads + Clock>(
     rt: &R,
     alloc: Global,
     threads: usize,
     operations: u64,
-) -> Option<u64> {
+) -> Option<Ran> {
     let ex = executor(rt, alloc, threads)?;
     let each = operations.saturating_sub(1) / TASKS;
     for _ in 0..TASKS {
         ex.spawn(Yields::after(each)).ok()?.detach();
     }
-    on_threads(rt, &ex, 0)?;
-    Some(each.saturating_add(1).saturating_mul(TASKS))
+    let start = on_threads(rt, &ex, 0)?;
+    Ran::since(rt, start, each.saturating_add(1).saturating_mul(TASKS))
 }
 
-fn spawns<R: Wait + Clone + Drop + Send + Sync + Threads>(
+fn spawns<R: Wait + Clone + Drop + Send + Sync + Threads + Clock>(
     rt: &R,
     alloc: Global,
     threads: usize,
     operations: u64,
-) -> Option<u64> {
+) -> Option<Ran> {
     let ex = executor(rt, alloc, threads)?;
     let each = operations.checked_div(threads as u64).unwrap_or(0);
-    on_threads(rt, &ex, each)?;
-    Some(each.saturating_mul(threads as u64))
+    let start = on_threads(rt, &ex, each)?;
+    Ran::since(rt, start, each.saturating_mul(threads as u64))
 }
 
 fn cycles<R: Wait + Clone + Drop + Send + Sync>(
@@ -365,9 +395,11 @@ impl Sharded {
             is_on_one,
         };
         match self {
-            Sharded::Yield(_) | Sharded::Spawn(_) | Sharded::Cycle(_) => {
+            Sharded::Yield(threads) => yields(rt, alloc, threads, operations),
+            Sharded::Spawn(threads) => spawns(rt, alloc, threads, operations),
+            Sharded::Cycle(shards) => {
                 let start = Instant::now(rt).ok()?;
-                let count = self.run_whole(rt, alloc, operations)?;
+                let count = cycles(rt, alloc, shards, operations)?;
                 Ran::since(rt, start, count)
             }
             Sharded::Parked(threads) => {
@@ -384,21 +416,6 @@ impl Sharded {
             Sharded::WakeLatency(threads) => {
                 beside_runs(rt, alloc, threads, Work::Each { tasks: operations })
             }
-        }
-    }
-
-    // The rows that are measured as a whole.
-    fn run_whole<R: Wait + Clone + Drop + Send + Sync + Threads>(
-        self,
-        rt: &R,
-        alloc: Global,
-        operations: u64,
-    ) -> Option<u64> {
-        match self {
-            Sharded::Yield(threads) => yields(rt, alloc, threads, operations),
-            Sharded::Spawn(threads) => spawns(rt, alloc, threads, operations),
-            Sharded::Cycle(shards) => cycles(rt, alloc, shards, operations),
-            _ => None,
         }
     }
 }
