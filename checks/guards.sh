@@ -100,7 +100,7 @@ done
 # first come first.
 for crate in $(sed -n 's/^\([a-z_]*\)[ :].*/\1/p' "$crates"; cd "$copy" && ls | sed -n 's/\.guards$//p'); do
     [ -f "$copy/$crate.guards" ] || continue
-    (cd "$copy/parts" && split -l 70 "$copy/$crate.guards" "$crate." && ls "$crate".*)
+    (cd "$copy/parts" && split -l 90 "$copy/$crate.guards" "$crate." && ls "$crate".*)
     rm "$copy/$crate.guards"
 done > "$copy/order"
 for lane in one two; do
