@@ -4,21 +4,25 @@
 //! before the thread sleeps. But what a lock guards goes from one processor to another with it, and a
 //! hold then takes several times as long. While the work between two holds is shorter than that, one
 //! thread alone does more than several in turn, and a waiter that tries early takes from all. If the work
-//! is longer, a waiter that pauses idles. So each lock keeps how long its waiters pause first:
+//! is longer, a waiter that pauses idles.
+//!
+//! Only long pauses tell which it is: one waiter at a time tries then, and the others wait for its turn to
+//! end. So nearly all of the time one thread alone works with what the lock guards, and how often a waiter
+//! finds the lock free tells how long that thread works between two holds. Pauses are short at first. After
+//! some waits long ones are tried, and each waiter changes them:
 //!
 //! ```text
-//! tries in vain    after a short pause    after a long one
-//! none             a quarter less         a quarter less
-//! one              as it was              half more
-//! more             half more              twice as long
+//! tries in vain    the next long pause
+//! none             a sixth less
+//! one              half more
+//! more             twice as long
 //! ```
 //!
-//! While pauses are long, one waiter at a time tries, and the others wait for its turn to end. So nearly
-//! all of the time one thread alone works with what the lock guards, and how often a waiter finds the
-//! lock free tells how long that thread works between two holds.
+//! If the next one would be short, the trial is over, and twice as many waits come before another. Once a
+//! pause is the longest, as few do as before the first.
 ghost use Rattle.std.specs.Prelude.{◌≡◌, ◌<◌, ◌≤◌};
 
-use std::cmp::{max, min};
+use std::cmp::min;
 use std::hint::spin_loop;
 use std::sync::atomic::{AtomicBool, AtomicU32, Ordering};
 use std::sync::{Mutex, MutexGuard, Wait};
@@ -34,14 +38,22 @@ pub(crate) type Border = [u64; 16];
 
 pub(crate) const BORDER: Border = [0; 16];
 
-// A pause before a try, in spins of the processor: the least, and the most. A spin takes 12 cycles on some
-// processors and 140 on others, so the most is 40 microseconds or half a millisecond.
-const SHORTEST: u32 = 4;
+// A pause before a try, in spins of the processor: a short one, the first one of a trial, and the longest. A
+// spin takes 12 cycles on some processors and 140 on others, so the longest is 40 microseconds or half a
+// millisecond.
+const SHORT: u32 = 4;
+
+const TRIAL: u32 = 512;
 
 const LONGEST: u32 = 8192;
 
 // From here on a pause is long.
 const LONG: u32 = 128;
+
+// How many waits with short pauses there are between two trials of long ones: at first, and at most.
+const FEWEST: u32 = 64;
+
+const MOST: u32 = 65536;
 
 // How often a thread tries before it sleeps, each time after twice as long a pause, up to the most.
 const TRIES: u32 = 16;
@@ -52,7 +64,11 @@ const TRIES: u32 = 16;
 pub(crate) struct Lock<T> {
     pub(crate) mutex: Mutex<T>,
     before_pause: CacheLine,
+    // What the next waiter pauses first.
     pause: AtomicU32,
+    // How many waits are left until long pauses are tried again, and how many there are in all.
+    waits_left: AtomicU32,
+    waits: AtomicU32,
     // Whether a waiter has the turn to try.
     is_taken: AtomicBool,
 }
@@ -63,7 +79,9 @@ impl<T> Lock<T> {
         Lock {
             mutex: Mutex::new(value),
             before_pause: APART,
-            pause: AtomicU32::new(SHORTEST),
+            pause: AtomicU32::new(SHORT),
+            waits_left: AtomicU32::new(FEWEST),
+            waits: AtomicU32::new(FEWEST),
             is_taken: AtomicBool::new(false),
         }
     }
@@ -104,15 +122,39 @@ impl<T> Lock<T> {
         false
     }
 
-    // Keeps what the next waiter pauses first, after so many tries in vain, and ends the turn of this one.
+    // Keeps what a waiter learned that paused so long first, and tried so often in vain, and ends its turn.
     fn learn(&self, first: u32, tries: u32, has_turn: bool) {
-        let next = learned(first, tries);
-        if next != first {
-            self.pause.store(next, Ordering::SeqCst);
+        if first < LONG {
+            self.count_wait();
+        } else {
+            self.change_pause(learned(first, tries));
         }
         if has_turn {
             self.is_taken.store(false, Ordering::SeqCst);
         }
+    }
+
+    // Counts a wait with short pauses. After the last one that is left, long ones are tried.
+    fn count_wait(&self) {
+        match self.waits_left.load(Ordering::SeqCst).checked_sub(1) {
+            Some(left) => self.waits_left.store(left, Ordering::SeqCst),
+            None => self.pause.store(TRIAL, Ordering::SeqCst),
+        }
+    }
+
+    // Has the next waiter pause so long first, if that is long. Else the trial is over.
+    fn change_pause(&self, next: u32) {
+        if next < LONG {
+            let waits = later(self.waits.load(Ordering::SeqCst));
+            self.waits.store(waits, Ordering::SeqCst);
+            self.waits_left.store(waits, Ordering::SeqCst);
+            self.pause.store(SHORT, Ordering::SeqCst);
+            return;
+        }
+        if next == LONGEST {
+            self.waits.store(FEWEST, Ordering::SeqCst);
+        }
+        self.pause.store(next, Ordering::SeqCst);
     }
 }
 
@@ -125,18 +167,23 @@ fn spin(pause: u32) {
 
 // What the next waiter pauses first, if this one paused so long first, and tried so often in vain.
 fn learned(first: u32, tries: u32) -> u32
-    ensures least { SHORTEST ≤ result }
+    requires long { LONG ≤ first }
     ensures most { result ≤ LONGEST }
-    ensures free { tries ≡ 0 → SHORTEST < first → result < first }
-    ensures taken { 1 < tries → first < LONGEST → first < result }
-    ensures long { LONG ≤ first → 0 < tries → first < LONGEST → first < result }
+    ensures free { tries ≡ 0 → result < first }
+    ensures taken { 0 < tries → first < LONGEST → first < result }
 {
-    let is_long = LONG <= first;
-    let next = match (tries, is_long) {
-        (0, _) => first - first / 4,
-        (1, false) => first,
-        (1, true) | (_, false) => first.saturating_add(first / 2),
-        (_, true) => first.saturating_mul(2),
+    let next = match tries {
+        0 => first - first / 6,
+        1 => first.saturating_add(first / 2),
+        _ => first.saturating_mul(2),
     };
-    max(SHORTEST, min(next, LONGEST))
+    min(next, LONGEST)
+}
+
+// How many waits there are before the next trial, if there were so many before one that is over.
+fn later(waits: u32) -> u32
+    ensures most { result ≤ MOST }
+    ensures more { 0 < waits → waits < MOST → waits < result }
+{
+    min(waits.saturating_mul(2), MOST)
 }
