@@ -46,12 +46,12 @@ impl<S: Drop, R: Wait + Drop> Locked<S, R> {
 }
 
 // How often a thread tries again before it sleeps.
-const TRIES: u32 = 8;
+const TRIES: u32 = 9;
 
 // Its first pause and its longest, in spins of the processor. A spin takes 12 cycles on some processors and
-// 140 on others, and all pauses together have 6,016. A thread that tries sooner takes the line of the lock
+// 140 on others, and all pauses together have 5,088. A thread that tries sooner takes the line of the lock
 // from the one that holds it.
-const SHORTEST: u32 = 128;
+const SHORTEST: u32 = 32;
 
 const LONGEST: u32 = 1024;
 

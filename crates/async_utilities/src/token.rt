@@ -23,8 +23,8 @@ const NOTIFIED: u32 = 1;
 const PARKED: u32 = 2;
 
 // How often a thread looks before it sleeps, with a spin of the processor after each. A spin takes 12 cycles
-// on some processors and 140 on others, so that is one microsecond or fifteen.
-const LOOKS: u32 = 256;
+// on some processors and 140 on others, so that is half a microsecond or seven.
+const LOOKS: u32 = 128;
 
 /// One token, for one thread at a time.
 #[derive(Drop)]
