@@ -14,7 +14,7 @@ set -eu
 # Copies the repository, with the program as a crate.
 lay_out() {
     copy_sources
-    add_crate bench ' may_wait=144: executor_core async_executor priority_executor sharded_executor async_utilities'
+    add_crate bench ' may_wait=146: executor_core async_executor priority_executor sharded_executor async_utilities'
     cp "$top/bench/stdout" "$copy/crates/bench/stdout"
 }
 

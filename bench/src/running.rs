@@ -128,35 +128,38 @@ where
     R: Wait + Clone + Drop + Send + Sync + Threads + Clock,
 {
     let barrier = &Barrier::new(u64::from(threads));
-    let work = move || spawn_and_run(rt, ex, spawns, future, barrier);
     thread::scope(thread::scope_env(), rt, |scope| {
         for _ in 1..threads {
+            let work = move || {
+                barrier.wait(rt)?;
+                spawn_and_run(rt, ex, spawns, future)
+            };
             if scope.spawn(work).is_err() {
                 barrier.leave();
             }
         }
-        work()
+        let start = barrier.open(rt)?;
+        spawn_and_run(rt, ex, spawns, future)?;
+        Some(start)
     })
 }
 
-// Spawns so many copies of this future and then runs tasks, once all threads are there. Gives when they were.
+// Spawns so many copies of this future and then runs tasks.
 fn spawn_and_run<F, R>(
     rt: &R,
     ex: &Executor<F, IdleRunner, R>,
     spawns: u64,
     future: &F,
-    barrier: &Barrier,
-) -> Option<Instant>
+) -> Option<()>
 where
     F: Future<TaskWaker<IdleRunner, R>, Output = u64> + Copy + Send,
     R: Wait + Clone + Drop + Send + Sync + Clock,
 {
-    let start = barrier.wait(rt)?;
     for _ in 0..spawns {
         ex.spawn(*future).ok()?.detach();
     }
     run_all(rt, ex, &IdleRunner)?;
-    Some(start)
+    Some(())
 }
 
 /// Has a run run two tasks that wake each other. Gives the number of polls.

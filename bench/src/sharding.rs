@@ -143,7 +143,11 @@ fn run_all<R: Wait + Clone + Drop + Send + Sync + Clock>(
     }
     let shard = ex.shard(number);
     let mut run = ex.run(number, Never).ok()?;
-    let start = told.barrier.wait(rt)?;
+    let start = if number == 0 {
+        told.barrier.open(rt)?
+    } else {
+        told.barrier.wait(rt)?
+    };
     for _ in 0..spawns {
         shard.spawn(Yields::READY).ok()?.detach();
     }

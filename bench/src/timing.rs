@@ -38,16 +38,30 @@ impl Barrier {
         }
     }
 
-    /// Waits until all threads are there, and gives the time then. `None` if the time is refused.
+    /// Waits until all threads are there, and gives the time then or later. `None` if the time is refused.
     pub fn wait(&self, rt: &(impl Wait + Clock)) -> Option<Instant> {
         self.leave();
+        self.wait_for(rt, self.threads);
+        Instant::now(rt).ok()
+    }
+
+    /// As `wait` for one of the threads, which is the last one there: so none begins before the time that it
+    /// gives.
+    pub fn open(&self, rt: &(impl Wait + Clock)) -> Option<Instant> {
+        self.wait_for(rt, self.threads.saturating_sub(1));
+        let start = Instant::now(rt).ok();
+        self.leave();
+        start
+    }
+
+    // Waits until so many threads are there.
+    fn wait_for(&self, rt: &impl Wait, threads: u64) {
         for _ in rt.forever() {
-            if self.there.load(Ordering::SeqCst) >= self.threads {
+            if self.there.load(Ordering::SeqCst) >= threads {
                 break;
             }
             spin_loop();
         }
-        Instant::now(rt).ok()
     }
 
     /// Has nobody wait for this thread, which may have been there.
