@@ -153,13 +153,12 @@ fn spawn_and_run<F, R>(
 ) -> Option<()>
 where
     F: Future<TaskWaker<IdleRunner, R>, Output = u64> + Copy + Send,
-    R: Wait + Clone + Drop + Send + Sync + Clock,
+    R: Wait + Clone + Drop + Send + Sync,
 {
     for _ in 0..spawns {
         ex.spawn(*future).ok()?.detach();
     }
-    run_all(rt, ex, &IdleRunner)?;
-    Some(())
+    run_all(rt, ex, &IdleRunner)
 }
 
 /// Has a run run two tasks that wake each other. Gives the number of polls.
