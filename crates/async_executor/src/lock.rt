@@ -20,7 +20,7 @@
 //!
 //! If the next one would be short, the trial is over, and twice as many waits come before another. Once a
 //! pause is the longest, as few do as before the first.
-ghost use Rattle.std.specs.Prelude.{◌≡◌, ◌<◌, ◌≤◌};
+ghost use Rattle.std.specs.Prelude.{◌≡◌, ◌+◌, ◌-◌, ◌*◌, ◌/◌, ◌<◌, ◌≤◌, min};
 
 use std::cmp::min;
 use std::hint::spin_loop;
@@ -168,9 +168,9 @@ fn spin(pause: u32) {
 // What the next waiter pauses first, if this one paused so long first, and tried so often in vain.
 fn learned(first: u32, tries: u32) -> u32
     requires long { LONG ≤ first }
-    ensures most { result ≤ LONGEST }
-    ensures free { tries ≡ 0 → result < first }
-    ensures taken { 0 < tries → first < LONGEST → first < result }
+    ensures free { tries ≡ 0 → result ≡ min (first - first / 6) LONGEST }
+    ensures once { tries ≡ 1 → result ≡ min (first + first / 2) LONGEST }
+    ensures taken { 1 < tries → result ≡ min (2 * first) LONGEST }
 {
     let next = match tries {
         0 => first - first / 6,
@@ -182,8 +182,7 @@ fn learned(first: u32, tries: u32) -> u32
 
 // How many waits there are before the next trial, if there were so many before one that is over.
 fn later(waits: u32) -> u32
-    ensures most { result ≤ MOST }
-    ensures more { 0 < waits → waits < MOST → waits < result }
+    ensures { result ≡ min (2 * waits) MOST }
 {
     min(waits.saturating_mul(2), MOST)
 }
