@@ -86,6 +86,24 @@ pub fn made_with<'a, R: Wait + Clone + Drop + Send + Sync>(
     }
 }
 
+// Spawns a task, each second one by `try_spawn`, which waits for nobody, since nobody else is there.
+fn spawn_one<'a, R: Wait + Clone + Drop + Send + Sync>(
+    ex: &AddingExecutor<'a, R>,
+    future: Adds<'a>,
+    outcome: &mut Outcome,
+) -> Result<Task<Adds<'a>, CountingWaker<'a>, R>, SpawnError<Adds<'a>>> {
+    if future.number % 2 == 0 {
+        return ex.spawn(future);
+    }
+    match ex.try_spawn(future) {
+        Ok(spawned) => spawned,
+        Err(future) => {
+            outcome.expect(false);
+            ex.spawn(future)
+        }
+    }
+}
+
 // Spawns a task, and again if that is refused.
 fn spawned<'a, R: Wait + Clone + Drop + Send + Sync>(
     ex: &AddingExecutor<'a, R>,
@@ -93,7 +111,7 @@ fn spawned<'a, R: Wait + Clone + Drop + Send + Sync>(
     outcome: &mut Outcome,
 ) {
     let number = future.number;
-    let refusal = match ex.spawn(future) {
+    let refusal = match spawn_one(ex, future, outcome) {
         Ok(task) => return task.detach(),
         Err(refusal) => refusal,
     };
@@ -102,7 +120,7 @@ fn spawned<'a, R: Wait + Clone + Drop + Send + Sync>(
     outcome.expect(ex.is_empty() == (number == 0));
     let future = refusal.into_inner();
     outcome.expect(future.number == number);
-    match ex.spawn(future) {
+    match spawn_one(ex, future, outcome) {
         Ok(task) => task.detach(),
         Err(_) => outcome.expect(false),
     }

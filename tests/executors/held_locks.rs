@@ -12,7 +12,7 @@ use async_executor::{Executor, Task};
 use executor_core::task::{Future, Wake};
 use std::fmt::Write;
 use std::mem::forget;
-use std::sync::atomic::AtomicU64;
+use std::sync::atomic::{AtomicBool, AtomicU64, Ordering};
 use std::sync::{Arc, Wait};
 use std::test::Fail;
 use std::thread::Threads;
@@ -110,6 +110,55 @@ fn woken_beside_runs<R: AllocGlobal + Wait + Threads + Clone + Drop + Send + Syn
 #[test]
 fn a_wake_waits_for_the_table(rt: HostRuntime) -> Result<(), Fail> {
     assert_eq!(rt; woken_beside_runs(&rt)?, (true, true));
+    Ok(())
+}
+
+// Whether a future is given back that is tried to be spawned beside a spawn, which halts at this request,
+// and whether the try waits.
+fn tried_beside_a_spawn<R: AllocGlobal + Wait + Threads + Clone + Drop + Send + Sync>(
+    rt: &R,
+    request: u32,
+) -> Result<Option<(bool, bool)>, Fail> {
+    let it = Fixture::new(rt)?;
+    let (future, tried) = (it.future(Never)?, it.future(Never)?);
+    let is_back = AtomicBool::new(false);
+    let seen = beside_request(
+        rt,
+        request,
+        || drop(it.ex.spawn(future)),
+        || is_back.store(it.ex.try_spawn(tried).is_err(), Ordering::SeqCst),
+        || (),
+    );
+    Ok(seen.map(|seen| (is_back.load(Ordering::SeqCst), seen.waits)))
+}
+
+fn tried_beside_spawns<R: AllocGlobal + Wait + Threads + Clone + Drop + Send + Sync>(
+    rt: &R,
+) -> Result<(bool, bool), Fail> {
+    beside_each!(request, tried_beside_a_spawn(rt, request)?)
+}
+
+// A spawn makes each of its requests while it has the futures.
+#[test]
+fn a_try_to_spawn_waits_for_no_spawn(rt: HostRuntime) -> Result<(), Fail> {
+    assert_eq!(rt; tried_beside_spawns(&rt)?, (true, false));
+    Ok(())
+}
+
+// How often a future is polled that is tried to be spawned while nobody is at work.
+fn tried_alone<R: AllocGlobal + Wait + Clone + Drop + Send + Sync>(rt: &R) -> Result<u64, Fail> {
+    let it = Fixture::new(rt)?;
+    match it.ex.try_spawn(it.future(Never)?) {
+        Ok(spawned) => spawned.ok().ok_or("refused")?.detach(),
+        Err(_) => return Err("given back".into()),
+    }
+    it.ex.try_tick();
+    Ok(it.record.times(FuturePoll))
+}
+
+#[test]
+fn a_try_to_spawn_spawns_while_nobody_is_at_work(rt: HostRuntime) -> Result<(), Fail> {
+    assert_eq!(rt; tried_alone(&rt)?, 1);
     Ok(())
 }
 

@@ -29,6 +29,21 @@ pub fn spawns<R: Wait + Clone + Drop + Send + Sync>(
     Ok([before, task.poll(&NoopWaker)])
 }
 
+/// The output of a task that is spawned at once if nobody is at work.
+pub fn spawns_at_once<R: Wait + Clone + Drop + Send + Sync>(
+    rt: &R,
+    alloc: Global,
+) -> io::Result<Poll<Result<u64, Cancelled>>> {
+    let executor = Executor::new(rt.clone()?, alloc)?;
+    let mut task = match executor.try_spawn(Ready::new(7)) {
+        Ok(spawned) => spawned?,
+        Err(future) => executor.spawn(future)?,
+    };
+    executor.try_tick();
+    // Ready(Ok(7))
+    Ok(task.poll(&NoopWaker))
+}
+
 /// How many tasks were spawned, and how many handles there are.
 pub fn spawns_three<R: Wait + Clone + Drop + Send + Sync>(
     rt: &R,

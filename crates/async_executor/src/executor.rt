@@ -150,6 +150,44 @@ where
         Ok(Task { inner })
     }
 
+    /// As `spawn`, unless another thread spawns, takes or ends a task of this executor just now: then the
+    /// future is given back at once, so that who has another place for it need not wait.
+    ///
+    /// The Rust crate has no such call.
+    ///
+    /// # Errors
+    ///
+    /// The future, if such a thread is at work. `Ok` has what `spawn` gives, its errors too. All is as before
+    /// if the future is given back.
+    ///
+    /// Example: `uses::spawns_at_once`.
+    ///
+    /// ```text
+    /// let executor = Executor::new(rt.clone()?, alloc)?;
+    /// let mut task = match executor.try_spawn(Ready::new(7)) {
+    ///     Ok(spawned) => spawned?,
+    ///     Err(future) => executor.spawn(future)?,
+    /// };
+    /// executor.try_tick();
+    /// // Ready(Ok(7))
+    /// Ok(task.poll(&NoopWaker))
+    /// ```
+    pub fn try_spawn(&self, future: F) -> Result<Result<Task<F, W, R>, SpawnError<F>>, F>
+        ensures ok { IfOk result (λ spawned. IfOk spawned (λ task. task.inner.answered ≡ false)) }
+        ensures refused { IfOk result (λ spawned. IfErr spawned (λ e. refused_future e ≡ future)) }
+        ensures taken { IfErr result (λ back. back ≡ future) }
+    {
+        match transactions::try_spawn(&self.inner.storage, future) {
+            Ok(Ok((storage, id, notice))) => {
+                announce!(self.inner.storage.state(), notice);
+                let inner = TaskIn::new(storage, id);
+                Ok(Ok(Task { inner }))
+            }
+            Ok(Err(error)) => Ok(Err(error)),
+            Err(future) => Err(future),
+        }
+    }
+
     /// Schedules each future that the iterator gives as a new task, in turn, and puts its handle at
     /// the end of the Vec. For each of them the place of its handle is reserved first, then the
     /// iterator is asked, and then it is spawned as by `spawn`: no lock is held while the iterator is

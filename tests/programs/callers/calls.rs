@@ -16,10 +16,14 @@ const WOKEN: [Poll<()>; 2] = [Poll::Pending, Poll::Ready(())];
 fn of_executors<R: Wait + Clone + Drop + Send + Sync>(
     rt: &R,
     alloc: Global,
-) -> io::Result<[Line; 15]> {
+) -> io::Result<[Line; 16]> {
     Ok([
         ("awaits_seven", executors::awaits_seven(rt, alloc)? == 7),
         ("spawns", executors::spawns(rt, alloc)? == FIRST_PENDING),
+        (
+            "spawns_at_once",
+            executors::spawns_at_once(rt, alloc)? == Poll::Ready(Ok(7)),
+        ),
         (
             "spawns_three",
             executors::spawns_three(rt, alloc)? == (3, 3),

@@ -3,7 +3,7 @@
 //!
 //! A transaction polls nothing, drops nothing of a task's and wakes nobody: what is to be dropped or
 //! woken is part of its answer. No guard outlives it.
-ghost use Rattle.std.specs.Prelude.{◌≡◌, false, IfErr};
+ghost use Rattle.std.specs.Prelude.{◌≡◌, false, IfErr, IfOk};
 ghost use Rattle.executor_core.specs.SpawnError.{refused_future};
 ghost use Rattle.async_executor.specs.Deferred.{IsHeldRight, IsDeferredRight, IsEndRight};
 
@@ -45,6 +45,27 @@ pub enum EndThenSearch<W, T> {
     Unfinished(Deferred<W, T>),
 }
 
+/// Makes a task of this future, which holds this share of the state, and keeps the future under this guard of
+/// the futures. A macro, since by a function, even an inline one, each spawn takes some instructions more.
+macro_rules! insert {
+    ($guard:expr, $state:expr, $future:expr) => {{
+        let futures = $guard.get();
+        if futures.reserve().is_err() {
+            Err(SpawnError::OutOfMemory($future))
+        } else {
+            let spawned = cells!(&$state).spawn(());
+            match spawned {
+                Ok((id, notice)) => {
+                    futures.insert(id, $future, $state);
+                    Ok((id, notice))
+                }
+                Err(SpawnError::OutOfMemory(())) => Err(SpawnError::OutOfMemory($future)),
+                Err(SpawnError::Exhausted(())) => Err(SpawnError::Exhausted($future)),
+            }
+        }
+    }};
+}
+
 /// Makes a task of this future and keeps the future. Its place is made before the task is queued.
 /// If that is refused, all is as before.
 #[inline(always)]
@@ -58,18 +79,31 @@ pub(crate) fn spawn<S: Shareable>(
         return Err(SpawnError::OutOfMemory(future));
     };
     let mut guard = futures!(storage);
-    let futures = guard.get();
-    if futures.reserve().is_err() {
-        return Err(SpawnError::OutOfMemory(future));
-    }
-    let spawned = cells!(&state).spawn(());
-    match spawned {
-        Ok((id, notice)) => {
-            futures.insert(id, future, state);
-            Ok((id, notice))
-        }
-        Err(SpawnError::OutOfMemory(())) => Err(SpawnError::OutOfMemory(future)),
-        Err(SpawnError::Exhausted(())) => Err(SpawnError::Exhausted(future)),
+    insert!(guard, state, future)
+}
+
+/// As `spawn`, with another share of the storage, unless somebody has the futures: then this one is given
+/// back.
+#[inline(always)]
+pub(crate) fn try_spawn<S: Shareable>(
+    storage: &S,
+    future: S::Future,
+) -> Result<Result<(S, TaskId, Notice), SpawnError<S::Future>>, S::Future>
+    ensures refused { IfOk result (λ spawned. IfErr spawned (λ e. refused_future e ≡ future)) }
+    ensures taken { IfErr result (λ back. back ≡ future) }
+{
+    let Some(guard) = storage.try_futures() else {
+        return Err(future);
+    };
+    let mut guard = guard;
+    let (Ok(share), Ok(state)) = (storage.share(), storage.share_state()) else {
+        return Ok(Err(SpawnError::OutOfMemory(future)));
+    };
+    let inserted = insert!(guard, state, future);
+    drop(guard);
+    match inserted {
+        Ok((id, notice)) => Ok(Ok((share, id, notice))),
+        Err(error) => Ok(Err(error)),
     }
 }
 
