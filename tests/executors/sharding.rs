@@ -1,4 +1,5 @@
 //! An executor with shards, its runs, and the sleepers and workers of which these are made.
+use crate::tests::support::running::beside::beside_request;
 use crate::tests::support::running::job::{Job, Left, digit, waker};
 use crate::tests::support::running::record::Moment;
 use crate::tests::support::running::waker::TestWaker;
@@ -71,6 +72,29 @@ fn tasks_go_to_the_shards_in_turn(rt: HostRuntime) -> Result<(), Fail> {
     Ok(())
 }
 
+// Spawns so many tasks, each on the shard whose turn it is. `None` if one is refused.
+fn spawn_all<R: Wait + AllocGlobal + Clone + Drop + Send + Sync>(
+    ex: &Shards<R>,
+    ran: &Arc<AtomicU64>,
+    spawns: u64,
+) -> Option<()> {
+    for _ in 0..spawns {
+        ex.spawn(digit(1, ran).ok()?).ok()?.detach();
+    }
+    Some(())
+}
+
+// How many tasks stand in each of two shards.
+fn counts<R: Wait + AllocGlobal + Clone + Drop + Send + Sync>(ex: &Shards<R>) -> [u64; 2] {
+    let mut counts = [0u64; 2];
+    for (number, count) in counts.iter_mut().enumerate() {
+        while number < ex.shards() && ex.shard(number).try_tick() {
+            *count = count.wrapping_add(1);
+        }
+    }
+    counts
+}
+
 // How many tasks stand in each of two shards after so many spawns.
 fn spread<R: Wait + AllocGlobal + Clone + Drop + Send + Sync>(
     rt: &R,
@@ -78,22 +102,53 @@ fn spread<R: Wait + AllocGlobal + Clone + Drop + Send + Sync>(
 ) -> Result<[u64; 2], Fail> {
     let ran = Arc::new(rt.alloc(), AtomicU64::new(0))?;
     let ex = shards(rt, 2)?;
-    for _ in 0..spawns {
-        ex.spawn(digit(1, &ran)?).ok().ok_or("refused")?.detach();
-    }
-    let mut counts = [0u64; 2];
-    for (number, count) in counts.iter_mut().enumerate() {
-        while number < ex.shards() && ex.shard(number).try_tick() {
-            *count = count.wrapping_add(1);
-        }
-    }
-    Ok(counts)
+    spawn_all(&ex, &ran, spawns).ok_or("refused")?;
+    Ok(counts(&ex))
 }
 
 #[test]
 fn many_tasks_go_to_each_shard_in_a_row(rt: HostRuntime) -> Result<(), Fail> {
     let counts = [spread(&rt, 31)?, spread(&rt, 32)?, spread(&rt, 47)?, spread(&rt, 50)?, spread(&rt, 65)?];
     assert_eq!(rt; counts, [[16, 15], [16, 16], [31, 16], [32, 18], [33, 32]]);
+    Ok(())
+}
+
+// Whether one of so many spawns waits while a spawn on the first of two shards halts, and how many tasks
+// stand in each after so many more. The one that halts is refused.
+fn missed<R: Wait + Threads + AllocGlobal + Clone + Drop + Send + Sync>(
+    rt: &R,
+    spawns: u64,
+    more: u64,
+) -> Result<Option<(bool, [u64; 2])>, Fail> {
+    let ran = Arc::new(rt.alloc(), AtomicU64::new(0))?;
+    let ex = shards(rt, 2)?;
+    let job = digit(1, &ran)?;
+    let seen = beside_request(
+        rt,
+        1,
+        || {
+            if ex.shards() > 0 {
+                drop(ex.shard(0).spawn(job));
+            }
+        },
+        || drop(spawn_all(&ex, &ran, spawns)),
+        || (),
+    );
+    spawn_all(&ex, &ran, more).ok_or("refused")?;
+    Ok(seen.map(|seen| (seen.waits, counts(&ex))))
+}
+
+#[test]
+fn a_shard_at_work_misses_spawns_and_makes_up_for_them(rt: HostRuntime) -> Result<(), Fail> {
+    assert_eq!(rt; missed(&rt, 1, 1)?, Some((false, [1, 1])));
+    assert_eq!(rt; missed(&rt, 32, 65)?, Some((false, [49, 48])));
+    Ok(())
+}
+
+#[test]
+fn a_shard_misses_sixteen_spawns_at_most(rt: HostRuntime) -> Result<(), Fail> {
+    assert_eq!(rt; missed(&rt, 32, 0)?, Some((false, [0, 32])));
+    assert_eq!(rt; missed(&rt, 33, 0)?, Some((true, [1, 32])));
     Ok(())
 }
 

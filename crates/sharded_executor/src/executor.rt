@@ -7,20 +7,17 @@ ghost use Rattle.executor_core.specs.declared.limits.NewError.TheVariants as New
 
 use crate::progress::Count;
 use crate::run::ShardedRun;
+use crate::spreading::{Spread, counts};
 use async_executor::{
     Executor, Future, Limits, NewError, OutOfMemory, RunError, SpawnError, Task, TaskWaker, Wake,
 };
 use std::alloc::Global;
 use std::fmt::{self, Debug, Formatter, Write};
 use std::sync::Wait;
-use std::sync::atomic::Ordering;
 
 /// So many words lie unused before and behind what each shard allocates as it is made, so that no two shards
 /// have parts on neighbouring cache lines.
 const UNUSED: usize = 512;
-
-/// So many tasks a shard are spread one by one, and after that so many in a row go to each.
-const IN_A_ROW: u64 = 16;
 
 /// An executor of N shards, each of which is an `Executor`.
 ///
@@ -57,11 +54,11 @@ where
     unused: Vec<Vec<u64>>,
     // How many turns the runs of each shard had.
     turns: Vec<Count>,
-    // How many spawns there were, modulo 2^64.
-    next: Count,
+    spread: Spread,
     alloc: Global,
     ghost some: { 0 < vec_len shards },
     ghost counted: { vec_len turns ≡ vec_len shards },
+    ghost spawned: { vec_len spread.missed ≡ vec_len shards },
 }
 
 impl<F, W, R> ShardedExecutor<F, W, R>
@@ -112,12 +109,13 @@ where
             return Err(NewError::BadLimits);
         }
         let turns = counts(alloc, count)?;
+        let spread = Spread::new(alloc, count)?;
         match shards(rt, alloc, count, limits) {
             Ok((shards, unused)) => Ok(ShardedExecutor {
                 shards,
                 unused,
                 turns,
-                next: Count::new(),
+                spread,
                 alloc,
             }),
             Err(OutOfMemory) => Err(NewError::OutOfMemory),
@@ -126,9 +124,11 @@ where
 
     /// Schedules the future as a new task of a shard, behind all of that shard that are scheduled. The
     /// first sixteen tasks of each shard go to the shards in turn, so that few tasks are spread; after
-    /// that sixteen in a row go to each shard in turn, so that many cost less. It takes no lock to find
-    /// the shard: threads that spawn at once meet at one atomic count. One that has a shard of its own
-    /// spawns there, by `shard`.
+    /// that sixteen in a row go to each shard in turn, so that many cost less. If another thread spawns,
+    /// takes or ends a task of that shard just now, the next shard has this one instead, and the first
+    /// makes up for it at a later turn of that one. No shard misses more than sixteen. It takes no lock
+    /// to find the shard: threads that spawn at once meet at one atomic count. One that has a shard of
+    /// its own spawns there, by `shard`.
     ///
     /// # Errors
     ///
@@ -140,40 +140,42 @@ where
         ensures ok { IfOk result (λ task. task.inner.answered ≡ false) }
         ensures refused { IfErr result (λ e. refused_future e ≡ future) }
     {
-        let shards = self.shards.len();
-        let at = if shards == 1 {
-            0
-        } else {
-            // One count for all: one for each thread would need a place for it.
-            shard_of(self.next.count.fetch_add(1, Ordering::SeqCst), shards)
+        let count = self.shards.len();
+        if count == 1 {
+            return self.shards[0].spawn(future);
+        }
+        let turn = self.spread.next();
+        let before = if turn > 0 { turn - 1 } else { count - 1 };
+        let future = match self.make_up(before, future) {
+            Ok(spawned) => return spawned,
+            Err(future) => future,
         };
-        self.shards[at].spawn(future)
+        let future = match self.shards[turn].try_spawn(future) {
+            Ok(spawned) => return spawned,
+            Err(future) => future,
+        };
+        let next = if turn + 1 < count { turn + 1 } else { 0 };
+        let shard = if self.spread.misses(turn) { next } else { turn };
+        self.shards[shard].spawn(future)
     }
-}
 
-// The shard of the spawn of this number, of so many shards. Who spawns on another shard than before takes
-// the cache lines of that shard from the thread that runs it, and gives them back.
-fn shard_of(number: u64, shards: usize) -> usize
-    requires { 0 < shards }
-    ensures inside { result < shards }
-    ensures first { number / 16 < shards → result ≡ number % shards }
-    ensures later { shards ≤ number / 16 → result ≡ number / 16 % shards }
-{
-    let shards = shards as u64;
-    let row = number / IN_A_ROW;
-    let turn = if row < shards { number } else { row };
-    (turn % shards) as usize
-}
-
-// The counts of turns of a new `ShardedExecutor`, for so many shards.
-fn counts(alloc: Global, count: usize) -> Result<Vec<Count>, OutOfMemory>
-    ensures { IfOk result (λ counts. vec_len counts ≡ count) }
-{
-    let mut counts = Vec::with_capacity(alloc, count)?;
-    for made in 0..count {
-        counts.push_reserved(Count::new());
+    // Schedules the future as a new task of this shard, if that has missed a spawn and nobody is at work
+    // there. Else the future is given back.
+    fn make_up(&self, shard: usize, future: F) -> Result<Result<Task<F, W, R>, SpawnError<F>>, F>
+        requires { shard < vec_len self.now.shards }
+        ensures ok { IfOk result (λ spawned. IfOk spawned (λ task. task.inner.answered ≡ false)) }
+        ensures refused { IfOk result (λ spawned. IfErr spawned (λ e. refused_future e ≡ future)) }
+        ensures back { IfErr result (λ back. back ≡ future) }
+    {
+        if !self.spread.owes(shard) {
+            return Err(future);
+        }
+        let spawned = self.shards[shard].try_spawn(future);
+        if spawned.is_ok() {
+            self.spread.makes_up(shard);
+        }
+        spawned
     }
-    Ok(counts)
 }
 
 // Allocates what lies between two shards.

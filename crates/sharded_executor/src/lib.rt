@@ -28,6 +28,7 @@ pub mod executor;
 pub(crate) mod members;
 pub(crate) mod progress;
 pub mod run;
+pub(crate) mod spreading;
 
 pub use executor::ShardedExecutor;
 pub use run::ShardedRun;
