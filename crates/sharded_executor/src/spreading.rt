@@ -62,7 +62,7 @@ impl Spread {
         requires { shard < vec_len self.now.missed }
     {
         let missed = self.missed[shard].count.load(Ordering::SeqCst);
-        missed < MOST_MISSED && self.counts(shard, missed, missed + 1)
+        missed < MOST_MISSED && self.replaces(shard, missed, missed + 1)
     }
 
     /// Says that the shard has made up for a spawn.
@@ -72,12 +72,13 @@ impl Spread {
         let missed = self.missed[shard].count.load(Ordering::SeqCst);
         if missed > 0 {
             // In vain if another thread counts just now: then the shard has one task too many.
-            self.counts(shard, missed, missed - 1);
+            self.replaces(shard, missed, missed - 1);
         }
     }
 
-    // Counts so many missed spawns of the shard in place of so many, unless another thread counts just now.
-    fn counts(&self, shard: usize, from: u64, to: u64) -> bool
+    // Replaces the count of missed spawns of the shard, unless another thread counts just now, and says
+    // whether it did.
+    fn replaces(&self, shard: usize, from: u64, to: u64) -> bool
         requires { shard < vec_len self.now.missed }
     {
         self.missed[shard]
