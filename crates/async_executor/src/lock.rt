@@ -13,13 +13,13 @@
 //!
 //! ```text
 //! tries in vain    the next long pause
-//! none             a sixth less
+//! none             a seventh less
 //! one              half more
 //! more             twice as long
 //! ```
 //!
-//! If the next one would be short, the trial is over, and twice as many waits come before another. Once a
-//! pause is the longest, as few do as before the first.
+//! If the next one would be short, the trial is over, and twice as many waits come before another. If even
+//! the longest was in vain, as few do as before the first.
 ghost use Rattle.std.specs.Prelude.{◌≡◌, ◌+◌, ◌-◌, ◌*◌, ◌/◌, ◌<◌, ◌≤◌, min};
 
 use std::cmp::min;
@@ -39,16 +39,17 @@ pub(crate) type Border = [u64; 16];
 pub(crate) const BORDER: Border = [0; 16];
 
 // A pause before a try, in spins of the processor: a short one, the first one of a trial, and the longest. A
-// spin takes 12 cycles on some processors and 140 on others, so the longest is 40 microseconds or half a
+// spin takes 12 cycles on some processors and 140 on others, so the longest is 80 microseconds or a
 // millisecond.
 const SHORT: u32 = 4;
 
-const TRIAL: u32 = 512;
+const TRIAL: u32 = 4096;
 
-const LONGEST: u32 = 8192;
+const LONGEST: u32 = 16384;
 
-// From here on a pause is long.
-const LONG: u32 = 128;
+// From here on a pause is long: two threads at work meet at the lock before it is over, and one of them waits
+// for the turn. So the waiter that tries then learns of one that works alone.
+const LONG: u32 = 2048;
 
 // How many waits with short pauses there are between two trials of long ones: at first, and at most.
 const FEWEST: u32 = 64;
@@ -127,7 +128,7 @@ impl<T> Lock<T> {
         if first < LONG {
             self.count_wait();
         } else {
-            self.change_pause(learned(first, tries));
+            self.change_pause(first, learned(first, tries));
         }
         if has_turn {
             self.is_taken.store(false, Ordering::SeqCst);
@@ -142,8 +143,9 @@ impl<T> Lock<T> {
         }
     }
 
-    // Has the next waiter pause so long first, if that is long. Else the trial is over.
-    fn change_pause(&self, next: u32) {
+    // Has the next waiter pause so long first, after one that paused so long, if that is long. Else the trial
+    // is over.
+    fn change_pause(&self, first: u32, next: u32) {
         if next < LONG {
             let waits = later(self.waits.load(Ordering::SeqCst));
             self.waits.store(waits, Ordering::SeqCst);
@@ -151,7 +153,7 @@ impl<T> Lock<T> {
             self.pause.store(SHORT, Ordering::SeqCst);
             return;
         }
-        if next == LONGEST {
+        if first == LONGEST && next == LONGEST {
             self.waits.store(FEWEST, Ordering::SeqCst);
         }
         self.pause.store(next, Ordering::SeqCst);
@@ -168,12 +170,12 @@ fn spin(pause: u32) {
 // What the next waiter pauses first, if this one paused so long first, and tried so often in vain.
 fn learned(first: u32, tries: u32) -> u32
     requires long { LONG ≤ first }
-    ensures free { tries ≡ 0 → result ≡ min (first - first / 6) LONGEST }
+    ensures free { tries ≡ 0 → result ≡ min (first - first / 7) LONGEST }
     ensures once { tries ≡ 1 → result ≡ min (first + first / 2) LONGEST }
     ensures taken { 1 < tries → result ≡ min (2 * first) LONGEST }
 {
     let next = match tries {
-        0 => first - first / 6,
+        0 => first - first / 7,
         1 => first.saturating_add(first / 2),
         _ => first.saturating_mul(2),
     };
