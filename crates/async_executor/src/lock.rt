@@ -56,8 +56,11 @@ const FEWEST: u32 = 64;
 
 const MOST: u32 = 65536;
 
-// How often a thread tries before it sleeps, each time after twice as long a pause, up to the most.
+// How often a thread tries before it sleeps, each time after twice as long a pause, up to the longest: if the
+// first one is short, and if it is long. After as many long ones it waits for the turn no more.
 const TRIES: u32 = 16;
+
+const LONG_TRIES: u32 = 6;
 
 /// A mutex, and how its waiters wait. That is written by waiters alone, and stands on a cache line of
 /// its own.
@@ -93,8 +96,9 @@ impl<T> Lock<T> {
     pub(crate) fn wait_for<R: Wait>(&self, rt: &R) -> MutexGuard<'_, T> {
         let has_turn = self.takes_turn();
         let first = self.pause.load(Ordering::SeqCst);
+        let most = if first < LONG { TRIES } else { LONG_TRIES };
         let mut pause = first;
-        for tries in 0..TRIES {
+        for tries in 0..most {
             spin(pause);
             if let Some(guard) = self.mutex.try_lock() {
                 self.learn(first, tries, has_turn);
@@ -103,14 +107,14 @@ impl<T> Lock<T> {
             pause = min(pause.saturating_mul(2), LONGEST);
         }
         let guard = self.mutex.lock(rt);
-        self.learn(first, TRIES, has_turn);
+        self.learn(first, most, has_turn);
         guard
     }
 
     // Waits for the turn to try, for a while, and says whether this waiter has it. There are turns only
     // while pauses are long.
     fn takes_turn(&self) -> bool {
-        for _ in 0..TRIES {
+        for _ in 0..LONG_TRIES {
             let pause = self.pause.load(Ordering::SeqCst);
             if pause < LONG {
                 return false;
