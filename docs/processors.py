@@ -74,4 +74,4 @@ def furthest(found):
     for rule, _, _, predicted, measured in predictions(found):
         factors.setdefault(rule, []).append(measured / predicted)
     said = [f"{min(all_of):.2f} to {max(all_of):.2f}" for all_of in factors.values()]
-    return f"Measured over predicted, by rule: {throughput.listed(said)}; the first is the best case, within a twentieth."
+    return f"Measured over predicted, by rule: {throughput.listed(said)}; the first is the best case."
