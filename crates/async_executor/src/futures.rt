@@ -209,8 +209,8 @@ pub trait Storage: Drop {
     /// The futures in this storage, if nobody has them.
     fn try_futures(&self) -> Option<FuturesGuard<'_, FuturesIn<Self>>>;
 
-    /// Waits for the futures in this storage, which somebody has.
-    fn wait_for_futures(&self) -> FuturesGuard<'_, FuturesIn<Self>>;
+    /// Waits for the futures in this storage, which somebody has. A run says the number of its runner.
+    fn wait_for_futures(&self, runner: Option<u64>) -> FuturesGuard<'_, FuturesIn<Self>>;
 }
 
 /// Storage of which further shares are made. A call that is generic in a storage is proved, where it is
@@ -230,9 +230,12 @@ pub trait Shareable: Storage {
 /// same reason as `cells!`.
 macro_rules! futures {
     ($storage:expr) => {
+        futures!($storage, None)
+    };
+    ($storage:expr, $runner:expr) => {
         match $storage.try_futures() {
             Some(futures) => futures,
-            None => $storage.wait_for_futures(),
+            None => $storage.wait_for_futures($runner),
         }
     };
 }
@@ -335,8 +338,10 @@ impl<F: Future<TaskWaker<W, R>>, W: Wake, R: Wait + Drop> Storage for SharedStor
     #[inline(always)]
     fn wait_for_futures(
         &self,
+        runner: Option<u64>,
     ) -> FuturesGuard<'_, FutureTable<F, Arc<ExecutorState<W, R>>, F::Output>> {
-        FuturesGuard::Locked(self.shared.futures.wait_for(self.shared.state.rt()))
+        let rt = self.shared.state.rt();
+        FuturesGuard::Locked(self.shared.futures.wait_for(rt, runner))
     }
 }
 
@@ -395,13 +400,14 @@ impl<F: Future<TaskWaker<W, R>>, W: Wake, R: Wait + Drop> Storage for LocalStora
     fn try_futures(
         &self,
     ) -> Option<FuturesGuard<'_, FutureTable<F, Arc<ExecutorState<W, R>>, F::Output>>> {
-        Some(self.wait_for_futures())
+        Some(self.wait_for_futures(None))
     }
 
     // Nobody else has it.
     #[inline(always)]
     fn wait_for_futures(
         &self,
+        _runner: Option<u64>,
     ) -> FuturesGuard<'_, FutureTable<F, Arc<ExecutorState<W, R>>, F::Output>> {
         // Taken out, where a `RefCell` could answer that it is in use, to which there is no answer but to
         // wait. No change of a storage makes another, so nobody meets the empty table; and no two executors

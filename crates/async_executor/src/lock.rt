@@ -6,25 +6,33 @@
 //! thread alone does more than several in turn, and a waiter that tries early takes from all. If the work
 //! is longer, a waiter that pauses idles.
 //!
-//! Only long pauses tell which it is: one waiter at a time tries then, and the others wait for its turn to
-//! end. So nearly all of the time one thread alone works with what the lock guards, and how often a waiter
-//! finds the lock free tells how long that thread works between two holds. Pauses are short at first. After
-//! some waits long ones are tried, and each waiter changes them:
+//! Only long pauses tell which it is. While pauses are long, one runner stays at work, and waits with short
+//! ones. Of all others one at a time tries, each after a long pause. Who then has the lock works beside that
+//! runner until it finds the lock taken, and pauses again. So nearly all of the time one thread alone works
+//! with what the lock guards. How often the two meet tells how long its work is. If that is shorter than the
+//! hold of the one that came, the runner that stays meets it once, and has the lock as that one comes again.
+//! If it is longer, they work side by side, and meet several times or never.
+//!
+//! Pauses are short at first. After some waits long ones are tried, and each waiter but the one that stays
+//! changes them:
 //!
 //! ```text
-//! tries in vain    the next long pause
-//! none             a seventh less
-//! one              half more
-//! more             twice as long
+//! the runner that stays met others         the next long pause
+//! once                                     a third more
+//! several times                            a quarter less
+//! never, and the lock was
+//!     free after the pause                 a seventh less
+//!     free at the second try               half more
+//!     taken then too                       twice as long
 //! ```
 //!
-//! If the next one would be short, the trial is over, and twice as many waits come before another. If even
-//! the longest was in vain, as few do as before the first.
+//! If the next one would be short, the trial is over, and twice as many waits come before another. If the
+//! longest comes after the longest, as few do as before the first.
 ghost use Rattle.std.specs.Prelude.{◌≡◌, ◌+◌, ◌-◌, ◌*◌, ◌/◌, ◌<◌, ◌≤◌, min};
 
 use std::cmp::min;
 use std::hint::spin_loop;
-use std::sync::atomic::{AtomicBool, AtomicU32, Ordering};
+use std::sync::atomic::{AtomicBool, AtomicU32, AtomicU64, Ordering};
 use std::sync::{Mutex, MutexGuard, Wait};
 
 /// As many bytes as a cache line has, between fields that different threads write.
@@ -43,16 +51,15 @@ pub(crate) const BORDER: Border = [0; 16];
 // millisecond.
 const SHORT: u32 = 4;
 
-const TRIAL: u32 = 4096;
+const TRIAL: u32 = 2048;
 
 const LONGEST: u32 = 16384;
 
-// From here on a pause is long: two threads at work meet at the lock before it is over, and one of them waits
-// for the turn. So the waiter that tries then learns of one that works alone.
-const LONG: u32 = 2048;
+// From here on a pause is long: there are turns, and one runner stays at work.
+const LONG: u32 = 1024;
 
 // How many waits with short pauses there are between two trials of long ones: at first, and at most.
-const FEWEST: u32 = 64;
+const FEWEST: u32 = 1024;
 
 const MOST: u32 = 65536;
 
@@ -61,6 +68,9 @@ const MOST: u32 = 65536;
 const TRIES: u32 = 16;
 
 const LONG_TRIES: u32 = 6;
+
+// After so many waits of other runners, and none of the one that stays, another one stays.
+const ABSENT: u32 = 4;
 
 /// A mutex, and how its waiters wait. That is written by waiters alone, and stands on a cache line of
 /// its own.
@@ -75,6 +85,11 @@ pub(crate) struct Lock<T> {
     waits: AtomicU32,
     // Whether a waiter has the turn to try.
     is_taken: AtomicBool,
+    // The runner that stays at work while pauses are long, and how many other runners waited since it did.
+    staying: AtomicU64,
+    absent: AtomicU32,
+    // How often it found the lock taken since the pause was last changed.
+    met: AtomicU32,
 }
 
 impl<T> Lock<T> {
@@ -87,28 +102,67 @@ impl<T> Lock<T> {
             waits_left: AtomicU32::new(FEWEST),
             waits: AtomicU32::new(FEWEST),
             is_taken: AtomicBool::new(false),
+            staying: AtomicU64::new(0),
+            absent: AtomicU32::new(ABSENT),
+            met: AtomicU32::new(0),
         }
     }
 
-    /// Waits for a `Lock` that was not free.
+    /// Waits for a `Lock` that was not free. A run says the number of its runner.
     #[cold]
     #[inline(never)]
-    pub(crate) fn wait_for<R: Wait>(&self, rt: &R) -> MutexGuard<'_, T> {
+    pub(crate) fn wait_for<R: Wait>(&self, rt: &R, runner: Option<u64>) -> MutexGuard<'_, T> {
+        if self.stays(runner) {
+            self.count_meeting();
+            let (guard, _) = self.lock_after(rt, SHORT, TRIES);
+            return guard;
+        }
         let has_turn = self.takes_turn();
         let first = self.pause.load(Ordering::SeqCst);
         let most = if first < LONG { TRIES } else { LONG_TRIES };
+        let (guard, tries) = self.lock_after(rt, first, most);
+        self.learn(first, tries, has_turn);
+        guard
+    }
+
+    // Locks after so long a pause, and says how often it tried in vain. It tries at most so often, each time
+    // after twice as long a pause, and then sleeps.
+    fn lock_after<R: Wait>(&self, rt: &R, first: u32, most: u32) -> (MutexGuard<'_, T>, u32) {
         let mut pause = first;
         for tries in 0..most {
             spin(pause);
             if let Some(guard) = self.mutex.try_lock() {
-                self.learn(first, tries, has_turn);
-                return guard;
+                return (guard, tries);
             }
             pause = min(pause.saturating_mul(2), LONGEST);
         }
-        let guard = self.mutex.lock(rt);
-        self.learn(first, most, has_turn);
-        guard
+        (self.mutex.lock(rt), most)
+    }
+
+    // Whether this waiter is the runner that stays at work. There is one only while pauses are long.
+    fn stays(&self, runner: Option<u64>) -> bool {
+        let Some(runner) = runner else {
+            return false;
+        };
+        if self.pause.load(Ordering::SeqCst) < LONG {
+            return false;
+        }
+        let absent = self.absent.load(Ordering::SeqCst);
+        if self.staying.load(Ordering::SeqCst) != runner {
+            if absent < ABSENT {
+                self.absent.store(absent + 1, Ordering::SeqCst);
+                return false;
+            }
+            self.staying.store(runner, Ordering::SeqCst);
+        }
+        self.absent.store(0, Ordering::SeqCst);
+        true
+    }
+
+    // Counts that the runner that stays met another one.
+    fn count_meeting(&self) {
+        let met = self.met.load(Ordering::SeqCst).saturating_add(1);
+        self.met.store(met, Ordering::SeqCst);
     }
 
     // Waits for the turn to try, for a while, and says whether this waiter has it. There are turns only
@@ -132,7 +186,8 @@ impl<T> Lock<T> {
         if first < LONG {
             self.count_wait();
         } else {
-            self.change_pause(first, learned(first, tries));
+            let met = self.met.swap(0, Ordering::SeqCst);
+            self.change_pause(first, learned(first, tries, met));
         }
         if has_turn {
             self.is_taken.store(false, Ordering::SeqCst);
@@ -171,17 +226,22 @@ fn spin(pause: u32) {
     }
 }
 
-// What the next waiter pauses first, if this one paused so long first, and tried so often in vain.
-fn learned(first: u32, tries: u32) -> u32
+// What the next waiter pauses first, if this one paused so long first, and tried so often in vain, and the
+// runner that stays met others so often.
+fn learned(first: u32, tries: u32, met: u32) -> u32
     requires long { LONG ≤ first }
-    ensures free { tries ≡ 0 → result ≡ min (first - first / 7) LONGEST }
-    ensures once { tries ≡ 1 → result ≡ min (first + first / 2) LONGEST }
-    ensures taken { 1 < tries → result ≡ min (2 * first) LONGEST }
+    ensures met { 1 < met → result ≡ min (first - first / 4) LONGEST }
+    ensures met_once { met ≡ 1 → result ≡ min (first + first / 3) LONGEST }
+    ensures free { met ≡ 0 → tries ≡ 0 → result ≡ min (first - first / 7) LONGEST }
+    ensures once { met ≡ 0 → tries ≡ 1 → result ≡ min (first + first / 2) LONGEST }
+    ensures taken { met ≡ 0 → 1 < tries → result ≡ min (2 * first) LONGEST }
 {
-    let next = match tries {
-        0 => first - first / 7,
-        1 => first.saturating_add(first / 2),
-        _ => first.saturating_mul(2),
+    let next = match (met, tries) {
+        (0, 0) => first - first / 7,
+        (0, 1) => first.saturating_add(first / 2),
+        (0, _) => first.saturating_mul(2),
+        (1, _) => first.saturating_add(first / 3),
+        _ => first - first / 4,
     };
     min(next, LONGEST)
 }

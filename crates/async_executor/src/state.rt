@@ -168,14 +168,14 @@ impl<W: Wake, R: Wait + Drop> ExecutorState<W, R> {
     #[cold]
     #[inline(never)]
     pub(crate) fn wait_for_cells(&self) -> MutexGuard<'_, Cells<(), (), W>> {
-        self.parts.cells.wait_for(self.rt())
+        self.parts.cells.wait_for(self.rt(), None)
     }
 
     /// Waits for the sleepers of this `ExecutorState`, which somebody has.
     #[cold]
     #[inline(never)]
     pub(crate) fn wait_for_sleepers(&self) -> MutexGuard<'_, ClosedSleepers<W>> {
-        self.parts.sleepers.wait_for(self.rt())
+        self.parts.sleepers.wait_for(self.rt(), None)
     }
 
     /// Waits for the table of tasks of this `ExecutorState`, which is locked until the guard is dropped. It

@@ -154,7 +154,7 @@ pub(crate) fn end_then_search<'a, S: Storage>(
     requires { IsHeldRight ran }
     ensures { IsEndRight result }
 {
-    let mut futures = futures!(storage);
+    let mut futures = futures!(storage, Some(search.runner()));
     let cells = cells!(state);
     futures
         .get()

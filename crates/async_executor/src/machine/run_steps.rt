@@ -446,6 +446,13 @@ pub(crate) struct Search {
 }
 
 impl Search {
+    /// The number of the runner of this `Search`.
+    pub(crate) fn runner(&self) -> u64
+        ensures { result ≡ self.now.key.number }
+    {
+        self.key.number()
+    }
+
     /// Makes a run's `Search` for a task, with a word that says where the walk over the other queues starts.
     #[inline(always)]
     pub(crate) fn make<W>(
