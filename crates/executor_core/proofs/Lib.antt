@@ -5,6 +5,7 @@ pub mod CountLemmas
 pub mod DetachLemmas
 pub mod EndPendingLemmas
 pub mod EndReadyLemmas
+pub mod EndWokenLemmas
 pub mod FindLemmas
 pub mod GatherLemmas
 pub mod LimitLemmas

@@ -55,6 +55,17 @@ impl<P, T, W> Cells<P, T, W> {
         ended
     }
 
+    // As the two steps that it makes as one. If it is refused, it makes none.
+    pub fn end_woken(&mut self, held: Held, future: P) -> Result<Notice, (Held, P)> {
+        let number = held.id.number;
+        let ended = self.end_it_woken(held, future);
+        if ended.is_ok() {
+            step(Word::Wake, number, Answer::Nothing, 0);
+            step(Word::Pend, number, Answer::Queued, number);
+        }
+        ended
+    }
+
     pub fn end_ready(&mut self, held: Held, output: T) -> EndReady<T, W> {
         let number = held.id.number;
         let ended = self.end_it_ready(held, output);

@@ -179,6 +179,15 @@ pub(crate) fn pend_cell<P, T, W>(cell: &mut Cell<P, T, W>, future: P) -> bool
     cell.woken
 }
 
+// The wake of a task in its poll, which was pending, and the end of that poll: the task is to be queued.
+pub(crate) fn reschedule_cell<P, T, W>(cell: &mut Cell<P, T, W>, future: P)
+    requires { is_held cell.old.state ≡ true }
+    ensures { cell.new ≡ pended (woken cell.old) future }
+{
+    end_held(replace(&mut cell.state, CellState::Scheduled(future)));
+    cell.woken = true;
+}
+
 // What a change of a cell gives of its awaiter: a waker that is to be woken.
 fn wakeup<W>(awaiter: Option<W>) -> Option<Wakeup<W>>
     ensures { result ≡ wakeup_of awaiter }

@@ -1,5 +1,5 @@
 //! The table of task cells.
-ghost use Rattle.std.specs.Prelude.{◌≡◌, ◌+◌, ◌-◌, ◌<◌, true, false, IsErr, IsTrue, ◌↔◌, [], None, slice_index_or, IfOk, IfErr, IfSome, IfNone, OnErr, is_some, option_copied};
+ghost use Rattle.std.specs.Prelude.{◌≡◌, ◌+◌, ◌-◌, ◌<◌, true, false, IsErr, IsTrue, ◌↔◌, [], None, slice_index_or, IfOk, IfErr, IfSome, IfNone, OnErr, OnOk, is_ok, is_some, option_copied};
 ghost use Rattle.executor_core.specs.Cells.Calls.{wakes, after_wake, after_end_pending, EndsPending, undropped_in, cancelled_in, future_in, empty_table, after_spawn, IsFree, AllDropped, undropped_count, cell_at, held_in, handle_in, takes_back_in, after_end_ready, ready_answer, after_end_dropped, dropped_answer, after_take, TakesFront, after_take_any, TakesAny, after_search, search_in, TakesFound, after_drain_next, draining};
 ghost use Rattle.executor_core.specs.SpawnError.{last_number, Refuses};
 ghost use Rattle.executor_core.specs.Cells.Law.{LockLaw, queued_of};
@@ -10,7 +10,7 @@ use crate::queue::queues::Queues;
 use crate::queue::runner::RunnerKey;
 use crate::task::cell::{
     Cell, TaskId, awaiter_of_held, dispose_cell, has_future, is_held, keeps_future, pend_cell,
-    ready_cell, take_cell, takes_back, wake_cell,
+    ready_cell, reschedule_cell, take_cell, takes_back, wake_cell,
 };
 use crate::task::error::{OutOfMemory, SpawnError};
 use crate::task::polling::{Held, Taken};
@@ -249,6 +249,30 @@ impl<P, T, W> Cells<P, T, W> {
             return EndPending::Back(None);
         }
         EndPending::Back(Some(self.queues.push(id)))
+    }
+
+    /// The wake of a task in its poll, which was pending, and the end of that poll: the future goes back,
+    /// and the task is scheduled at the global end. Both find its cell by one look.
+    ///
+    /// It takes no memory.
+    ///
+    /// # Errors
+    ///
+    /// Both come back exactly if the task was cancelled, or is none of these cells', and nothing changes.
+    #[inline(always)]
+    pub fn end_woken(&mut self, held: Held, future: P) -> Result<Notice, (Held, P)>
+        requires { held.to_drop ≡ false }
+        ensures ok { OnOk result
+            (self.new ≡ after_end_pending (after_wake self.old held.id) held.id future) }
+        ensures refused { IfErr result (λ back. (back ≡ (held, future)) × (self.new ≡ self.old)) }
+        ensures cause { is_ok result ≡ takes_back_in (cell_at self.old held.id) }
+    {
+        if !self.takes_back(held.id) {
+            return Err((held, future));
+        }
+        let Held { id, to_drop: _ } = held;
+        reschedule_cell(self.queues.cell_mut(id), future);
+        Ok(self.queues.push(id))
     }
 
     /// The end of a poll that gave an output, for the table: the task's future was dropped.
