@@ -2,15 +2,15 @@
 //!
 //! A waker that is lent is only marked as it is woken, which takes no lock. Its task is woken when the
 //! poll has ended, in the change that ends it.
-ghost use Rattle.std.specs.Prelude.{◌≡◌, true, false, is_some, cond};
-ghost use Rattle.executor_core.specs.Cells.Calls.{after_wake};
+ghost use Rattle.std.specs.Prelude.{◌≡◌, ◌&&◌, true, false, is_ok, is_some, cond, OnOk, IfErr};
+ghost use Rattle.executor_core.specs.Cells.Calls.{after_wake, after_end_pending, cell_at, takes_back_in};
 ghost use Rattle.async_executor.specs.Deferred.{IsHeldRight};
 ghost use Rattle.async_executor.specs.Poller.{AnswersOwn, DisposesOwn};
 
 use crate::state::ExecutorState;
 use crate::waker::TaskWaker;
 use executor_core::task::{
-    Cells, Future, Notice, Poll, Polled, Poller, Ran, Taken, TaskId, run_taken,
+    Cells, Future, Held, Notice, Poll, Polled, Poller, Ran, Taken, TaskId, run_taken,
 };
 use std::sync::Arc;
 use std::sync::atomic::AtomicBool;
@@ -57,6 +57,35 @@ impl LentWake {
         ensures { result.is_woken ≡ false }
     {
         LentWake { is_woken: false }
+    }
+
+    /// Wakes the task that is held, which is that of the poll, and ends the poll, if the waker that was lent
+    /// was woken. If it was not, or the table does not take the future back, all come back and nothing
+    /// changes.
+    #[inline(always)]
+    pub(crate) fn end<W>(
+        self,
+        held: Held,
+        cells: &mut Cells<(), (), W>,
+    ) -> Result<Notice, (Held, LentWake)>
+        requires { held.to_drop ≡ false }
+        ensures ok { OnOk result
+            (cells.new ≡ after_end_pending (after_wake cells.old held.id) held.id tt) }
+        ensures refused { IfErr result
+            (λ back. (back ≡ (held, self)) × (cells.new ≡ cells.old)) }
+        ensures cause { is_ok result
+            ≡ (self.is_woken && takes_back_in (cell_at cells.old held.id)) }
+    {
+        if !self.is_woken {
+            return Err((held, self));
+        }
+        match cells.end_woken(held, ()) {
+            Ok(notice) => {
+                let LentWake { is_woken: _ } = self;
+                Ok(notice)
+            }
+            Err((held, ())) => Err((held, self)),
+        }
     }
 
     /// Wakes the task of this id, which is that of the poll, if the waker that was lent was woken.

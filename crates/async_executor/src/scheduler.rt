@@ -20,7 +20,7 @@ use crate::state::{announce, cells};
 use crate::task::TaskIn;
 use executor_core::limits::{Limits, NewError};
 use executor_core::task::{
-    EndPending, Future, Held, Notice, OutOfMemory, Ran, SpawnError, Taken, TaskId,
+    EndPending, Future, Held, Notice, OutOfMemory, Ran, SpawnError, Taken, TaskId, Wake, Wakeup,
 };
 pub(crate) use many::Handle;
 pub use many::SpawnMany;
@@ -62,6 +62,14 @@ macro_rules! take_and_run {
 }
 
 pub(crate) use take_and_run;
+
+// Drops the output of a task that has ended, before its awaiter is woken.
+fn drop_and_wake<T: Drop, W: Wake>(unwanted: Option<T>, awaiter: Option<Wakeup<W>>) {
+    drop(unwanted);
+    if let Some(awaiter) = awaiter {
+        awaiter.wake();
+    }
+}
 
 /// A share of an executor, which spawns tasks and runs them.
 #[derive(Drop)]
@@ -146,15 +154,21 @@ impl<S: Storage> ExecutorIn<S> {
         requires { IsHeldRight ran }
     {
         match ran {
-            Ran::Dropped(held) => self.end_dropped(held),
-            ran => match transactions::end(&self.storage, id, ran, out) {
-                Ok(None) => {}
-                Ok(Some(notice)) => announce!(self.storage.state(), notice),
-                Err(deferred) => {
-                    *out = None;
-                    self.finish(id, deferred);
+            Ran::Pending(held, ()) => {
+                match transactions::end_pending(&self.storage, id, held, out) {
+                    Ok(None) => {}
+                    Ok(Some(notice)) => announce!(self.storage.state(), notice),
+                    Err(deferred) => {
+                        *out = None;
+                        self.finish(id, deferred);
+                    }
                 }
-            },
+            }
+            Ran::Ready(held, output) => {
+                let (unwanted, awaiter) = transactions::end_ready(&self.storage, id, held, output);
+                drop_and_wake(unwanted, awaiter);
+            }
+            Ran::Dropped(held) => self.end_dropped(held),
         }
     }
 
@@ -164,13 +178,7 @@ impl<S: Storage> ExecutorIn<S> {
         requires { IsDeferredRight deferred }
     {
         match deferred {
-            Deferred::Finished(unwanted, awaiter) => {
-                // Before the awaiter is woken.
-                drop(unwanted);
-                if let Some(awaiter) = awaiter {
-                    awaiter.wake();
-                }
-            }
+            Deferred::Finished(unwanted, awaiter) => drop_and_wake(unwanted, awaiter),
             Deferred::Unended(held, before) => self.end_held(id, held, before),
         }
     }

@@ -122,21 +122,49 @@ pub(crate) fn take<S: Storage>(storage: &S, id: TaskId) -> OutIn<S> {
     futures.get().take(id)
 }
 
-/// Ends a task that was run, and keeps its future or its output, if the handle wants it. There is
-/// a notice if the task was queued.
+/// Ends a task whose poll was pending, and keeps its future. There is a notice if the task was queued.
 #[inline(always)]
-pub(crate) fn end<S: Storage>(
+pub(crate) fn end_pending<S: Storage>(
     storage: &S,
     id: TaskId,
-    ran: Ran<(), OutputIn<S>>,
+    held: Held,
     out: &mut OutIn<S>,
 ) -> Result<Option<Notice>, Deferred<S::Waker, OutputIn<S>>>
-    requires { IsHeldRight ran }
+    requires { held.to_drop ≡ false }
     ensures { IfErr result (λ deferred. IsDeferredRight deferred) }
 {
     let mut futures = futures!(storage);
     let mut cells = cells!(storage.state());
-    futures.get().end(&mut cells, id, ran, out)
+    // The locks are given up on each path, so that the room of what the other gives is not cleared on this
+    // one.
+    match futures.get().end_pending(&mut cells, id, held, out) {
+        Ok(notice) => {
+            drop(cells);
+            drop(futures);
+            Ok(notice)
+        }
+        Err(deferred) => {
+            drop(cells);
+            drop(futures);
+            Err(deferred)
+        }
+    }
+}
+
+/// Ends a task that gave this output, and keeps it if the handle wants it. What is to be dropped comes out,
+/// and whom to wake.
+#[inline(always)]
+pub(crate) fn end_ready<S: Storage>(
+    storage: &S,
+    id: TaskId,
+    held: Held,
+    output: OutputIn<S>,
+) -> (Option<OutputIn<S>>, Option<Wakeup<S::Waker>>)
+    requires { held.to_drop ≡ false }
+{
+    let mut futures = futures!(storage);
+    let mut cells = cells!(storage.state());
+    futures.get().end_ready(&mut cells, id, held, output)
 }
 
 /// Ends a task that was run, and takes the next one for a runner, and its future out. The search takes
@@ -265,29 +293,6 @@ impl<F: Drop, W: Drop, R: Drop, T: Drop> FutureTable<F, Arc<ExecutorState<W, R>>
         }
     }
 
-    /// Ends a task that was run, and keeps its future or output. There is a notice if it was
-    /// queued.
-    #[inline(always)]
-    pub(crate) fn end(
-        &mut self,
-        cells: &mut Cells<(), (), W>,
-        id: TaskId,
-        ran: Ran<(), T>,
-        out: &mut Out<F, W, R>,
-    ) -> Result<Option<Notice>, Deferred<W, T>>
-        requires { IsHeldRight ran }
-        ensures { IfErr result (λ deferred. IsDeferredRight deferred) }
-    {
-        match ran {
-            Ran::Pending(held, ()) => self.end_pending(cells, id, held, out),
-            Ran::Ready(held, output) => {
-                let (unwanted, awaiter) = self.end_ready(cells, id, held, output);
-                finished(unwanted, awaiter)
-            }
-            Ran::Dropped(held) => finished(None, cells.end_dropped(held)),
-        }
-    }
-
     // Ends a task that was run, and takes the next one for a runner, and its future out.
     #[inline(always)]
     fn end_then_search(
@@ -352,6 +357,10 @@ impl<F: Drop, W: Drop, R: Drop, T: Drop> FutureTable<F, Arc<ExecutorState<W, R>>
                     None => Deferred::Unended(held, BeforeEnd::Refused),
                 });
             }
+        };
+        let (held, wake) = match wake.end(held, cells) {
+            Ok(notice) => return Ok(Some(notice)),
+            Err(unended) => unended,
         };
         if let Some(notice) = wake.make(id, cells) {
             return Err(Deferred::Unended(held, BeforeEnd::Woken(notice)));

@@ -200,7 +200,7 @@ impl<'x, 'y, S: Storage, G: Drop> Driver<'x, 'y, S, G> {
                 Ok(searching) => searching,
                 // The task is ended, and none is taken that would wait until the next poll.
                 Err(over) => {
-                    self.executor.end(id, ran, &mut self.out);
+                    self.end_last(id, ran);
                     return Err(over);
                 }
             };
@@ -212,6 +212,15 @@ impl<'x, 'y, S: Storage, G: Drop> Driver<'x, 'y, S, G> {
             }
         }
         unreachable!()
+    }
+
+    // Ends the last task of a run's turn.
+    #[cold]
+    #[inline(never)]
+    fn end_last(&mut self, id: TaskId, ran: Ran<(), OutputIn<S>>)
+        requires { IsHeldRight ran }
+    {
+        self.executor.end(id, ran, &mut self.out);
     }
 
     // Ends a run's task, and searches for the next one.
