@@ -107,6 +107,29 @@ fn polls_wakes_drops_and_leaks_take_no_memory(rt: HostRuntime) -> Result<(), Fai
     Ok(())
 }
 
+// Whether the help of a sleeper takes memory, and whether there was a task each time.
+fn helped<R: AllocGlobal + Wait + Clone + Drop + Send + Sync>(
+    rt: &R,
+) -> Result<(u64, [bool; 2]), Fail> {
+    let alloc = rt.alloc();
+    let mut paid = 0u64;
+    let ex = Executor::<TaskFuture<R>, TestWaker, R>::new(rt.clone()?, alloc)?;
+    let (record, place) = (Record::new(alloc)?, WakerPlace::new(alloc)?);
+    let pending = task_of!(ex, Never, place, record);
+    let ready = task_of!(ex, Ready(7), place, record);
+    let mut sleeper = ex.sleeper()?;
+    let first = without_memory!(alloc, paid, 0, sleeper.help(1));
+    let second = without_memory!(alloc, paid, 1, sleeper.help(1));
+    drop((pending, ready));
+    Ok((paid, [first, second]))
+}
+
+#[test]
+fn a_help_takes_no_memory(rt: HostRuntime) -> Result<(), Fail> {
+    assert_eq!(rt; helped(&rt)?, (0, [true, false]));
+    Ok(())
+}
+
 // More runs than a text copies the lengths of the queues of at a time, twice over.
 const RUNS: usize = 130;
 

@@ -185,6 +185,17 @@ pub fn looks<R: Wait + Clone + Drop + Send + Sync>(rt: &R, alloc: Global) -> io:
     Ok([has_seen, executor.try_tick()])
 }
 
+/// Whether there was a task each time that it helped.
+pub fn helps<R: Wait + Clone + Drop + Send + Sync>(rt: &R, alloc: Global) -> io::Result<[bool; 3]> {
+    let executor: Executor<Ready<u64>, NoopWaker, R> = Executor::new(rt.clone()?, alloc)?;
+    for number in 0..3 {
+        executor.spawn(Ready::new(number))?.detach();
+    }
+    let mut sleeper = executor.sleeper()?;
+    // [true, true, false]
+    Ok([sleeper.help(1), sleeper.help(5), sleeper.help(5)])
+}
+
 /// Whether a task from before the leak runs, and one that was spawned after it.
 pub fn leaks<R: Wait + Clone + Drop + Send + Sync>(rt: &R, alloc: Global) -> io::Result<[bool; 2]> {
     let executor: Executor<Ready<u64>, NoopWaker, R> = Executor::new(rt.clone()?, alloc)?;

@@ -27,7 +27,8 @@ module _ {W T : Type 0} where
   IsDeferredRight (Unended held before) = IsHeldFor before held
   IsDeferredRight (Finished unwanted awaiter) = Unit {0}
 
-  abbrev pub IsEndRight : EndThenSearch W T → Type 0
+module _ {W T N : Type 0} where
+  abbrev pub IsEndRight : EndThenSearch W T N → Type 0
   IsEndRight (Searched notice found) = Unit {0}
   IsEndRight (InVain awaiter) = Unit {0}
   IsEndRight (Unfinished deferred) = IsDeferredRight deferred

@@ -11,16 +11,17 @@ ghost use Rattle.executor_core.specs.declared.limits.NewError.TheVariants as New
 ghost use Rattle.async_executor.specs.Deferred.{IsHeldFor, IsHeldRight, IsDeferredRight};
 
 mod closing;
+mod helping;
 mod many;
 
-use crate::futures::transactions::{self, BeforeEnd, Deferred};
+use crate::futures::transactions::{self, AnyTask, BeforeEnd, Deferred};
 use crate::futures::{OutIn, OutputIn, Shareable, Storage};
 use crate::poller::poll_taken;
 use crate::state::{announce, cells};
 use crate::task::TaskIn;
 use executor_core::limits::{Limits, NewError};
 use executor_core::task::{
-    EndPending, Future, Held, Notice, OutOfMemory, Ran, SpawnError, Taken, TaskId, Wake, Wakeup,
+    EndPending, Future, Held, OutOfMemory, Ran, SpawnError, Taken, TaskId, Wake, Wakeup,
 };
 pub(crate) use many::Handle;
 pub use many::SpawnMany;
@@ -127,7 +128,7 @@ impl<S: Storage> ExecutorIn<S> {
 
     /// Runs a task of this `ExecutorIn` that was found, and says whether there was one. No lock may be held.
     #[inline(always)]
-    pub(crate) fn run_found(&self, found: Option<(Taken<()>, Notice)>) -> bool
+    pub(crate) fn run_found(&self, found: Option<AnyTask>) -> bool
         ensures { result ≡ is_some found }
     {
         let Some((taken, notice)) = found else {

@@ -21,6 +21,7 @@
 ghost use Rattle.std.specs.Prelude.{◌≡◌, None, true, is_some, IfOk, MatchResult};
 
 use crate::futures::Storage;
+use crate::futures::transactions::AnyTask;
 use crate::scheduler::ExecutorIn;
 use crate::state::{ExecutorState, announce, cells, sleepers};
 use executor_core::sleepers::Removed;
@@ -199,11 +200,34 @@ impl<S: Storage> SleeperIn<'_, S> {
         ensures awake { self.new.number ≡ None }
         ensures spent { self.new.notice ≡ None }
     {
+        let found = self.search();
+        self.executor.run_found(found)
+    }
+
+    /// `Sleeper::help`, for both kinds of storage: the same, and if there was a task, it runs up to so many
+    /// more.
+    pub(crate) fn help(&mut self, more: u32) -> bool
+        ensures awake { self.new.number ≡ None }
+        ensures spent { self.new.notice ≡ None }
+    {
+        match self.search() {
+            Some(first) => {
+                self.executor.run_on(first, more);
+                true
+            }
+            None => false,
+        }
+    }
+
+    // Leaves the sleepers, and takes a task of any queue.
+    #[inline(always)]
+    fn search(&mut self) -> Option<AnyTask>
+        ensures awake { self.new.number ≡ None }
+        ensures spent { self.new.notice ≡ None }
+    {
         self.leave();
         let again = self.take_again();
-        let executor = self.executor;
-        let found = cells!(executor.storage.state()).take_any(again);
-        executor.run_found(found)
+        cells!(self.executor.storage.state()).take_any(again)
     }
 }
 

@@ -156,17 +156,11 @@ where
         ensures answers { self.new.answers ≡ self.old.answers }
     {
         let sleeper = &mut self.sleepers[at];
-        // Each by itself: a queue of its own in another shard would take memory.
-        if !sleeper.try_tick_any() {
-            return false;
+        if at == 0 {
+            return sleeper.try_tick_any();
         }
-        let most = if at == 0 { 1 } else { HANDFUL };
-        for _ in 1..most {
-            if !sleeper.try_tick_any() {
-                break;
-            }
-        }
-        true
+        // With no queue of its own in another shard, which would take memory.
+        sleeper.help(HANDFUL - 1)
     }
 
     /// How many turns the runs of the shard of the member at this place had, modulo 2^64.

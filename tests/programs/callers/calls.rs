@@ -16,7 +16,7 @@ const WOKEN: [Poll<()>; 2] = [Poll::Pending, Poll::Ready(())];
 fn of_executors<R: Wait + Clone + Drop + Send + Sync>(
     rt: &R,
     alloc: Global,
-) -> io::Result<[Line; 16]> {
+) -> io::Result<[Line; 17]> {
     Ok([
         ("awaits_seven", executors::awaits_seven(rt, alloc)? == 7),
         ("spawns", executors::spawns(rt, alloc)? == FIRST_PENDING),
@@ -55,6 +55,7 @@ fn of_executors<R: Wait + Clone + Drop + Send + Sync>(
             executors::sleeps_and_leaves(rt, alloc)? == [true, true, true],
         ),
         ("looks", executors::looks(rt, alloc)? == [true, true]),
+        ("helps", executors::helps(rt, alloc)? == [true, true, false]),
         ("leaks", executors::leaks(rt, alloc)? == [true, true]),
         ("outlasts", executors::outlasts(rt, alloc)? == Poll::Pending),
         ("limits_for_good", executors::limits_for_good(rt, alloc)?),

@@ -96,6 +96,8 @@ pub enum Line {
     TickHalts,
     /// Another thread calls `try_tick_any`, and halts.
     TickAnyHalts,
+    /// Another thread calls `help` of a sleeper, for so many more tasks, and halts.
+    HelpHalts(u32),
     /// Another thread polls the task's handle, and halts.
     PollHalts(usize),
     /// Another thread wakes the waker that the task's future left, and halts.
@@ -130,6 +132,7 @@ impl Line {
                 | Line::PassOnAt(_, _)
                 | Line::TickHalts
                 | Line::TickAnyHalts
+                | Line::HelpHalts(_)
                 | Line::PollHalts(_)
                 | Line::WakeHalts(_)
                 | Line::CancelHalts(_)

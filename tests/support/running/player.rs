@@ -27,6 +27,8 @@ enum Queue {
     Shared,
     // In any queue, as `try_tick_any`.
     Any,
+    // The same, and so many more tasks, as a sleeper's `help`.
+    Helped(u32),
 }
 
 // A call that another thread makes.
@@ -98,6 +100,10 @@ fn answer_of_tick<R: Wait + Clone + Drop + Send + Sync>(
     let ran = match queue {
         Queue::Shared => ex.try_tick(),
         Queue::Any => ex.try_tick_any(),
+        Queue::Helped(more) => match ex.sleeper() {
+            Ok(mut sleeper) => sleeper.help(more),
+            Err(_) => return Answer::Gone,
+        },
     };
     if ran {
         Answer::Ticked
@@ -256,7 +262,8 @@ impl<'s, E: 's, T: ExecutorKind<R> + 's, R: Wait + Threads + Clone + Drop + Send
         match (&self.ex, queue) {
             (Some(ex), Queue::Shared) => Some(T::try_tick(ex)),
             (Some(ex), Queue::Any) => Some(T::try_tick_any(ex)),
-            (None, _) => None,
+            // A sleeper is that of an executor which threads share.
+            (Some(_), Queue::Helped(_)) | (None, _) => None,
         }
     }
 
@@ -382,6 +389,7 @@ impl<'s, E: 's, R: Wait + Threads + Clone + Drop + Send + Sync + 'static> Pair<'
         match line {
             Line::TickHalts => self.tick_halts(Queue::Shared),
             Line::TickAnyHalts => self.tick_halts(Queue::Any),
+            Line::HelpHalts(more) => self.tick_halts(Queue::Helped(more)),
             Line::SpawnHalts => self.spawn_halts(),
             Line::SpawnManyHalts(count) => self.spawn_many_halts(count),
             Line::PollHalts(task) => self.poll_halts(task),

@@ -218,6 +218,27 @@ where
     {
         self.inner.try_tick_any()
     }
+
+    /// As `try_tick_any`, and if it ran a task, it runs up to this many more, one after another. Each of these
+    /// is taken as the one before it is ended, under fewer locks.
+    ///
+    /// Example: `uses::helps`.
+    ///
+    /// ```text
+    /// let executor: Executor<Ready<u64>, NoopWaker, R> = Executor::new(rt.clone()?, alloc)?;
+    /// for number in 0..3 {
+    ///     executor.spawn(Ready::new(number))?.detach();
+    /// }
+    /// let mut sleeper = executor.sleeper()?;
+    /// // [true, true, false]
+    /// Ok([sleeper.help(1), sleeper.help(5), sleeper.help(5)])
+    /// ```
+    pub fn help(&mut self, more: u32) -> bool
+        ensures awake { self.new.inner.number ≡ None }
+        ensures spent { self.new.inner.notice ≡ None }
+    {
+        self.inner.help(more)
+    }
 }
 
 impl<F, W, R> Drop for Sleeper<'_, F, W, R>

@@ -13,7 +13,7 @@ use crate::poller::{LentWake, Out};
 use crate::state::{ExecutorState, cells};
 use crate::waker::TaskWaker;
 use executor_core::task::{
-    Cells, EndPending, EndReady, Held, Notice, PollHandle, Ran, SpawnError, TaskId, Wakeup,
+    Cells, EndPending, EndReady, Held, Notice, PollHandle, Ran, SpawnError, Taken, TaskId, Wakeup,
 };
 use std::sync::{Arc, MutexGuard};
 
@@ -35,15 +35,18 @@ pub enum BeforeEnd {
     ToDrop,
 }
 
-/// What came of the end of a task and of a search after it, made as one change.
-pub enum EndThenSearch<W, T> {
+/// What came of the end of a task and of a search after it for a next task N, made as one change.
+pub enum EndThenSearch<W, T, N> {
     /// The task was ended, with a notice if it was queued. This is what the search found.
-    Searched(Option<Notice>, Option<NextTask>),
+    Searched(Option<Notice>, Option<N>),
     /// The task was ended, and the search was in vain. The awaiter is to be woken.
     InVain(Wakeup<W>),
     /// The end leaves something to do first, so nothing was searched.
     Unfinished(Deferred<W, T>),
 }
+
+/// A task that was taken of any queue, with the notice of its take.
+pub type AnyTask = (Taken<()>, Notice);
 
 /// Makes a task of this future, which holds this share of the state, and keeps the future under this guard of
 /// the futures. A macro, since by a function, even an inline one, each spawn takes some instructions more.
@@ -178,15 +181,52 @@ pub(crate) fn end_then_search<'a, S: Storage>(
     out: &mut OutIn<S>,
     search: &Search,
     random: &mut RandomGenerator,
-) -> EndThenSearch<S::Waker, OutputIn<S>>
+) -> EndThenSearch<S::Waker, OutputIn<S>, NextTask>
     requires { IsHeldRight ran }
     ensures { IsEndRight result }
 {
     let mut futures = futures!(storage, Some(search.runner()));
-    let cells = cells!(state);
-    futures
-        .get()
-        .end_then_search(cells, id, ran, out, search, random)
+    let mut cells = cells!(state);
+    let table = futures.get();
+    let notice = match table.end_before_search(&mut cells, id, ran, out) {
+        Ok(notice) => notice,
+        Err(ended) => return ended,
+    };
+    // After the end, which may have queued this very task: no search before it would find that.
+    let found = search.make(&mut cells, random.next(), None);
+    if let Some(next) = &found {
+        // The last one is not out any more. Before the table is given up, which waits for what was asked
+        // of memory: its cell and its place come from there together.
+        *out = table.take(next.id());
+    }
+    drop(cells);
+    EndThenSearch::Searched(notice, found)
+}
+
+/// Ends a task that was run, and takes the next one of any queue, and its future out.
+pub(crate) fn end_then_take_any<S: Storage>(
+    storage: &S,
+    id: TaskId,
+    ran: Ran<(), OutputIn<S>>,
+    out: &mut OutIn<S>,
+) -> EndThenSearch<S::Waker, OutputIn<S>, AnyTask>
+    requires { IsHeldRight ran }
+    ensures { IsEndRight result }
+{
+    let mut futures = futures!(storage);
+    let mut cells = cells!(storage.state());
+    let table = futures.get();
+    let notice = match table.end_before_search(&mut cells, id, ran, out) {
+        Ok(notice) => notice,
+        Err(ended) => return ended,
+    };
+    // After the end, as a run does.
+    let found = cells.take_any(None);
+    if let Some((taken, _)) = &found {
+        *out = table.take(taken.id());
+    }
+    drop(cells);
+    EndThenSearch::Searched(notice, found)
 }
 
 // What is left to do of a task that has ended.
@@ -293,47 +333,36 @@ impl<F: Drop, W: Drop, R: Drop, T: Drop> FutureTable<F, Arc<ExecutorState<W, R>>
         }
     }
 
-    // Ends a task that was run, and takes the next one for a runner, and its future out.
+    // Ends a task that was run, before a search for the next one. An error says what comes in place of that
+    // search.
     #[inline(always)]
-    fn end_then_search(
+    fn end_before_search<N>(
         &mut self,
-        cells: MutexGuard<'_, Cells<(), (), W>>,
+        cells: &mut Cells<(), (), W>,
         id: TaskId,
         ran: Ran<(), T>,
         out: &mut Out<F, W, R>,
-        search: &Search,
-        random: &mut RandomGenerator,
-    ) -> EndThenSearch<W, T>
+    ) -> Result<Option<Notice>, EndThenSearch<W, T, N>>
         requires { IsHeldRight ran }
-        ensures { IsEndRight result }
+        ensures { IfErr result (λ ended. IsEndRight ended) }
     {
-        let mut cells = cells;
         let ended = match ran {
-            Ran::Pending(held, ()) => self.end_pending(&mut cells, id, held, out),
-            Ran::Ready(held, output) => match self.end_ready(&mut cells, id, held, output) {
+            Ran::Pending(held, ()) => self.end_pending(cells, id, held, out),
+            Ran::Ready(held, output) => match self.end_ready(cells, id, held, output) {
                 // No task is taken before the awaiter of the last one is woken, which may take long. If
                 // there is none, that wake need not come first: what it queues is found as the run goes
                 // to sleep.
-                (None, Some(awaiter)) if is_unscheduled(&cells) => {
-                    return EndThenSearch::InVain(awaiter);
+                (None, Some(awaiter)) if is_unscheduled(cells) => {
+                    return Err(EndThenSearch::InVain(awaiter));
                 }
                 (unwanted, awaiter) => finished(unwanted, awaiter),
             },
             Ran::Dropped(held) => finished(None, cells.end_dropped(held)),
         };
-        let notice = match ended {
-            Ok(notice) => notice,
-            Err(deferred) => return EndThenSearch::Unfinished(deferred),
-        };
-        // After the end, which may have queued this very task: no search before it would find that.
-        let found = search.make(&mut cells, random.next(), None);
-        if let Some(next) = &found {
-            // The last one is not out any more. Before the table is given up, which waits for what was
-            // asked of memory: its cell and its place come from there together.
-            *out = self.take(next.id());
+        match ended {
+            Ok(notice) => Ok(notice),
+            Err(deferred) => Err(EndThenSearch::Unfinished(deferred)),
         }
-        drop(cells);
-        EndThenSearch::Searched(notice, found)
     }
 
     // With both tables locked, ends a task whose poll was pending, and keeps its future.
@@ -358,6 +387,7 @@ impl<F: Drop, W: Drop, R: Drop, T: Drop> FutureTable<F, Arc<ExecutorState<W, R>>
                 });
             }
         };
+        // A task that woke itself is found once for both, unless it was cancelled.
         let (held, wake) = match wake.end(held, cells) {
             Ok(notice) => return Ok(Some(notice)),
             Err(unended) => unended,
