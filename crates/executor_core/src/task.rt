@@ -15,7 +15,8 @@
 //! as `Taken`, which only `run_taken` opens: it polls the future once, or has it dropped if the
 //! task was cancelled, and gives the `Held` that the end of the poll asks for. `end_pending` puts
 //! the future back, `end_ready` keeps its output for the handle. A wake that comes while the future
-//! is out is a mark in the cell, and the end of the poll schedules the task again.
+//! is out is a mark in the cell, and the end of the poll schedules the task again. `end_woken` is such
+//! a wake and `end_pending` in one call.
 //!
 //! A cancel is a mark too, and schedules an idle task. A task with this mark is not polled again
 //! and gives no output: whoever takes it has its future dropped, and whoever holds it gets the
@@ -32,7 +33,7 @@
 //! | value | says | is spent by |
 //! |---|---|---|
 //! | `Taken` | a task was taken | `run_taken` |
-//! | `Held` | it was polled, or its future was dropped | `end_pending`, `end_ready`, `end_dropped` |
+//! | `Held` | it was polled, or its future was dropped | `end_pending`, `end_woken`, `end_ready`, `end_dropped` |
 //! | `Wakeup` | a waker is to be woken | `Wakeup::wake` |
 //! | `Notice` | a task was queued, and sleepers are to hear of it | the exchange of the flag, or `join` |
 //! | `Pick` | a sleeper is to be notified | the notification of the sleepers |
