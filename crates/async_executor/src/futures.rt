@@ -3,7 +3,7 @@
 //! A task has the place of its slot for as long as its cell has that slot, also while its future is
 //! out to be polled. The place bears the number of the task, so that a later task of the same slot
 //! is not taken for it.
-ghost use Rattle.std.specs.Prelude.{◌≡◌, ◌<◌, [], cond, Some, None, OnOk, IsTrue, is_some, option_copied, vec_len};
+ghost use Rattle.std.specs.Prelude.{◌≡◌, ◌↔◌, ◌<◌, [], cond, Some, None, IsTrue, is_some, option_copied, vec_len};
 ghost use Rattle.async_executor.specs.FutureTable.{kept_at, is_vacant, future_in, output_in, inserted, with_place, HasRoom};
 
 pub(crate) mod transactions;
@@ -15,7 +15,7 @@ use crate::waker::TaskWaker;
 use executor_core::task::{Future, OutOfMemory, TaskId, Wake};
 use std::alloc::Global;
 use std::cell::Cell;
-use std::mem::forget;
+use std::mem::{forget, replace};
 use std::rc::Rc;
 use std::sync::{Arc, MutexGuard, Wait};
 
@@ -57,13 +57,11 @@ impl<F: Drop, S: Drop, T: Drop> FutureTable<F, S, T> {
         }
     }
 
-    /// Makes sure of a place for the future of one task more.
-    pub(crate) fn reserve(&mut self) -> Result<(), OutOfMemory>
-        ensures same { self.new.places.items ≡ self.old.places.items }
-        ensures ok { OnOk result (HasRoom self.new) }
+    /// Whether there is a place for the future of one task more.
+    pub(crate) fn has_room(&self) -> bool
+        ensures { IsTrue result ↔ HasRoom self.now }
     {
-        self.places.try_reserve(1)?;
-        Ok(())
+        self.places.len() < self.places.capacity()
     }
 
     /// Makes places for the futures of this many tasks more.
@@ -141,7 +139,7 @@ impl<F: Drop, S: Drop, T: Drop> FutureTable<F, S, T> {
         if !self.has_future(id) {
             return None;
         }
-        match std::mem::replace(&mut self.places[id.slot()].kept, Kept::Nothing) {
+        match replace(&mut self.places[id.slot()].kept, Kept::Nothing) {
             Kept::Future(future, share) => Some((future, share)),
             _ => unreachable!(),
         }
@@ -157,7 +155,7 @@ impl<F: Drop, S: Drop, T: Drop> FutureTable<F, S, T> {
         if !self.has_output(id) {
             return None;
         }
-        match std::mem::replace(&mut self.places[id.slot()].kept, Kept::Nothing) {
+        match replace(&mut self.places[id.slot()].kept, Kept::Nothing) {
             Kept::Output(output) => Some(output),
             _ => unreachable!(),
         }
@@ -268,6 +266,26 @@ impl<T: Drop> FuturesGuard<'_, T> {
     }
 }
 
+impl<F: Drop, S: Drop, T: Drop> FuturesGuard<'_, FutureTable<F, S, T>> {
+    /// Makes a place for the future of one task more, if there is memory for it.
+    #[inline(always)]
+    pub(crate) fn make_room(&mut self, alloc: Global) {
+        match self {
+            FuturesGuard::Locked(futures) => grow(&mut **futures),
+            FuturesGuard::Lent(lent) => lent.make_room(alloc),
+        }
+    }
+}
+
+// Makes a place, if there is memory for it: who needs one asks again.
+#[cold]
+#[inline(never)]
+fn grow<F: Drop, S: Drop, T: Drop>(futures: &mut FutureTable<F, S, T>)
+    ensures { futures.new.places.items ≡ futures.old.places.items }
+{
+    let _refused = futures.reserve_places(1);
+}
+
 /// A table of futures that was taken out of its cell, and is put back when this is dropped. The cell has an
 /// empty one meanwhile, which nobody asks: no change makes another change of the same storage.
 pub struct Lent<'a, T: Drop> {
@@ -282,6 +300,26 @@ impl<'a, T: Drop> Lent<'a, T> {
         let futures = cell.replace(meanwhile);
         Lent { cell, futures }
     }
+}
+
+impl<F: Drop, S: Drop, T: Drop> Lent<'_, FutureTable<F, S, T>> {
+    // Makes a place, if there is memory for it, in the cell: if the table here were handed to a function, it
+    // would lie in memory, and not in registers, also where it has room.
+    #[inline(always)]
+    fn make_room(&mut self, alloc: Global) {
+        let futures = replace(&mut self.futures, FutureTable::new(alloc));
+        forget(self.cell.replace(futures));
+        grow_in(self.cell, alloc);
+        let grown = self.cell.replace(FutureTable::new(alloc));
+        forget(replace(&mut self.futures, grown));
+    }
+}
+
+#[cold]
+#[inline(never)]
+fn grow_in<F: Drop, S: Drop, T: Drop>(cell: &Cell<FutureTable<F, S, T>>, alloc: Global) {
+    let mut lent = Lent::of(cell, FutureTable::new(alloc));
+    grow(&mut lent.futures);
 }
 
 impl<T: Drop> Drop for Lent<'_, T> {

@@ -52,8 +52,11 @@ pub type AnyTask = (Taken<()>, Notice);
 /// the futures. A macro, since by a function, even an inline one, each spawn takes some instructions more.
 macro_rules! insert {
     ($guard:expr, $state:expr, $future:expr) => {{
+        if !$guard.get().has_room() {
+            $guard.make_room($state.alloc());
+        }
         let futures = $guard.get();
-        if futures.reserve().is_err() {
+        if !futures.has_room() {
             Err(SpawnError::OutOfMemory($future))
         } else {
             let spawned = cells!(&$state).spawn(());
