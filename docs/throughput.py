@@ -107,12 +107,19 @@ def ahead(found):
     return "\n".join(textwrap.wrap(" ".join(sentences), 110))
 
 
+def pace(rows):
+    """How long the machine took for what a row calls a nanosecond of work: by the longest polls, on one thread."""
+    longest = rows[-1]
+    return min(median(longest, executor, 1) for executor in range(len(DRAWN))) / number(longest[0])
+
+
 def worth(rows, executor):
     """For each number of threads the work that an executor does in a time, by the amount of a poll's work."""
     by_threads = {threads: [] for threads in THREADS}
     for row in rows:
+        work = pace(rows) * number(row[0])
         for threads in THREADS:
-            by_threads[threads].append(number(row[0]) / median(row, executor, threads))
+            by_threads[threads].append(work / median(row, executor, threads))
     return by_threads
 
 
