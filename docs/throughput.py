@@ -116,10 +116,10 @@ def pace(rows):
 def worth(rows, executor):
     """For each number of threads the work that an executor does in a time, by the amount of a poll's work."""
     by_threads = {threads: [] for threads in THREADS}
+    nanosecond = pace(rows)
     for row in rows:
-        work = pace(rows) * number(row[0])
         for threads in THREADS:
-            by_threads[threads].append(work / median(row, executor, threads))
+            by_threads[threads].append(nanosecond * number(row[0]) / median(row, executor, threads))
     return by_threads
 
 
